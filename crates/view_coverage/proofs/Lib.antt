@@ -1,2 +1,3 @@
 mod CoverLemmas
 mod TableLemmas
+mod PlaceLemmas

@@ -1,7 +1,8 @@
 //! The coverage of all scenarios: which rules decide a session request, and which refusals and errors are met, in total and by
 //! file.
-ghost use Rattle.std.specs.Prelude.{◌≡◌, ◌&&◌, ◌==◌, count_by};
-ghost use Rattle.view_coverage.specs.Reported.{is_met_in};
+ghost use Rattle.std.specs.Prelude.{◌≡◌, ◌&&◌, ◌==◌, count_by, length, string_bytes, IfOk, IfSome, OnOk, Some};
+ghost use Rattle.std.specs.Str.{bytes_eq};
+ghost use Rattle.view_coverage.specs.Reported.{is_met_in, list_at, list_of_scenario};
 
 use crate::event::{CoverageEvent, RouteOwner, RulePlace};
 use crate::row::CoverageRow;
@@ -51,13 +52,17 @@ impl CoverageReport {
     }
 
     /// Adds the coverage of a scenario on the machine of a start list, each with its path. Fails if the host is out of memory.
+    #[tactic(auto, using(crate::proofs::PlaceLemmas::added_on))]
     pub fn add(
         &mut self,
         list: &StartList,
         path: &str,
         scenario: &str,
         coverage: Coverage,
-    ) -> Result<(), AllocError> {
+    ) -> Result<(), AllocError>
+        ensures { OnOk result
+            (list_of_scenario self.new (length self.old.sheets.items) ≡ Some path.now) }
+    {
         let place = self.place_of(list, path, coverage.rows.as_slice())?;
         self.sheets.push(CoverageSheet {
             path: String::from_str(self.alloc, scenario)?,
@@ -67,23 +72,26 @@ impl CoverageReport {
         Ok(())
     }
 
-    // The place of the start list of this path, which is added if it isn't there.
+    // Returns the place of the start list of this path, which is added if it isn't there.
+    #[tactic(auto, using(crate::proofs::PlaceLemmas::last_is))]
     fn place_of(
         &mut self,
         list: &StartList,
         path: &str,
         rows: &[CoverageRow],
-    ) -> Result<usize, AllocError> {
-        for (place, rules) in self.lists.as_slice().iter().enumerate() {
-            if rules.path.as_str() == path {
-                return Ok(place);
-            }
+    ) -> Result<usize, AllocError>
+        ensures sheets { self.new.sheets ≡ self.old.sheets }
+        ensures place { IfOk result (λ place. list_at self.new.lists.items place ≡ Some path.now) }
+    {
+        if let Some(place) = place_in(self.lists.as_slice(), path) {
+            return Ok(place);
         }
         let place = self.lists.len();
-        self.lists.push(ListRules {
+        let rules = ListRules {
             path: String::from_str(self.alloc, path)?,
             rules: rules_named(self.alloc, list, rows)?,
-        })?;
+        };
+        self.lists.push(rules)?;
         Ok(place)
     }
 
@@ -124,6 +132,25 @@ impl CoverageSheet {
             None => false,
         }
     }
+}
+
+// Returns the place of the start list of a path, if it is there.
+fn place_in(lists: &[ListRules], path: &str) -> Option<usize>
+    ensures { IfSome result (λ place. list_at lists.now place ≡ Some path.now) }
+{
+    for place in 0..lists.len() {
+        if is_of(&lists[place], path) {
+            return Some(place);
+        }
+    }
+    None
+}
+
+// Returns whether rules are those of the start list of a path.
+fn is_of(rules: &ListRules, path: &str) -> bool
+    ensures { result ≡ bytes_eq (string_bytes rules.now.path) path.now }
+{
+    rules.path.as_str() == path
 }
 
 // The number of these scenarios that meet the row at a place.
