@@ -6,5 +6,6 @@ pub mod PlayLemmas
 pub mod PlayedLemmas
 pub mod SaidLemmas
 pub mod ShownLemmas
+pub mod TallyLemmas
 pub mod TurnLemmas
 pub mod WriteLemmas

@@ -13,7 +13,7 @@ use Rattle.run_lines.proofs.GatheredLemmas.{Tells-none}
 use Rattle.run_lines.proofs.ToldLemmas.{said_none, world_running-append}
 use Rattle.run_scenario.specs.Faults.{takes_memory}
 use Rattle.run_scenario.specs.CallAnswers.{ReportsCalls, IsAnsweredCall, IsAnsweredAs, answer_of}
-use Rattle.run_scenario.specs.Judging.{AnswersIn, Awaited, IsJudged, awaited_after, is_complained}
+use Rattle.run_scenario.specs.Judging.{Awaited, awaited_after, has_error, is_complained, text_in}
 use Rattle.run_scenario.specs.ScenarioRuns.{RunsLine, Point, point}
 use Rattle.line_steps.specs.ResolvedLines.{ResolvedLine}
 use Rattle.run_scenario.specs.LineSteps.{Arrives, calls_in, binds_names, stand_after}
@@ -23,7 +23,7 @@ use Rattle.line_steps.specs.RunPosition.{RunPosition, arrived, crosses, passed}
 use Rattle.run_scenario.specs.declared.call_observer.ObservedCall.{ObservedCall}
 use Rattle.run_scenario.proofs.FailLemmas.{fails_before, fails_beside}
 use Rattle.run_scenario.proofs.PlayedLemmas.{told_of_one}
-use Rattle.run_scenario.proofs.TurnLemmas.{stands_answered}
+use Rattle.run_scenario.proofs.TurnLemmas.{AnswersIn, answered_text, stands_answered}
 
 -- what is so is so of what succeeded
 pub on_ok : {T E : Type 0} {P : Type 0} (r : Result T E) → P → OnOk r P
@@ -138,7 +138,7 @@ module _ {only : Option (List ℕ)} {tells : World → List (List ℕ) → ℕ �
     {w w' : Option (List ℕ)} {g g' : List ℕ} (told_failed own_failed : Bool) (resolved : ResolvedLine) (o : Option ObservedCall) (heard : IsAnsweredCall only old stand.number (calls_in resolved) o) where
   -- a line was told and judged
   pub turn_judged : {T : Type 0} {done : T} (r : Result Bool LineRunFault) → ReportsCalls only tells seen now_seen stand.number (calls_in resolved) old new (Ok done) w g w' g' → told_failed ≡ false →
-      IfOk r (λ complained. complained ≡ is_complained resolved (answer_of o) awaited) → OnOk r (now_awaited ≡ awaited_after stand.number resolved awaited) →
+      IfOk r (λ complained. complained ≡ is_complained resolved (text_in (answer_of o)) awaited) → OnOk r (now_awaited ≡ awaited_after stand.number resolved awaited) →
       OnOk r (Arrives stand resolved (answer_of o) next) → Fails r own_failed (takes_memory false resolved || crosses stand) →
       RunsLine only tells calls seen now_seen resolved (told_failed || own_failed) r (point old stand awaited w g) (point new next now_awaited w' g')
   turn_judged r hears works judged expects stands fails = record {
@@ -153,8 +153,8 @@ module _ {only : Option (List ℕ)} {tells : World → List (List ℕ) → ℕ �
       stands_on (Ok complained) stands = stands.is ∙ ap arrived (stands_answered only old (passed stand) resolved _ (answers_in only old stand.number (calls_in resolved) o heard))
       stands_on (Err fault) stands = tt
 
-      judged_on : (r : Result Bool LineRunFault) → IfOk r (λ complained. complained ≡ is_complained resolved (answer_of o) awaited) → IfOk r (IsJudged only old resolved awaited)
-      judged_on (Ok complained) judged = (_, answers_in only old stand.number (calls_in resolved) o heard, judged)
+      judged_on : (r : Result Bool LineRunFault) → IfOk r (λ complained. complained ≡ is_complained resolved (text_in (answer_of o)) awaited) → IfOk r (λ complained. complained ≡ has_error only old resolved awaited)
+      judged_on (Ok complained) judged = judged ∙ ap (λ answer. is_complained resolved answer awaited) (answered_text only old (calls_in resolved) (answer_of o) (answers_in only old stand.number (calls_in resolved) o heard))
       judged_on (Err fault) judged = tt
 
   -- or it couldn't be told

@@ -1,5 +1,5 @@
 -- A play from line to line: what was played, and what it leaves at its end.
-use Rattle.std.proofs.Common.{◌≡◌, ◌||◌, ℕ, ◌≤◌, List, [], ◌∷◌, ◌++◌, length, Option, Some, None, IfNone, Result, Ok, Err, OnOk, Bool, true, false, ⊎_elim, refl, sym, ◌∙◌, ap, subst, append-nil}
+use Rattle.std.proofs.Common.{◌≡◌, ◌||◌, ℕ, ◌≤◌, List, [], ◌∷◌, ◌++◌, length, Option, Some, None, IfNone, Result, Ok, Err, IfOk, OnOk, is_some, Bool, true, false, ⊎_elim, refl, sym, ◌∙◌, ap, subst, append-nil}
 use Rattle.std.specs.Result.{result_err}
 use Rattle.own_model.specs.LinesOfName.{said_by}
 use Rattle.own_model.specs.StartList.{Entry}
@@ -14,10 +14,12 @@ use Rattle.run_lines.proofs.FaultLemmas.{none_of, or_none}
 use Rattle.run_lines.proofs.ToldLemmas.{left_none, said_none}
 use Rattle.run_scenario.specs.Faults.{takes_memory}
 use Rattle.run_scenario.specs.RunCalls.{calls_answered, calls_of_steps, text_of_calls, text_of_steps}
-use Rattle.run_scenario.specs.ScenarioRuns.{ClosesAs, LeadsSteps, RunsAll, RunsLine, Point, Remains, StopsSteps, TakesMemoryFor, counted, most_lines}
-use Rattle.run_scenario.specs.LineSteps.{call_of, left_behind, next_stand, resolved_at, stand_behind, turn_of, turns_of}
+use Rattle.run_scenario.specs.ScenarioRuns.{ClosesAs, CountsErrors, CountsOne, LeadsSteps, RunsAll, RunsLine, Point, Remains, StopsSteps, TakesMemoryFor, Tallies, Tally, counted, most_lines, tally}
+use Rattle.run_scenario.specs.Judging.{Awaited, awaited_after, has_error}
+use Rattle.run_scenario.specs.LineSteps.{LineStep, call_of, left_behind, next_stand, resolved_at, stand_behind, turn_of, turns_of}
 use Rattle.run_scenario.specs.Observation.{Watches}
 use Rattle.line_steps.specs.RunPosition.{RunPosition, crosses}
+use Rattle.run_scenario.proofs.TallyLemmas.{errors_counted, tallies_more, tallies_none}
 use Rattle.run_scenario.proofs.PlayedLemmas.{answered_more, answered-one, calls_of_steps-one, left_more, stand_more, told_more, text_of_steps-one, turns_more}
 
 -- ---- one line behind others
@@ -35,6 +37,15 @@ pub ready_next : {A : Type 0} (judged : Result Bool LineRunFault) → A → OnOk
 ready_next (Ok complained) a = a
 ready_next (Err fault) a = tt
 
+-- how a line's error is found and counted, unless there is a fault
+record StepsTallyAt (only : Option (List ℕ)) (mid : World) (stand : RunPosition) (line : List ℕ) (now next : Tally) (error : Bool) : Type 0 where
+  judged : error ≡ has_error only mid (resolved_at only stand line) now.awaited
+  expects : next.awaited ≡ awaited_after stand.number (resolved_at only stand line) now.awaited
+  counts : CountsOne error now.errors next.errors
+
+abbrev StepsTally : Option (List ℕ) → World → RunPosition → List ℕ → Tally → Tally → Result Bool LineRunFault → Type 0
+StepsTally only mid stand line now next judged = IfOk judged (StepsTallyAt only mid stand line now next)
+
 module _ (only : Option (List ℕ)) (start mid : World) (first stand : RunPosition) (xs : List (List ℕ)) (line : List ℕ)
     (left : mid ≡ after_all only start (calls_of_steps (turns_of only start first xs))) (stands : stand ≡ stand_behind only start first xs) where
   abbrev earlier : List (List ℕ)
@@ -47,21 +58,31 @@ module _ (only : Option (List ℕ)) (start mid : World) (first stand : RunPositi
   seen_next seen sees =
       subst seen (ap (λ calls. earlier ++ calls) (sym (answered-one only (turn_of only stand line))) ∙ answered_more only start mid first stand xs (line ∷ []) left stands []) sees
 
-  goes_on : {A : Type 0} (calls : Bool) (seen : List (List ℕ) → Type 0) (last : World) (next : RunPosition) (judged : Result Bool LineRunFault) (write_failed : Bool) → A → last ≡ left_behind only mid stand line →
-      OnOk judged (seen (earlier ++ said_by only (call_of only stand line))) → OnOk judged (next ≡ next_stand only mid stand line) → Fails judged write_failed (takes_memory calls (resolved_at only stand line) || crosses stand) →
-      Continues (λ lines. A × LeadsSteps only start last first next seen lines) (λ fault lines. A × StopsSteps calls only start last first fault lines) (xs ++ line ∷ []) (counted judged)
-  goes_on calls seen last next (Ok complained) write_failed a world sees after fails = (
+  -- and its error is counted after theirs
+  tallied : (begun now next : Tally) (judged : Result Bool LineRunFault) → Tallies only start begun now (turns_of only start first xs) → StepsTally only mid stand line now next judged →
+      OnOk judged (Tallies only start begun next (turns_of only start first (xs ++ line ∷ [])))
+  tallied begun now next (Ok error) led steps =
+      subst (Tallies only start begun next) (turns_more only start mid first stand xs (line ∷ []) left stands)
+      (tallies_more only start mid begun now next (turns_of only start first xs) (turn_of only stand line) error left led steps.judged steps.expects steps.counts)
+  tallied begun now next (Err fault) led steps = tt
+
+  goes_on : {A : Type 0} (calls : Bool) (seen : List (List ℕ) → Type 0) (last : World) (next : RunPosition) (begun then : Tally) (judged : Result Bool LineRunFault) (write_failed : Bool) → A → last ≡ left_behind only mid stand line →
+      OnOk judged (seen (earlier ++ said_by only (call_of only stand line))) → OnOk judged (next ≡ next_stand only mid stand line) →
+      OnOk judged (Tallies only start begun then (turns_of only start first (xs ++ line ∷ []))) → Fails judged write_failed (takes_memory calls (resolved_at only stand line) || crosses stand) →
+      Continues (λ lines. A × LeadsSteps only start last first next begun then seen lines) (λ fault lines. A × StopsSteps calls only start last first fault lines) (xs ++ line ∷ []) (counted judged)
+  goes_on calls seen last next begun then (Ok complained) write_failed a world sees after tallies fails = (
     a,
     record {
       world_is = world_next last world;
       stands = after ∙ stand_more only start mid first stand xs (line ∷ []) left stands;
+      tallies = tallies;
       sees = seen_next seen sees;
     },
   )
-  goes_on calls seen last next (Err ReadFault) write_failed a world sees after fails = absurd fails
-  goes_on calls seen last next (Err WriteFault) write_failed a world sees after fails = (a, record { world_is = world_next last world; takes = tt })
-  goes_on calls seen last next (Err TooManyLines) write_failed a world sees after fails = absurd fails
-  goes_on calls seen last next (Err NoMemory) write_failed a world sees after fails = (
+  goes_on calls seen last next begun then (Err ReadFault) write_failed a world sees after tallies fails = absurd fails
+  goes_on calls seen last next begun then (Err WriteFault) write_failed a world sees after tallies fails = (a, record { world_is = world_next last world; takes = tt })
+  goes_on calls seen last next begun then (Err TooManyLines) write_failed a world sees after tallies fails = absurd fails
+  goes_on calls seen last next begun then (Err NoMemory) write_failed a world sees after tallies fails = (
     a,
     record {
       world_is = world_next last world;
@@ -70,15 +91,16 @@ module _ (only : Option (List ℕ)) (start mid : World) (first stand : RunPositi
   )
 
   -- what is told of it is told behind what was told of those, and it leads on
-  pub bench_plays : {A : Type 0} (tells : List (List ℕ) → ℕ → List ℕ → List ℕ) (calls : Bool) (seen : List (List ℕ) → Type 0) (last : World) (next : RunPosition) (judged : Result Bool LineRunFault) (write_failed : Bool) (w w' : Option (List ℕ)) (g g' : List ℕ) → A →
+  pub bench_plays : {A : Type 0} (tells : List (List ℕ) → ℕ → List ℕ → List ℕ) (calls : Bool) (seen : List (List ℕ) → Type 0) (last : World) (next : RunPosition) (begun then : Tally) (judged : Result Bool LineRunFault) (write_failed : Bool) (w w' : Option (List ℕ)) (g g' : List ℕ) → A →
       last ≡ left_behind only mid stand line → OutputsUnless judged w g w' g' (text_of_calls tells earlier stand.number (said_by only (call_of only stand line))) →
-      OnOk judged (seen (earlier ++ said_by only (call_of only stand line))) → OnOk judged (next ≡ next_stand only mid stand line) → Fails judged write_failed (takes_memory calls (resolved_at only stand line) || crosses stand) →
-      HandlesLine (λ lines. text_of_steps tells only [] (turns_of only start first lines)) (λ lines. A × LeadsSteps only start last first next seen lines) (λ fault lines. A × StopsSteps calls only start last first fault lines) xs line (counted judged) w g w' g'
-  bench_plays tells calls seen last next judged write_failed w w' g g' a world told sees after fails = record {
+      OnOk judged (seen (earlier ++ said_by only (call_of only stand line))) → OnOk judged (next ≡ next_stand only mid stand line) →
+      OnOk judged (Tallies only start begun then (turns_of only start first (xs ++ line ∷ []))) → Fails judged write_failed (takes_memory calls (resolved_at only stand line) || crosses stand) →
+      HandlesLine (λ lines. text_of_steps tells only [] (turns_of only start first lines)) (λ lines. A × LeadsSteps only start last first next begun then seen lines) (λ fault lines. A × StopsSteps calls only start last first fault lines) xs line (counted judged) w g w' g'
+  bench_plays tells calls seen last next begun then judged write_failed w w' g g' a world told sees after tallies fails = record {
     piece = text_of_steps tells only earlier (turn_of only stand line ∷ []);
     more = sym (told_more only tells start mid first stand [] xs (line ∷ []) left stands);
     tells = tells_counted _ judged (subst (OutputsUnless judged w g w' g') (text_of_steps-one only tells earlier (turn_of only stand line)) told);
-    goes_on = goes_on calls seen last next judged write_failed a world sees after fails;
+    goes_on = goes_on calls seen last next begun then judged write_failed a world sees after tallies fails;
   }
     where
       tells_counted : (text : List ℕ) (r : Result Bool LineRunFault) → OutputsUnless r w g w' g' text → OutputsUnless (counted r) w g w' g' text
@@ -102,14 +124,22 @@ listed_on entries_at only calls old leaves listed run_is = ap (λ (w : World). w
 
 -- the same for a player that is the one that began
 pub bench_line : {R A : Type 0} (only_of : R → Option (List ℕ)) (seen_old seen_new : R → World → List (List ℕ) → Type 0) {at run : R} {telling now_telling : World → List (List ℕ) → ℕ → List ℕ → List ℕ} (start : World) {first : RunPosition} (xs : List (List ℕ)) (line : List ℕ)
-    (calls : Bool) (judged : Result Bool LineRunFault) {failed : Bool} {old new : Point} → A → run ≡ at → now_telling ≡ telling → LeadsSteps (only_of at) start old.world first old.stand (seen_old at start) xs →
+    (calls : Bool) (judged : Result Bool LineRunFault) {failed : Bool} {old new : Point} {begun : Tally} (errors now_errors : ℕ) → IfOk judged (λ error. CountsOne error errors now_errors) →
+    A → run ≡ at → now_telling ≡ telling → LeadsSteps (only_of at) start old.world first old.stand begun (tally errors old.awaited) (seen_old at start) xs →
     RunsLine (only_of run) now_telling calls (seen_old run) (seen_new run) (resolved_at (only_of run) old.stand line) failed judged old new →
-    HandlesLine (λ lines. text_of_steps (telling start) (only_of at) [] (turns_of (only_of at) start first lines)) (λ lines. A × LeadsSteps (only_of at) start new.world first new.stand (seen_new at start) lines)
+    HandlesLine (λ lines. text_of_steps (telling start) (only_of at) [] (turns_of (only_of at) start first lines)) (λ lines. A × LeadsSteps (only_of at) start new.world first new.stand begun (tally now_errors new.awaited) (seen_new at start) lines)
     (λ fault lines. A × StopsSteps calls (only_of at) start new.world first fault lines) xs line (counted judged) old.written old.gathered new.written new.gathered
-bench_line only_of seen_old seen_new {at} {run} {telling} {now_telling} start {first} xs line calls judged {failed} {old} {new} kept run_is tells_is led plays =
-    bench_plays (only_of at) start old.world first old.stand xs line led.world_is led.stands (telling start) calls (seen_new at start) new.world new.stand judged failed old.written new.written old.gathered new.gathered kept
-    here.hears.world (here.hears.told start _ watches) (sees_on judged _ _ _ _ (here.hears.sees start _ watches)) here.stands here.failing
+bench_line only_of seen_old seen_new {at} {run} {telling} {now_telling} start {first} xs line calls judged {failed} {old} {new} {begun} errors now_errors counts kept run_is tells_is led plays =
+    bench_plays (only_of at) start old.world first old.stand xs line led.world_is led.stands (telling start) calls (seen_new at start) new.world new.stand begun (tally now_errors new.awaited) judged failed old.written new.written old.gathered new.gathered kept
+    here.hears.world (here.hears.told start _ watches) (sees_on judged _ _ _ _ (here.hears.sees start _ watches)) here.stands
+    (tallied (only_of at) start old.world first old.stand xs line led.world_is led.stands begun (tally errors old.awaited) (tally now_errors new.awaited) judged led.tallies (steps judged here.judged here.expects counts)) here.failing
   where
+    steps : (judged : Result Bool LineRunFault) → IfOk judged (λ error. error ≡ has_error (only_of at) old.world (resolved_at (only_of at) old.stand line) old.awaited) →
+        OnOk judged (new.awaited ≡ awaited_after old.stand.number (resolved_at (only_of at) old.stand line) old.awaited) → IfOk judged (λ error. CountsOne error errors now_errors) →
+        StepsTally (only_of at) old.world old.stand line (tally errors old.awaited) (tally now_errors new.awaited) judged
+    steps (Ok error) judged expects counts = record { judged = judged; expects = expects; counts = counts }
+    steps (Err fault) judged expects counts = tt
+
     here : RunsLine (only_of at) telling calls (seen_old at) (seen_new at) (resolved_at (only_of at) old.stand line) failed judged old new
     here =
         subst (λ t. RunsLine (only_of at) t calls (seen_old at) (seen_new at) (resolved_at (only_of at) old.stand line) failed judged old new) tells_is
@@ -119,26 +149,27 @@ bench_line only_of seen_old seen_new {at} {run} {telling} {now_telling} start {f
     watches = record { leads = led.world_is; sees = led.sees }
 
 -- at first no line is
-pub leads_none : (only : Option (List ℕ)) (world : World) (first : RunPosition) (seen : List (List ℕ) → Type 0) → seen [] → LeadsSteps only world world first first seen []
-leads_none only world first seen sees = record { world_is = sym (left_none only world); stands = refl; sees = subst seen (sym (said_none only)) sees }
+pub leads_none : (only : Option (List ℕ)) (world : World) (first : RunPosition) (begun : Tally) (seen : List (List ℕ) → Type 0) → seen [] → LeadsSteps only world world first first begun begun seen []
+leads_none only world first begun seen sees = record { world_is = sym (left_none only world); stands = refl; tallies = tallies_none only world begun; sees = subst seen (sym (said_none only)) sees }
 
 -- ---- the end
 
-module _ (A : Type 0) (calls : Bool) (only : Option (List ℕ)) (old new : World) (first next : RunPosition) (seen : List (List ℕ) → Type 0) where
+module _ (A : Type 0) (calls : Bool) (only : Option (List ℕ)) (old new : World) (first next : RunPosition) (begun then : Tally) (seen : List (List ℕ) → Type 0) where
   abbrev leads : List (List ℕ) → Type 0
-  leads lines = A × LeadsSteps only old new first next seen lines
+  leads lines = A × LeadsSteps only old new first next begun then seen lines
 
   abbrev stops : LineRunFault → List (List ℕ) → Type 0
   stops fault lines = A × StopsSteps calls only old new first fault lines
 
   -- what is known however it ends
   ends_at : (lines : List (List ℕ)) (fault : Option LineRunFault) → EndsAs leads stops fault lines →
-      A × (new ≡ after_all only old (calls_of_steps (turns_of only old first lines))) × TakesMemoryFor calls fault (turns_of only old first lines) × IfNone fault (seen (calls_answered only (turns_of only old first lines)))
-  ends_at lines None ended = (ended.0, ended.1.world_is, tt, ended.1.sees)
-  ends_at lines (Some ReadFault) ended = (ended.0, ended.1.world_is, tt, tt)
-  ends_at lines (Some WriteFault) ended = ⊎_elim (λ on. (on.0, on.1.world_is, tt, tt)) (λ stopped. (stopped.0, stopped.1.world_is, tt, tt)) ended
-  ends_at lines (Some TooManyLines) ended = (ended.0, ended.1.world_is, tt, tt)
-  ends_at lines (Some NoMemory) ended = (ended.0, ended.1.world_is, ended.1.takes, tt)
+      A × (new ≡ after_all only old (calls_of_steps (turns_of only old first lines))) × TakesMemoryFor calls fault (turns_of only old first lines) × IfNone fault (Tallies only old begun then (turns_of only old first lines))
+      × IfNone fault (seen (calls_answered only (turns_of only old first lines)))
+  ends_at lines None ended = (ended.0, ended.1.world_is, tt, ended.1.tallies, ended.1.sees)
+  ends_at lines (Some ReadFault) ended = (ended.0, ended.1.world_is, tt, tt, tt)
+  ends_at lines (Some WriteFault) ended = ⊎_elim (λ on. (on.0, on.1.world_is, tt, tt, tt)) (λ stopped. (stopped.0, stopped.1.world_is, tt, tt, tt)) ended
+  ends_at lines (Some TooManyLines) ended = (ended.0, ended.1.world_is, tt, tt, tt)
+  ends_at lines (Some NoMemory) ended = (ended.0, ended.1.world_is, ended.1.takes, tt, tt)
 
   module _ (tells : List (List ℕ) → ℕ → List ℕ → List ℕ) {fault : Option LineRunFault} {count : ℕ} {front : List ℕ} {input rest : Option (List ℕ)} {failed : Bool} {w w' : Option (List ℕ)}
       (plays : PlaysLines (λ lines. text_of_steps tells only [] (turns_of only old first lines)) leads stops fault count most_lines front input rest failed w w') where
@@ -149,7 +180,7 @@ module _ (A : Type 0) (calls : Bool) (only : Option (List ℕ)) (old new : World
     world_left = (ends_at plays.given fault plays.ends_as).1
 
     -- the turns of the lines were played
-    pub turns_played : RunsAll tells calls seen only first fault count old new front input rest failed w w'
+    pub turns_played : RunsAll tells calls seen (Tallies only old begun then) only first fault count old new front input rest failed w w'
     turns_played = record {
       given = plays.given;
       readable = plays.readable;
@@ -158,8 +189,9 @@ module _ (A : Type 0) (calls : Bool) (only : Option (List ℕ)) (old new : World
       ends = plays.ends;
       takes = (ends_at plays.given fault plays.ends_as).2;
       counted = plays.counted;
+      complained = (ends_at plays.given fault plays.ends_as).3;
       few = plays.few;
-      sees = (ends_at plays.given fault plays.ends_as).3;
+      sees = (ends_at plays.given fault plays.ends_as).4;
     }
 
 -- all lines were played, and then a write failed
@@ -181,11 +213,22 @@ complaints_work None k a writing = (none_of k a writing).1
 complaints_work (Some fault) k a writing = tt
 
 -- what is complained of then may not be told
-pub plays_closed : {tells : List (List ℕ) → ℕ → List ℕ → List ℕ} {calls : Bool} {seen : List (List ℕ) → Type 0} {only : Option (List ℕ)} {first : RunPosition} {count : ℕ} {old new : World} {front : List ℕ} {input rest : Option (List ℕ)} {failed : Bool} {w w' : Option (List ℕ)}
-    (fault ended : Option LineRunFault) (a b : Bool) → ClosesAs fault ended a b → RunsAll tells calls seen only first fault count old new front input rest failed w w' →
-    RunsAll tells calls seen only first ended count old new front input rest failed w w'
-plays_closed None None a b closes plays = plays
-plays_closed {input = input} {rest = rest} {failed = failed} None (Some fault) a b closes plays =
+pub plays_closed : {tells : List (List ℕ) → ℕ → List ℕ → List ℕ} {calls : Bool} {seen : List (List ℕ) → Type 0} {counts closed : List LineStep → Type 0} {only : Option (List ℕ)} {first : RunPosition} {count : ℕ} {old new : World} {front : List ℕ} {input rest : Option (List ℕ)} {failed : Bool} {w w' : Option (List ℕ)}
+    (fault ended : Option LineRunFault) (a b : Bool) → ClosesAs fault ended a b → IfNone ended ((turns : List LineStep) → counts turns → closed turns) →
+    RunsAll tells calls seen counts only first fault count old new front input rest failed w w' → RunsAll tells calls seen closed only first ended count old new front input rest failed w w'
+plays_closed None None a b closes more plays = record {
+  given = plays.given;
+  readable = plays.readable;
+  world = plays.world;
+  told = plays.told;
+  ends = plays.ends;
+  takes = tt;
+  counted = plays.counted;
+  complained = more _ plays.complained;
+  few = plays.few;
+  sees = plays.sees;
+}
+plays_closed {input = input} {rest = rest} {failed = failed} None (Some fault) a b closes more plays =
     rw closes.0 (record {
       given = plays.given;
       readable = plays.readable;
@@ -194,10 +237,29 @@ plays_closed {input = input} {rest = rest} {failed = failed} None (Some fault) a
       ends = cut_behind input rest plays.given failed plays.few plays.ends;
       takes = tt;
       counted = tt;
+      complained = tt;
       few = plays.few;
       sees = tt;
     })
-plays_closed (Some fault) ended a b closes plays = rw closes.0 plays
+plays_closed (Some fault) ended a b closes more plays =
+    rw closes.0 (record {
+      given = plays.given;
+      readable = plays.readable;
+      world = plays.world;
+      told = plays.told;
+      ends = plays.ends;
+      takes = plays.takes;
+      counted = tt;
+      complained = tt;
+      few = plays.few;
+      sees = tt;
+    })
+
+-- an expected log line that no call follows is counted then
+pub closed_counts : (only : Option (List ℕ)) (start : World) (begun : Tally) (errors now_errors : ℕ) (awaited : Awaited) (ended : Option LineRunFault) → IfNone ended (CountsOne (is_some awaited.first) errors now_errors) →
+    IfNone ended ((turns : List LineStep) → Tallies only start begun (tally errors awaited) turns → CountsErrors only start begun now_errors turns)
+closed_counts only start begun errors now_errors awaited None counts = λ turns led. errors_counted only start begun (tally errors awaited) turns now_errors led counts
+closed_counts only start begun errors now_errors awaited (Some fault) counts = tt
 
 -- whether a write failed
 pub closed_writing : (fault ended : Option LineRunFault) (k a b : Bool) → (k || a) ≡ is_write_fault fault → ClosesAs fault ended a b → (k || b) ≡ is_write_fault ended

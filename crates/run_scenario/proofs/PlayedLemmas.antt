@@ -1,5 +1,5 @@
 -- Turns, one after others: the calls that are answered, and what is told of them.
-use Rattle.std.proofs.Common.{◌≡◌, ℕ, ◌<◌, ◌≤◌, true, false, cond, List, [], ◌∷◌, ◌++◌, length, nat_le, Option, None, refl, sym, ◌∙◌, ap, append_assoc, append-nil}
+use Rattle.std.proofs.Common.{◌≡◌, ℕ, ◌<◌, ◌≤◌, true, false, cond, List, [], ◌∷◌, ◌++◌, length, nat_le, Option, None, arith, refl, sym, ◌∙◌, ap, append_assoc, append-nil}
 use Rattle.std.proofs.lemmas.Grind.{flat_map-append}
 use Rattle.own_model.specs.LinesOfName.{said_by}
 use Rattle.own_model.specs.Transcript.{longest_line}
@@ -32,6 +32,11 @@ resolved_skipped only stand line short skipped =
 pub resolved_long : (only : Option (List ℕ)) (stand : RunPosition) (line : List ℕ) → longest_line < length line → resolved_at only stand line ≡ TooLong
 resolved_long only stand line long =
     ap (λ b. cond b (cond (is_skipped only line) Skipped (resolved_by stand.known line (filled stand.known line))) TooLong) (is_long (length line) long)
+
+-- there is a turn for each line
+pub turns_length : (only : Option (List ℕ)) (world : World) (stand : RunPosition) (lines : List (List ℕ)) → length (turns_of only world stand lines) ≡ length lines
+turns_length only world stand [] = refl
+turns_length only world stand (line ∷ lines) = omega (arith, turns_length only (left_behind only world stand line) (next_stand only world stand line) lines)
 
 -- the calls of turns, and then of others
 pub calls_of_steps-append : (xs ys : List LineStep) → calls_of_steps (xs ++ ys) ≡ calls_of_steps xs ++ calls_of_steps ys

@@ -1,7 +1,7 @@
 -- What a line is when its turn comes, by how it was filled.
 use Rattle.std.proofs.Common.{◌≡◌, ℕ, ◌+◌, ◌-◌, ◌≤◌, ◌==◌, ◌||◌, Bool, true, false, cond, List, [], ◌∷◌, length, nat_le, slice_index, is_none, take, Option, Some, None, Result, Ok, Err, OnOk, refl, sym, ◌∙◌, ap, subst}
 use Rattle.own_model.specs.LinesOfName.{said_by}
-use Rattle.own_model.specs.Transcript.{longest_line}
+use Rattle.own_model.specs.Transcript.{heard, longest_line}
 use Rattle.own_model.specs.World.{World}
 use Rattle.line_friendly.specs.Friendly.{FriendlyLine, end_of, said_of, trimmed_line}
 use Rattle.line_friendly.specs.Friendly.FriendlyLine.{Nothing as NoContent, Log as LogContent, Call as CallContent}
@@ -22,7 +22,8 @@ use Rattle.line_steps.specs.ResolvedLines.{ResolvedLine, is_skipped, resolved_by
 use Rattle.line_steps.specs.ResolvedLines.ResolvedLine.{TooLong, Skipped, BadName, Follow, Misplaced, Nothing, Log, Call, BadLine}
 use Rattle.line_steps.specs.ResolvedViews.{resolved_view}
 use Rattle.run_scenario.specs.CallAnswers.{IsAnsweredCall, TakesStep}
-use Rattle.run_scenario.specs.Judging.{AnswersIn}
+use Rattle.run_lines.specs.Answer.{IsAnswer}
+use Rattle.run_scenario.specs.Judging.{AnswerText, answer_to, text_in}
 use Rattle.run_scenario.specs.LineSteps.{AreBare, Arrives, bare_content, bare_line, calls_in, learnt_by, learnt_from, left_behind, next_stand, plain_line, resolved_at, stand_after, stand_with, turns_from, turns_of}
 use Rattle.line_steps.specs.RunPosition.{RunPosition, arrived, arrived_at, crosses, is_due, number_after, passed}
 use Rattle.run_scenario.specs.declared.line_step.LineStep.{LineStep}
@@ -57,7 +58,22 @@ learnt_none : (known : NameTable) (f : FilledLine) (reply : List ℕ) → f.hole
 learnt_none known f reply none =
     ap (λ (holes : List BoundName). cond (meets reply f.expected) (learnt_of known reply f.expected holes) known) none ∙ same_known (meets reply f.expected) known
 
+-- the one of these calls that is answered has this answer in this world, or none is answered
+abbrev pub AnswersIn : Option (List ℕ) → World → List (List ℕ) → Option LineAnswer → Type 0
+AnswersIn only world calls (Some answer) =
+    (call : List ℕ) × (said_by only calls ≡ call ∷ []) × IsAnswer world (heard world.entries call) answer
+AnswersIn only world calls None = said_by only calls ≡ []
+
 module _ (only : Option (List ℕ)) (world : World) where
+  -- so its text is known
+  pub answered_text : (calls : List (List ℕ)) (answer : Option LineAnswer) → AnswersIn only world calls answer → text_in answer ≡ answer_to world (said_by only calls)
+  answered_text calls None none = sym (ap (answer_to world) none)
+  answered_text calls (Some answer) answers =
+      (λ i. Some (text (answers.2.reply i) (answers.2.lines i))) ∙ sym (ap (answer_to world) answers.1)
+    where
+      text : List ℕ → List ℕ → AnswerText
+      text reply lines = record { reply = reply; lines = lines }
+
   -- a call that is answered binds what its answer binds
   learns_answer : (known : NameTable) (f : FilledLine) (calls : List (List ℕ)) (answer : Option LineAnswer) → AnswersIn only world calls answer → learnt_by known f answer ≡ learnt_from world known f (said_by only calls)
   learns_answer known f calls None none = sym (ap (learnt_from world known f) none)

@@ -14,13 +14,16 @@ use Rattle.run_lines.proofs.GatheredLemmas.{Appends-more, Tells-gathered}
 use Rattle.run_lines.proofs.ToldLemmas.{left_none}
 use Rattle.run_lines.proofs.PlayLemmas.{none_readable}
 use Rattle.run_scenario.proofs.PlayLemmas.{cut_behind}
+use Rattle.run_scenario.proofs.PlayedLemmas.{turns_length}
+use Rattle.run_scenario.proofs.TallyLemmas.{errors_exact}
 use Rattle.run_scenario.specs.Faults.{fault_before, unplayed}
 use Rattle.run_lines.specs.Faults.{is_write_fault}
+use Rattle.run_scenario.specs.Judging.{Awaited, errors_of, nothing_awaited}
 use Rattle.run_scenario.specs.RunCalls.{text_of_calls, text_of_steps}
-use Rattle.run_scenario.specs.ScenarioRuns.{RunsAll, TakesMemoryFor, most_lines}
+use Rattle.run_scenario.specs.ScenarioRuns.{CountsErrors, RunsAll, TakesMemoryFor, most_lines, tally}
 use Rattle.run_lines.specs.LineRuns.{EndsFor, WritesOutput}
 use Rattle.run_scenario.specs.LineSteps.{LineStep, calls_in, turns_of}
-use Rattle.run_scenario.specs.Writes.{AreAll, Closes, IsRunFrom, IsWrittenBy, WritesAfter, WritesBoth, turns_on}
+use Rattle.run_scenario.specs.Writes.{AreAll, Closes, IsRunFrom, IsWrittenBy, RunStart, WritesAfter, WritesBoth, start_at, start_on}
 use Rattle.run_scenario.specs.declared.scenario_end.ScenarioEnd.{ScenarioEnd}
 use Rattle.run_lines.specs.declared.line_run_fault.LineRunFault.{LineRunFault}
 use Rattle.run_lines.specs.declared.line_run_fault.LineRunFault.TheVariants.{ReadFault, WriteFault, TooManyLines, NoMemory}
@@ -55,10 +58,10 @@ module _ {w w' : Option (List ℕ)} {gathered front : List ℕ} (w'' : Option (L
   told_behind (Some NoMemory) then = some_behind then
 
 -- so a play behind a front is one that tells it
-pub plays_behind : {tells : List (List ℕ) → ℕ → List ℕ → List ℕ} {calls : Bool} {seen : List (List ℕ) → Type 0} {only : Option (List ℕ)} {first : RunPosition} {fault : Option LineRunFault} {count : ℕ} {old new : World}
+pub plays_behind : {tells : List (List ℕ) → ℕ → List ℕ → List ℕ} {calls : Bool} {seen : List (List ℕ) → Type 0} {counts : List LineStep → Type 0} {only : Option (List ℕ)} {first : RunPosition} {fault : Option LineRunFault} {count : ℕ} {old new : World}
     {gathered front : List ℕ} {input rest : Option (List ℕ)} {failed : Bool} {w w' w'' : Option (List ℕ)} →
-    Tells w [] w' gathered front → RunsAll tells calls seen only first fault count old new gathered input rest failed w' w'' →
-    RunsAll tells calls seen only first fault count old new front input rest failed w w''
+    Tells w [] w' gathered front → RunsAll tells calls seen counts only first fault count old new gathered input rest failed w' w'' →
+    RunsAll tells calls seen counts only first fault count old new front input rest failed w w''
 plays_behind {fault = fault} {w'' = w''} begun plays = record {
   given = plays.given;
   readable = plays.readable;
@@ -67,6 +70,7 @@ plays_behind {fault = fault} {w'' = w''} begun plays = record {
   ends = plays.ends;
   takes = plays.takes;
   counted = plays.counted;
+  complained = plays.complained;
   few = plays.few;
   sees = plays.sees;
 }
@@ -77,9 +81,9 @@ unplayed_all None failed = tt
 unplayed_all (Some text) failed = (lines_of text, refl, (omega arith, record { read = []; left = text; is_left = refl; parts = refl; whole = inl (omega arith) }))
 
 -- a front that can't be told is a fault before any line
-pub front_cut : {tells : List (List ℕ) → ℕ → List ℕ → List ℕ} {calls : Bool} {seen : List (List ℕ) → Type 0} {only : Option (List ℕ)} (first : RunPosition) (count : ℕ) (world : World) {gathered front : List ℕ}
+pub front_cut : {tells : List (List ℕ) → ℕ → List ℕ → List ℕ} {calls : Bool} {seen : List (List ℕ) → Type 0} {counts : List LineStep → Type 0} {only : Option (List ℕ)} (first : RunPosition) (count : ℕ) (world : World) {gathered front : List ℕ}
     (input : Option (List ℕ)) (failed : Bool) {w w' : Option (List ℕ)} → gathered ≡ [] → OutputsPart w gathered w' front →
-    RunsAll tells calls seen only first (Some WriteFault) count world world front input input failed w w'
+    RunsAll tells calls seen counts only first (Some WriteFault) count world world front input input failed w w'
 front_cut {only = only} first count world {front = front} input failed none part = record {
   given = [];
   readable = none_readable;
@@ -93,6 +97,7 @@ front_cut {only = only} first count world {front = front} input failed none part
   ends = unplayed_all input failed;
   takes = tt;
   counted = tt;
+  complained = tt;
   few = omega arith;
   sees = tt;
 }
@@ -101,7 +106,7 @@ front_cut {only = only} first count world {front = front} input failed none part
 
 -- where nothing is written behind a play
 pub closes_alone : (ending : ScenarioEnd) (w : Option (List ℕ)) → Closes ending ending w w []
-closes_alone ending w = record { lines = refl; writes = alone ending.fault w }
+closes_alone ending w = record { lines = refl; complaints = refl; writes = alone ending.fault w }
   where
     none : (o : Option (List ℕ)) → Appends o o []
     none None = tt
@@ -149,13 +154,22 @@ counted_still None None count count' w w' behind n is same after = same ∙ is
 counted_still None (Some fault) count count' w w' behind n is same after = tt
 counted_still (Some fault) f' count count' w w' behind n is same after = rw after.0 tt
 
+-- how many errors there were
+errors_are : (only : Option (List ℕ)) (start : World) (first : RunPosition) (awaited : Awaited) (lines : List (List ℕ)) (errors : ℕ) → length lines ≤ most_lines →
+    (f : Option LineRunFault) → IfNone f (CountsErrors only start (tally 0 awaited) errors (turns_of only start first lines)) →
+    IfNone f (errors ≡ errors_of only start awaited (turns_of only start first lines))
+errors_are only start first awaited lines errors few None counts =
+    errors_exact only start awaited (turns_of only start first lines) errors (omega (arith, few, turns_length only start first lines)) counts
+errors_are only start first awaited lines errors few (Some fault) counts = tt
+
 -- what a play wrote and what was written behind it
 pub played_from : {told behind : List LineStep → List ℕ} {calls : Bool} {tells : List (List ℕ) → ℕ → List ℕ → List ℕ} {seen : List (List ℕ) → Type 0} {only : Option (List ℕ)} {first : RunPosition} {start last : World}
+    {awaited : Awaited}
     {front : List ℕ} {input rest w w' w'' : Option (List ℕ)} {failed : Bool} (played ended : ScenarioEnd)
-    (plays : RunsAll tells calls seen only first played.fault played.lines start last front input rest failed w w') →
+    (plays : RunsAll tells calls seen (CountsErrors only start (tally 0 awaited) played.complaints) only first played.fault played.lines start last front input rest failed w w') →
     front ++ text_of_steps tells only [] (turns_of only start first plays.given) ≡ told (turns_of only start first plays.given) →
-    Closes played ended w' w'' (behind (turns_of only start first plays.given)) → IsRunFrom (turns_of only start first) told behind calls ended input rest failed w w''
-played_from {told = told} {behind = behind} {calls = calls} {only = only} {first = first} {start = start} {input = input} {rest = rest} {w = w} {w' = w'} {w'' = w''} {failed = failed} played ended plays same closes =
+    Closes played ended w' w'' (behind (turns_of only start first plays.given)) → IsRunFrom (start_at only start first awaited) told behind calls ended input rest failed w w''
+played_from {told = told} {behind = behind} {calls = calls} {only = only} {first = first} {start = start} {awaited = awaited} {input = input} {rest = rest} {w = w} {w' = w'} {w'' = w''} {failed = failed} played ended plays same closes =
     let turns = turns_of only start first plays.given in
     record {
       given = plays.given;
@@ -163,6 +177,9 @@ played_from {told = told} {behind = behind} {calls = calls} {only = only} {first
       ends = ends_both played.fault ended.fault input rest plays.given failed w' w'' (behind turns) plays.few plays.ends closes.writes;
       takes = takes_both calls played.fault ended.fault turns w' w'' (behind turns) plays.takes closes.writes;
       counted = counted_still played.fault ended.fault played.lines ended.lines w' w'' (behind turns) (length plays.given) plays.counted closes.lines closes.writes;
+      complained =
+          counted_still played.fault ended.fault played.complaints ended.complaints w' w'' (behind turns) (errors_of only start awaited turns)
+          (errors_are only start first awaited plays.given played.complaints plays.few played.fault plays.complained) closes.complaints closes.writes;
       writes =
           writes_both played.fault ended.fault input rest plays.given failed w w' w'' (told turns) (behind turns) plays.ends
           (subst (WritesOutput played.fault w w') same plays.told) closes.writes;
@@ -170,16 +187,17 @@ played_from {told = told} {behind = behind} {calls = calls} {only = only} {first
 
 -- on the machine of a list
 pub played_on : (listed : Listed) {calls : Bool} (only : Option (List ℕ)) (first : RunPosition) (told behind : World → List LineStep → List ℕ) (ending : ScenarioEnd) {start : World} {begun : RunPosition}
-    (input rest : Option (List ℕ)) (failed : Bool) (w w' : Option (List ℕ)) →
-    start ≡ world_of listed → begun ≡ first → IsRunFrom (turns_of only start begun) (told start) (behind start) calls ending input rest failed w w' →
-    IsRunFrom (turns_on only first listed) (told (world_of listed)) (behind (world_of listed)) calls ending input rest failed w w'
-played_on listed {calls = calls} only first told behind ending {start = start} input rest failed w w' starts begins played =
-    subst (λ world. IsRunFrom (turns_of only world first) (told world) (behind world) calls ending input rest failed w w') starts
-    (subst (λ stand. IsRunFrom (turns_of only start stand) (told start) (behind start) calls ending input rest failed w w') begins played)
+    {awaited : Awaited} (input rest : Option (List ℕ)) (failed : Bool) (w w' : Option (List ℕ)) →
+    start ≡ world_of listed → begun ≡ first → awaited ≡ nothing_awaited → IsRunFrom (start_at only start begun awaited) (told start) (behind start) calls ending input rest failed w w' →
+    IsRunFrom (start_on only first listed) (told (world_of listed)) (behind (world_of listed)) calls ending input rest failed w w'
+played_on listed {calls = calls} only first told behind ending {start = start} {begun = begun} {awaited = awaited} input rest failed w w' starts begins none played =
+    subst (λ world. IsRunFrom (start_at only world first nothing_awaited) (told world) (behind world) calls ending input rest failed w w') starts
+    (subst (λ stand. IsRunFrom (start_at only start stand nothing_awaited) (told start) (behind start) calls ending input rest failed w w') begins
+    (subst (λ expected. IsRunFrom (start_at only start begun expected) (told start) (behind start) calls ending input rest failed w w') none played))
 
 -- ---- within the bounds, and with no failed device, only want of room is a cause to stop
-pub caused : {turns : List (List ℕ) → List LineStep} {told behind : List LineStep → List ℕ} {calls : Bool} {ending : ScenarioEnd} {input rest : Option (List ℕ)} {failed : Bool} {w w' : Option (List ℕ)} (write_failed : Bool) →
-    IsRunFrom turns told behind calls ending input rest failed w w' → write_failed ≡ is_write_fault ending.fault →
+pub caused : {start : RunStart} {told behind : List LineStep → List ℕ} {calls : Bool} {ending : ScenarioEnd} {input rest : Option (List ℕ)} {failed : Bool} {w w' : Option (List ℕ)} (write_failed : Bool) →
+    IsRunFrom start told behind calls ending input rest failed w w' → write_failed ≡ is_write_fault ending.fault →
     IfSome ending.fault (λ fault. fault ≢ NoMemory → IfSome input (λ text. HasCause text most_lines failed write_failed))
 caused {ending = ending} {input = input} {rest = rest} {failed = failed} write_failed played fails = of ending.fault input played.ends fails
   where
@@ -189,8 +207,8 @@ caused {ending = ending} {input = input} {rest = rest} {failed = failed} write_f
     of (Some fault) (Some text) ends is = λ other. within_bounds fault most_lines played.given ends.0 text rest failed write_failed ends.1 ends.2 is other
 
 -- or a device had failed before
-pub ends_for_some_cause : {X : Type 0} {turns : List (List ℕ) → List LineStep} {told : List LineStep → List ℕ} {behind : X → List LineStep → List ℕ} {calls : Bool} {ending : ScenarioEnd} {input rest : Option (List ℕ)} {failed : Bool} {w w' : Option (List ℕ)} (read_before write_before write_failed : Bool) →
-    (fault_before read_before write_before ≡ None → (x : X) × IsRunFrom turns told (behind x) calls ending input rest failed w w') →
+pub ends_for_some_cause : {X : Type 0} {start : RunStart} {told : List LineStep → List ℕ} {behind : X → List LineStep → List ℕ} {calls : Bool} {ending : ScenarioEnd} {input rest : Option (List ℕ)} {failed : Bool} {w w' : Option (List ℕ)} (read_before write_before write_failed : Bool) →
+    (fault_before read_before write_before ≡ None → (x : X) × IsRunFrom start told (behind x) calls ending input rest failed w w') →
     IfSome (fault_before read_before write_before) (λ fault. (ending ≡ unplayed fault) × (failed ≡ read_before)) → write_failed ≡ is_write_fault ending.fault →
     IfSome ending.fault (λ fault. fault ≢ NoMemory → IfSome input (λ text. HasCause text most_lines failed write_failed))
 ends_for_some_cause false false write_failed played before fails = caused write_failed (played refl).1 fails
@@ -200,8 +218,8 @@ ends_for_some_cause {input = input} {failed = failed} read_before true write_fai
     rw before.0 (λ other. cause_unwritten input most_lines failed write_failed is)
 
 -- where what stands behind it is known
-pub ends_for_cause : {turns : List (List ℕ) → List LineStep} {told behind : List LineStep → List ℕ} {calls : Bool} {ending : ScenarioEnd} {input rest : Option (List ℕ)} {failed : Bool} {w w' : Option (List ℕ)} (read_before write_before write_failed : Bool) →
-    (fault_before read_before write_before ≡ None → IsRunFrom turns told behind calls ending input rest failed w w') →
+pub ends_for_cause : {start : RunStart} {told behind : List LineStep → List ℕ} {calls : Bool} {ending : ScenarioEnd} {input rest : Option (List ℕ)} {failed : Bool} {w w' : Option (List ℕ)} (read_before write_before write_failed : Bool) →
+    (fault_before read_before write_before ≡ None → IsRunFrom start told behind calls ending input rest failed w w') →
     IfSome (fault_before read_before write_before) (λ fault. (ending ≡ unplayed fault) × (failed ≡ read_before)) → write_failed ≡ is_write_fault ending.fault →
     IfSome ending.fault (λ fault. fault ≢ NoMemory → IfSome input (λ text. HasCause text most_lines failed write_failed))
 ends_for_cause {behind = behind} read_before write_before write_failed played =
@@ -223,7 +241,7 @@ written_err (Err fault) w w' text is part = (is, part)
 
 -- what is written behind a play that stopped is of no matter
 pub closes_as : (played ended : ScenarioEnd) (w w' : Option (List ℕ)) (a b : List ℕ) → IfNone played.fault (a ≡ b) → Closes played ended w w' a → Closes played ended w w' b
-closes_as played ended w w' a b same closes = record { lines = closes.lines; writes = writes played.fault ended.fault same closes.writes }
+closes_as played ended w w' a b same closes = record { lines = closes.lines; complaints = closes.complaints; writes = writes played.fault ended.fault same closes.writes }
   where
     writes : (f f' : Option LineRunFault) → IfNone f (a ≡ b) → WritesAfter f f' w w' a → WritesAfter f f' w w' b
     writes None f' is after = subst (WritesAfter None f' w w') is after

@@ -1,19 +1,22 @@
 -- The expectation of an answer, and whether the answer differs.
-use Rattle.std.specs.Prelude.{◌≡◌, ℕ, ◌&&◌, ◌||◌, Bool, true, false, not, is_some, List, [], ◌∷◌, ◌++◌, Option, Some, None}
+use Rattle.std.specs.Prelude.{ℕ, ◌+◌, ◌&&◌, ◌||◌, Bool, true, false, not, is_some, List, [], ◌∷◌, ◌++◌, Option, Some, None}
+use Rattle.std.specs.Int.{from_bool}
+use Rattle.std.specs.List.{flat_map}
 use Rattle.std.specs.Str.{bytes_eq}
+use Rattle.trade_base.specs.Refusal.{refusal_name}
 use Rattle.trade_base.specs.declared.refusal.Refusal.TheVariants.{UnknownComponent}
 use Rattle.own_model.specs.LinesOfName.{said_by}
+use Rattle.own_model.specs.Reply.{log_text}
 use Rattle.own_model.specs.Transcript.{heard}
 use Rattle.own_model.specs.World.{World}
 use Rattle.line_friendly.specs.Expected.{meets}
 use Rattle.line_friendly.specs.Friendly.{is_passed}
-use Rattle.run_lines.specs.Answer.{IsAnswer}
-use Rattle.core_calls.specs.declared.outcome.Outcome.{Outcome}
-use Rattle.core_calls.specs.declared.outcome.Outcome.TheVariants.{Refused}
+use Rattle.run_lines.specs.Answer.{finished_lines}
+use Rattle.run_lines.specs.Answered.{after_all}
 use Rattle.run_lines.specs.declared.line_answer.LineAnswer.{LineAnswer}
 use Rattle.line_steps.specs.ResolvedLines.{ResolvedLine}
 use Rattle.line_steps.specs.ResolvedLines.ResolvedLine.{TooLong, Skipped, BadName, Misplaced, Log, Call, BadLine}
-use Rattle.run_scenario.specs.LineSteps.{calls_in}
+use Rattle.run_scenario.specs.LineSteps.{LineStep, calls_in, reply_in}
 
 -- the log lines that the next call is expected to finish, each as it is printed, and the number of the scenario's line with the
 -- first of them
@@ -37,22 +40,30 @@ awaited_more awaited number text = record {
   first = Some (first_of awaited.first number);
 }
 
--- no component has the name of a call
-abbrev pub is_unknown : Outcome → Bool
-is_unknown (Refused UnknownComponent) = true
-is_unknown outcome = false
+-- the reply to a call, and the log lines that the call finishes, each as it is printed
+pub record AnswerText : Type 0 where
+  pub reply : List ℕ
+  pub lines : List ℕ
+
+abbrev pub text_in : Option LineAnswer → Option AnswerText
+text_in None = None
+text_in (Some answer) = Some (record { reply = answer.reply.now; lines = answer.lines.now })
+
+-- the reply says that no component has the name of its call
+abbrev pub is_unknown : List ℕ → Bool
+is_unknown reply = bytes_eq reply (refusal_name UnknownComponent)
 
 -- the name of a call is unknown; the name of a line that is passed to the engine unchanged may be unknown
-abbrev pub is_unknown_call : Bool → LineAnswer → Bool
-is_unknown_call passed answer = is_unknown answer.outcome && not passed
+abbrev pub is_unknown_call : Bool → List ℕ → Bool
+is_unknown_call passed reply = is_unknown reply && not passed
 
 -- an answer differs from its expectation: its reply doesn't match, or it has other log lines. Without an expected reply, it
 -- differs if log lines are expected or the call's name is unknown. A skipped call never differs
-abbrev pub is_other : Bool → Option (List ℕ) → Option LineAnswer → Awaited → Bool
+abbrev pub is_other : Bool → Option (List ℕ) → Option AnswerText → Awaited → Bool
 is_other passed reply None awaited = false
-is_other passed None (Some answer) awaited = is_some awaited.first || is_unknown_call passed answer
+is_other passed None (Some answer) awaited = is_some awaited.first || is_unknown_call passed answer.reply
 is_other passed (Some reply) (Some answer) awaited =
-    not (meets answer.reply.now reply) || not (bytes_eq answer.lines.now awaited.lines)
+    not (meets answer.reply reply) || not (bytes_eq answer.lines awaited.lines)
 
 -- ---- of a line, by what it is after substitution
 
@@ -65,7 +76,7 @@ awaited_after number resolved awaited = awaited
 
 -- a line has an error that is too long, can't be filled or can't be parsed, and so have a directive that can't be followed and a
 -- call whose answer differs from its expectation
-abbrev pub is_complained : ResolvedLine → Option LineAnswer → Awaited → Bool
+abbrev pub is_complained : ResolvedLine → Option AnswerText → Awaited → Bool
 is_complained TooLong answer awaited = true
 is_complained (BadName fault) answer awaited = true
 is_complained (Misplaced column) answer awaited = true
@@ -73,13 +84,32 @@ is_complained (Call filled line reply) answer awaited = is_other (is_passed fill
 is_complained (BadLine fault) answer awaited = true
 is_complained resolved answer awaited = false
 
--- the one of these calls that is answered has this answer in this world, or none is answered
-abbrev pub AnswersIn : Option (List ℕ) → World → List (List ℕ) → Option LineAnswer → Type 0
-AnswersIn only world calls (Some answer) =
-    (call : List ℕ) × (said_by only calls ≡ call ∷ []) × IsAnswer world (heard world.entries call) answer
-AnswersIn only world calls None = said_by only calls ≡ []
+-- ---- of lines in a world
 
--- a line has an error by the answer to its call in this world
-abbrev pub IsJudged : Option (List ℕ) → World → ResolvedLine → Awaited → Bool → Type 0
-IsJudged only world resolved awaited complained =
-    (answer : Option LineAnswer) × AnswersIn only world (calls_in resolved) answer × (complained ≡ is_complained resolved answer awaited)
+-- the answer in this world to the call that is answered, of which there is one at most
+abbrev pub answer_to : World → List (List ℕ) → Option AnswerText
+answer_to world [] = None
+answer_to world (call ∷ calls) =
+    Some (record { reply = reply_in world call; lines = flat_map log_text (finished_lines world (heard world.entries call)) })
+
+-- a line has an error by the answer to its call in this world: all calls are answered, or those of one name
+abbrev pub has_error : Option (List ℕ) → World → ResolvedLine → Awaited → Bool
+has_error only world resolved awaited = is_complained resolved (answer_to world (said_by only (calls_in resolved))) awaited
+
+-- how many lines have an error, by their steps from this world and this expectation on
+abbrev pub errors_in : Option (List ℕ) → World → Awaited → List LineStep → ℕ
+errors_in only world awaited [] = 0
+errors_in only world awaited (turn ∷ turns) =
+    from_bool (has_error only world turn.resolved awaited)
+    + errors_in only (after_all only world (calls_in turn.resolved)) (awaited_after turn.number turn.resolved awaited) turns
+
+-- the expectation after these steps
+abbrev pub awaited_behind : Awaited → List LineStep → Awaited
+awaited_behind awaited [] = awaited
+awaited_behind awaited (turn ∷ turns) = awaited_behind (awaited_after turn.number turn.resolved awaited) turns
+
+-- the number of errors of a scenario by the steps of its lines: one for each line that has an error, and one more if a log line is
+-- expected and no call follows it
+abbrev pub errors_of : Option (List ℕ) → World → Awaited → List LineStep → ℕ
+errors_of only world awaited turns =
+    errors_in only world awaited turns + from_bool (is_some (awaited_behind awaited turns).first)

@@ -1,5 +1,6 @@
 -- How far a run of the friendly form is, and how it ends.
-use Rattle.std.specs.Prelude.{◌≡◌, ℕ, ◌≤◌, ◌||◌, Bool, true, false, ⊤, List, [], ◌∷◌, ◌++◌, length, Option, Some, None, IfSome, IfNone, IfOk, OnOk, Result, Ok, Err}
+use Rattle.std.specs.Prelude.{◌≡◌, ℕ, ◌+◌, ◌^◌, ◌<◌, ◌≤◌, ◌||◌, Bool, true, false, ⊤, List, [], ◌∷◌, ◌++◌, length, Option, Some, None, IfSome, IfNone, IfOk, OnOk, Result, Ok, Err}
+use Rattle.std.specs.Int.{from_bool}
 use Rattle.line_steps.specs.ResolvedLines.{ResolvedLine}
 use Rattle.line_steps.specs.RunPosition.{RunPosition, arrived, crosses, passed}
 use Rattle.own_model.specs.World.{World}
@@ -11,7 +12,7 @@ use Rattle.run_lines.specs.declared.line_run_fault.LineRunFault.{LineRunFault}
 use Rattle.run_lines.specs.declared.line_run_fault.LineRunFault.TheVariants.{ReadFault, WriteFault, TooManyLines, NoMemory}
 use Rattle.run_scenario.specs.Faults.{takes_memory}
 use Rattle.run_scenario.specs.CallAnswers.{ReportsCalls}
-use Rattle.run_scenario.specs.Judging.{Awaited, IsJudged, awaited_after}
+use Rattle.run_scenario.specs.Judging.{Awaited, awaited_after, awaited_behind, errors_in, errors_of, has_error}
 use Rattle.run_scenario.specs.RunCalls.{calls_answered, calls_of_steps, text_of_steps}
 use Rattle.run_scenario.specs.LineSteps.{LineStep, calls_in, stand_after, stand_behind, turns_of}
 
@@ -23,11 +24,26 @@ pub record Remains {N R T : Type 0} (name now_name : N) (run now_run : R) (tells
   pub tells_is : now_tells ≡ tells
   pub holds_is : now_holds ≡ holds
 
--- lines lead from one world to another, from a first position to this one, and their calls were observed
-pub record LeadsSteps (only : Option (List ℕ)) (start world : World) (first stand : RunPosition) (seen : List (List ℕ) → Type 0)
-    (lines : List (List ℕ)) : Type 0 where
+-- the errors of lines so far, and the log lines that are expected
+pub record Tally : Type 0 where
+  pub errors : ℕ
+  pub awaited : Awaited
+
+abbrev pub tally : ℕ → Awaited → Tally
+tally errors awaited = record { errors = errors; awaited = awaited }
+
+-- lines in their steps lead from one tally to another; the number of errors stops at `u64::MAX`
+pub record Tallies (only : Option (List ℕ)) (start : World) (old new : Tally) (turns : List LineStep) : Type 0 where
+  pub awaits : new.awaited ≡ awaited_behind old.awaited turns
+  pub counts : old.errors + errors_in only start old.awaited turns < 2 ^ 64 →
+      new.errors ≡ old.errors + errors_in only start old.awaited turns
+
+-- lines lead from one world to another, from a first position to this one, their calls were observed, and their errors counted
+pub record LeadsSteps (only : Option (List ℕ)) (start world : World) (first stand : RunPosition) (tally now_tally : Tally)
+    (seen : List (List ℕ) → Type 0) (lines : List (List ℕ)) : Type 0 where
   pub world_is : world ≡ after_all only start (calls_of_steps (turns_of only start first lines))
   pub stands : stand ≡ stand_behind only start first lines
+  pub tallies : Tallies only start tally now_tally (turns_of only start first lines)
   pub sees : seen (calls_answered only (turns_of only start first lines))
 
 -- if the host was out of memory, the last of these lines took some
@@ -48,6 +64,10 @@ pub record StopsSteps (calls : Bool) (only : Option (List ℕ)) (start world : W
 abbrev pub counted : Result Bool LineRunFault → Result (Unit {0}) LineRunFault
 counted (Ok complained) = Ok tt
 counted (Err fault) = Err fault
+
+-- an error is counted if there is one
+abbrev pub CountsOne : Bool → ℕ → ℕ → Type 0
+CountsOne error old new = old + from_bool error < 2 ^ 64 → new ≡ old + from_bool error
 
 -- after a run without a fault its last error may fail to be written; a run with a fault stays as it is
 abbrev pub ClosesAs : Option LineRunFault → Option LineRunFault → Bool → Bool → Type 0
@@ -77,7 +97,7 @@ pub record RunsLine (only : Option (List ℕ)) (tells : World → List (List ℕ
   pub hears : ReportsCalls only tells seen now_seen old.stand.number (calls_in resolved) old.world new.world result old.written old.gathered
       new.written new.gathered
   pub stands : OnOk result (new.stand ≡ arrived (stand_after only old.world (passed old.stand) resolved))
-  pub judged : IfOk result (IsJudged only old.world resolved old.awaited)
+  pub judged : IfOk result (λ complained. complained ≡ has_error only old.world resolved old.awaited)
   pub expects : OnOk result (new.awaited ≡ awaited_after old.stand.number resolved old.awaited)
   pub failing : Fails result failed (takes_memory calls resolved || crosses old.stand)
 
@@ -91,10 +111,16 @@ most_lines = 1000000
 abbrev pub TakesMemoryFor : Bool → Option LineRunFault → List LineStep → Type 0
 TakesMemoryFor calls fault turns = IfSome fault (λ f. TakesMemory calls f turns)
 
+-- the errors of a scenario's lines in their steps are counted, after so many others and with this expectation at first
+abbrev pub CountsErrors : Option (List ℕ) → World → Tally → ℕ → List LineStep → Type 0
+CountsErrors only start tally errors turns =
+    tally.errors + errors_of only start tally.awaited turns < 2 ^ 64 → errors ≡ tally.errors + errors_of only start tally.awaited turns
+
 -- a scenario is run from its first position to its end or to a fault, after a text
 pub record RunsAll (tells : List (List ℕ) → ℕ → List ℕ → List ℕ) (calls : Bool) (seen : List (List ℕ) → Type 0)
-    (only : Option (List ℕ)) (first : RunPosition) (fault : Option LineRunFault) (count : ℕ) (old new : World) (front : List ℕ)
-    (input rest : Option (List ℕ)) (failed : Bool) (written now_written : Option (List ℕ)) : Type 0 where
+    (counts : List LineStep → Type 0) (only : Option (List ℕ)) (first : RunPosition) (fault : Option LineRunFault) (count : ℕ)
+    (old new : World) (front : List ℕ) (input rest : Option (List ℕ)) (failed : Bool) (written now_written : Option (List ℕ))
+    : Type 0 where
   pub given : List (List ℕ)
   pub readable : AreReadable given
   pub world : new ≡ after_all only old (calls_of_steps (turns_of only old first given))
@@ -102,5 +128,6 @@ pub record RunsAll (tells : List (List ℕ) → ℕ → List ℕ → List ℕ) (
   pub ends : EndsFor most_lines fault given input rest failed
   pub takes : TakesMemoryFor calls fault (turns_of only old first given)
   pub counted : IfNone fault (count ≡ length given)
+  pub complained : IfNone fault (counts (turns_of only old first given))
   pub few : length given ≤ most_lines
   pub sees : IfNone fault (seen (calls_answered only (turns_of only old first given)))

@@ -10,6 +10,7 @@ use Rattle.run_lines.specs.Answered.{after_all}
 use Rattle.run_lines.specs.Lines.{AreReadable}
 use Rattle.run_lines.specs.Machine.{accounts_for, world_of}
 use Rattle.run_lines.specs.Causes.{AppendsPart}
+use Rattle.run_scenario.specs.Judging.{Awaited, errors_of, nothing_awaited}
 use Rattle.run_scenario.specs.RunCalls.{calls_answered}
 use Rattle.run_scenario.specs.ScenarioRuns.{TakesMemoryFor, most_lines}
 use Rattle.run_lines.specs.LineRuns.{EndsFor}
@@ -34,16 +35,33 @@ WritesBoth (Some WriteFault) input lines old new told behind =
 WritesBoth (Some TooManyLines) input lines old new told behind = Appends old new told
 WritesBoth (Some NoMemory) input lines old new told behind = AppendsPart old new told
 
+-- where a run begins: whose calls are answered, the machine, the position, and the log lines that are expected
+pub record RunStart : Type 0 where
+  pub only : Option (List ℕ)
+  pub world : World
+  pub stand : RunPosition
+  pub awaited : Awaited
+
+abbrev pub start_at : Option (List ℕ) → World → RunPosition → Awaited → RunStart
+start_at only world stand awaited = record { only = only; world = world; stand = stand; awaited = awaited }
+
+-- the steps of a scenario's lines from there on
+abbrev pub steps_from : RunStart → List (List ℕ) → List LineStep
+steps_from start lines = turns_of start.only start.world start.stand lines
+
 -- a scenario was run, from its first line on, to its end or to a fault that has a cause, and this was written: the text for its
--- lines, and the text after it, by the steps of the lines. It is given whether the text for calls takes memory of the host
-pub record IsRunFrom (turns : List (List ℕ) → List LineStep) (told behind : List LineStep → List ℕ) (calls : Bool) (ending : ScenarioEnd)
+-- lines, and the text after it, by the steps of the lines. If there is no fault, its lines and its errors are counted. It is given
+-- whether the text for calls takes memory of the host
+pub record IsRunFrom (start : RunStart) (told behind : List LineStep → List ℕ) (calls : Bool) (ending : ScenarioEnd)
     (input rest : Option (List ℕ)) (failed : Bool) (written now_written : Option (List ℕ)) : Type 0 where
   pub given : List (List ℕ)
   pub readable : AreReadable given
   pub ends : EndsFor most_lines ending.fault given input rest failed
-  pub takes : TakesMemoryFor calls ending.fault (turns given)
+  pub takes : TakesMemoryFor calls ending.fault (steps_from start given)
   pub counted : IfNone ending.fault (ending.lines ≡ length given)
-  pub writes : WritesBoth ending.fault input given written now_written (told (turns given)) (behind (turns given))
+  pub complained : IfNone ending.fault
+      (ending.complaints ≡ errors_of start.only start.world start.awaited (steps_from start given))
+  pub writes : WritesBoth ending.fault input given written now_written (told (steps_from start given)) (behind (steps_from start given))
 
 -- after a run that reached its end this is written, or a part of it if a write failed; after any other run nothing
 abbrev pub WritesAfter : Option LineRunFault → Option LineRunFault → Option (List ℕ) → Option (List ℕ) → List ℕ → Type 0
@@ -53,6 +71,7 @@ WritesAfter (Some fault) ended old new behind = (ended ≡ Some fault) × (new �
 
 pub record Closes (played ended : ScenarioEnd) (old new : Option (List ℕ)) (behind : List ℕ) : Type 0 where
   pub lines : ended.lines ≡ played.lines
+  pub complaints : ended.complaints ≡ played.complaints
   pub writes : WritesAfter played.fault ended.fault old new behind
 
 -- all of a text is written, or a part of it if a write failed
@@ -63,6 +82,10 @@ IsWrittenBy (Err fault) old new text = (fault ≡ WriteFault) × AppendsPart old
 -- the steps of a scenario's lines on the machine of a list, from its first position on
 abbrev pub turns_on : Option (List ℕ) → RunPosition → Listed → List (List ℕ) → List LineStep
 turns_on only first listed lines = turns_of only (world_of listed) first lines
+
+-- a run begins there, and no log line is expected
+abbrev pub start_on : Option (List ℕ) → RunPosition → Listed → RunStart
+start_on only first listed = start_at only (world_of listed) first nothing_awaited
 
 -- nothing is written
 abbrev pub nothing_told : List LineStep → List ℕ

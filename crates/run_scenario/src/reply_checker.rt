@@ -2,10 +2,11 @@
 ghost use Rattle.std.specs.Prelude.{◌≡◌, ◌||◌, false, true, not, is_some, IfErr, IfOk, OnOk};
 ghost use Rattle.std.specs.Option.{option_copied};
 ghost use Rattle.std.specs.Str.{bytes_eq};
+ghost use Rattle.trade_base.specs.Refusal.{refusal_name};
 ghost use Rattle.line_friendly.specs.Expected.{meets};
 ghost use Rattle.line_friendly.specs.Friendly.{is_passed};
 ghost use Rattle.run_lines.specs.Faults.{Fails};
-ghost use Rattle.run_scenario.specs.Judging.{awaited_more, is_other, is_unknown_call, is_unknown, nothing_awaited};
+ghost use Rattle.run_scenario.specs.Judging.{awaited_more, is_other, is_unknown_call, nothing_awaited, text_in};
 ghost use Rattle.run_lines.specs.declared.line_run_fault.LineRunFault.TheVariants.{NoMemory as NoRoom};
 
 use crate::complaint::Complaints;
@@ -66,7 +67,7 @@ impl<'a> ReplyChecker<'a> {
         requires { E.has_failed sink.old ≡ false }
         ensures judged { IfOk result (λ complained. complained
             ≡ is_other (is_passed asked.entry.line.now) (option_copied asked.entry.reply)
-            answer.entry self.old.expected) }
+            (text_in answer.entry) self.old.expected) }
         ensures forgets { self.new.expected ≡ nothing_awaited }
         ensures works { OnOk result (E.has_failed sink.new ≡ false) }
         ensures failing { Fails result (E.has_failed sink.new) false }
@@ -96,7 +97,7 @@ impl<'a> ReplyChecker<'a> {
     ) -> Result<bool, LineRunFault>
         requires { E.has_failed sink.old ≡ false }
         ensures judged { IfOk result (λ complained. complained ≡ (is_some self.old.expected.first
-            || is_unknown_call (is_passed asked.entry.line.now) answer.entry)) }
+            || is_unknown_call (is_passed asked.entry.line.now) answer.entry.reply.now)) }
         ensures keeps { self.new.expected ≡ self.old.expected }
         ensures works { OnOk result (E.has_failed sink.new ≡ false) }
         ensures failing { Fails result (E.has_failed sink.new) false }
@@ -265,16 +266,16 @@ impl<'a> ReplyChecker<'a> {
 
 // Returns whether the name of a line's call is unknown. A line that is passed to the engine unchanged may have an unknown name.
 fn is_unknown_call(line: &[u8], answer: LineAnswer<'_>) -> bool
-    ensures { result ≡ is_unknown_call (is_passed line.now) answer.entry }
+    ensures { result ≡ is_unknown_call (is_passed line.now) answer.entry.reply.now }
 {
-    is_unknown(answer.outcome) && !is_passed(line)
+    is_refused(answer, Refusal::UnknownComponent) && !is_passed(line)
 }
 
-// Returns whether no component has the name.
-fn is_unknown(outcome: Outcome) -> bool
-    ensures { result ≡ is_unknown outcome }
+// Returns whether a reply is this refusal.
+fn is_refused(answer: LineAnswer<'_>, refusal: Refusal) -> bool
+    ensures { result ≡ bytes_eq answer.entry.reply.now (refusal_name refusal) }
 {
-    matches!(outcome, Outcome::Refused(Refusal::UnknownComponent))
+    matches!(answer.outcome, Outcome::Refused(other) if other == refusal)
 }
 
 // An expected reply, and the place of its first byte.

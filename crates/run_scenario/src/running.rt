@@ -1,11 +1,11 @@
 //! The run of a scenario: lines in the friendly form are read, answered, reported and checked.
-ghost use Rattle.std.specs.Prelude.{◌≡◌, ◌≤◌, ◌||◌, [], IfSome, IfNone, None, false};
+ghost use Rattle.std.specs.Prelude.{◌≡◌, ◌≤◌, ◌||◌, [], IfSome, IfNone, None, false, is_some};
 ghost use Rattle.std.specs.Option.{option_copied};
 ghost use Rattle.own_model.specs.Listed.{start_list_of};
 ghost use Rattle.own_model.specs.StartList.{entries_of};
 ghost use Rattle.run_lines.specs.Faults.{is_write_fault};
 ghost use Rattle.run_scenario.specs.Faults.{fault_before, unplayed};
-ghost use Rattle.run_scenario.specs.ScenarioRuns.{ClosesAs, RunsAll};
+ghost use Rattle.run_scenario.specs.ScenarioRuns.{ClosesAs, CountsErrors, CountsOne, RunsAll, tally};
 
 use crate::call_observer::CallObserver;
 use crate::reply_checker::ReplyChecker;
@@ -30,6 +30,8 @@ pub fn play<R: Router + Drop, W: CallObserver, S: Source, K: Sink, E: Sink>(
         (K.has_failed writer.old || E.has_failed bench.old.complaints.now) ≡ None →
         RunsAll (W.tells bench.old.watch.now core.old) W.takes
         (W.sees bench.new.watch.now bench.old.run.now.list.now core.old)
+        (CountsErrors (option_copied bench.old.run.now.only) core.old
+        (tally bench.old.complained bench.old.notes.now.critic.expected) result.complaints)
         (option_copied bench.old.run.now.only) bench.old.notes.now.stand result.fault result.lines core.old
         core.new front.now
         (S.remaining reader.old) (S.remaining reader.new) (S.has_failed reader.new)
@@ -102,7 +104,9 @@ fn close<E: Sink>(
     complaints: &mut E,
 ) -> Option<LineRunFault>
     requires works { IfNone fault (E.has_failed complaints.old ≡ false) }
-    ensures { ClosesAs fault result (E.has_failed complaints.old) (E.has_failed complaints.new) }
+    ensures closes { ClosesAs fault result (E.has_failed complaints.old) (E.has_failed complaints.new) }
+    ensures counts { IfNone result
+        (CountsOne (is_some critic.old.expected.first) complained.old complained.new) }
 {
     match fault {
         Some(fault) => Some(fault),

@@ -17,7 +17,7 @@ pub struct ScenarioEnd {
 }
 
 impl ScenarioEnd {
-    ghost use Rattle.std.specs.Prelude.{◌≡◌, Some};
+    ghost use Rattle.std.specs.Prelude.{◌≡◌, ◌+◌, min, Some};
     ghost use Rattle.run_scenario.specs.Faults.{unplayed};
 
     /// Returns the ending of a run that stopped with this fault before its first line.
@@ -34,6 +34,7 @@ impl ScenarioEnd {
     /// Returns the same ending with one more error of a line.
     pub fn complained(self) -> ScenarioEnd
         ensures lines { result.lines ≡ self.lines }
+        ensures complaints { result.complaints ≡ min (self.complaints + 1) 18446744073709551615 }
         ensures fault { result.fault ≡ self.fault }
     {
         ScenarioEnd {

@@ -1,5 +1,5 @@
 //! Runs scenarios in the friendly form.
-ghost use Rattle.std.specs.Prelude.{◌≡◌, ◌≤◌, ◌||◌, [], false, length};
+ghost use Rattle.std.specs.Prelude.{◌≡◌, ◌≤◌, ◌||◌, [], IfOk, false, length};
 ghost use Rattle.std.specs.Option.{option_copied};
 ghost use Rattle.own_model.specs.Listed.{start_list_of};
 ghost use Rattle.own_model.specs.StartList.{entries_of};
@@ -7,7 +7,7 @@ ghost use Rattle.line_grammar.specs.Read.{Reads};
 ghost use Rattle.line_friendly.specs.Theorems.{IsBare, IsPlain};
 ghost use Rattle.run_lines.specs.Next.{OutputsWork};
 ghost use Rattle.run_scenario.specs.RunCalls.{text_of_steps};
-ghost use Rattle.run_scenario.specs.ScenarioRuns.{LeadsSteps, RunsLine, Remains, StopsSteps, counted, point};
+ghost use Rattle.run_scenario.specs.ScenarioRuns.{CountsOne, LeadsSteps, RunsLine, Remains, StopsSteps, counted, point, tally};
 ghost use Rattle.run_scenario.specs.LineSteps.{resolved_at, turns_of};
 ghost use Rattle.line_steps.specs.ResolvedLines.{is_skipped};
 
@@ -80,6 +80,7 @@ impl<W: CallObserver, E: Sink> ScenarioRunner<'_, '_, '_, '_, '_, '_, '_, W, E> 
             (K.contents writer.old) gathered.old)
             (point core.new self.new.notes.now.stand self.new.notes.now.critic.expected
             (K.contents writer.new) gathered.new) }
+        ensures uncounted { self.new.complained ≡ self.old.complained }
     {
         match plain_call(line) {
             Some(call) if !is_skipped(self.run.only, line) => {
@@ -120,6 +121,7 @@ impl<W: CallObserver, E: Sink> ScenarioRunner<'_, '_, '_, '_, '_, '_, '_, W, E> 
             (K.contents writer.old) gathered.old)
             (point core.new self.new.notes.now.stand self.new.notes.now.critic.expected
             (K.contents writer.new) gathered.new) }
+        ensures uncounted { self.new.complained ≡ self.old.complained }
     {
         let list = self.run.list;
         let heard = answer_plain(self.run, core, &self.notes.stand, line, call, self.rooms);
@@ -155,6 +157,7 @@ impl<W: CallObserver, E: Sink> ScenarioRunner<'_, '_, '_, '_, '_, '_, '_, W, E> 
             (K.contents writer.old) gathered.old)
             (point core.new self.new.notes.now.stand self.new.notes.now.critic.expected
             (K.contents writer.new) gathered.new) }
+        ensures uncounted { self.new.complained ≡ self.old.complained }
     {
         let list = self.run.list;
         let turn = take_step(self.run, core, &self.notes.stand, line, self.rooms);
@@ -174,7 +177,10 @@ impl<W: CallObserver, E: Sink> LineHandler for ScenarioRunner<'_, '_, '_, '_, '_
         Remains first.complaints.ghost_name bench.complaints.ghost_name first.run.now bench.run.now
         (W.tells first.watch.now) (W.tells bench.watch.now) (W.holds first.watch.now) (W.holds bench.watch.now)
         × LeadsSteps (option_copied first.run.now.only) start world first.notes.now.stand
-        bench.notes.now.stand (W.sees bench.watch.now first.run.now.list.now start) lines };
+        bench.notes.now.stand
+        (tally first.complained first.notes.now.critic.expected)
+        (tally bench.complained bench.notes.now.critic.expected)
+        (W.sees bench.watch.now first.run.now.list.now start) lines };
 
     ghost stops = { λ first start bench world fault lines.
         Remains first.complaints.ghost_name bench.complaints.ghost_name first.run.now bench.run.now
@@ -217,7 +223,8 @@ impl<W: CallObserver, E: Sink> LineHandler for ScenarioRunner<'_, '_, '_, '_, '_
 
 /// Adds an error of a line to the count, if there is one. Returns the fault of the run, if there is one.
 pub fn count(complained: &mut u64, judged: Result<bool, LineRunFault>) -> Result<(), LineRunFault>
-    ensures { result ≡ counted judged }
+    ensures result { result ≡ counted judged }
+    ensures counts { IfOk judged (λ error. CountsOne error complained.old complained.new) }
 {
     match judged {
         Ok(more) => {

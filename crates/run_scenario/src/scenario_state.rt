@@ -7,7 +7,7 @@ ghost use Rattle.line_names.specs.Views.{directive_view, filled_view};
 ghost use Rattle.line_steps.specs.ResolvedViews.{call_view, resolved_view};
 ghost use Rattle.run_scenario.specs.Faults.{takes_memory};
 ghost use Rattle.run_scenario.specs.CallAnswers.{answer_of};
-ghost use Rattle.run_scenario.specs.Judging.{awaited_after, is_complained, is_other, nothing_awaited};
+ghost use Rattle.run_scenario.specs.Judging.{awaited_after, is_complained, is_other, nothing_awaited, text_in};
 ghost use Rattle.run_scenario.specs.LineSteps.{Arrives, binds_names, learnt_by, plain_line, stand_with};
 ghost use Rattle.line_steps.specs.RunPosition.{arrived, crosses, position_following, is_due, passed};
 ghost use Rattle.run_lines.specs.declared.line_run_fault.LineRunFault.TheVariants.{NoMemory as NoRoom};
@@ -35,7 +35,8 @@ pub struct ScenarioState<'a> {
 impl<'a> ScenarioState<'a> {
     /// Returns the state at the start of a scenario's run, from the position `start`.
     pub fn new(alloc: Global, scenario: Subject<'a>, start: RunPosition<'a>) -> ScenarioState<'a>
-        ensures { result.stand ≡ start.entry }
+        ensures stands { result.stand ≡ start.entry }
+        ensures expects { result.critic.expected ≡ nothing_awaited }
     {
         ScenarioState {
             stand: start,
@@ -55,7 +56,8 @@ impl<'a> ScenarioState<'a> {
     ) -> Result<bool, LineRunFault>
         requires works { E.has_failed complaints.old ≡ false }
         ensures judged { IfOk result (λ complained. complained ≡ is_complained
-            (resolved_view turn.now.resolved) (answer_of turn.now.answered) self.old.critic.expected) }
+            (resolved_view turn.now.resolved) (text_in (answer_of turn.now.answered))
+            self.old.critic.expected) }
         ensures expects { OnOk result (self.new.critic.expected ≡ awaited_after
             self.old.stand.number (resolved_view turn.now.resolved) self.old.critic.expected) }
         ensures stands { OnOk result (Arrives self.old.stand
@@ -79,7 +81,8 @@ impl<'a> ScenarioState<'a> {
     ) -> Result<bool, LineRunFault>
         requires works { E.has_failed complaints.old ≡ false }
         ensures judged { IfOk result (λ complained. complained ≡ is_complained
-            (resolved_view turn.now.resolved) (answer_of turn.now.answered) self.old.critic.expected) }
+            (resolved_view turn.now.resolved) (text_in (answer_of turn.now.answered))
+            self.old.critic.expected) }
         ensures expects { OnOk result (self.new.critic.expected ≡ awaited_after
             self.old.stand.number (resolved_view turn.now.resolved) self.old.critic.expected) }
         ensures stands { OnOk result (self.new.stand ≡ stand_with (passed self.old.stand)
@@ -126,7 +129,7 @@ impl<'a> ScenarioState<'a> {
     ) -> Result<bool, LineRunFault>
         requires works { E.has_failed complaints.old ≡ false }
         ensures judged { IfOk result (λ complained. complained ≡ is_complained
-            (plain_line line.now) (answer_of heard.now) self.old.critic.expected) }
+            (plain_line line.now) (text_in (answer_of heard.now)) self.old.critic.expected) }
         ensures expects { OnOk result (self.new.critic.expected ≡ awaited_after
             self.old.stand.number (plain_line line.now) self.old.critic.expected) }
         ensures stands { OnOk result (Arrives self.old.stand
@@ -186,7 +189,7 @@ impl<'a> ScenarioState<'a> {
     ) -> Result<bool, LineRunFault>
         requires works { E.has_failed complaints.old ≡ false }
         ensures judged { IfOk result (λ complained. complained
-            ≡ is_complained (call_view call.now) answer.entry self.old.critic.expected) }
+            ≡ is_complained (call_view call.now) (text_in answer.entry) self.old.critic.expected) }
         ensures forgets { self.new.critic.expected ≡ nothing_awaited }
         ensures stands { OnOk result
             (self.new.stand ≡ stand_with self.old.stand (call_view call.now) answer.entry) }

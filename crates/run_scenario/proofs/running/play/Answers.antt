@@ -2,8 +2,9 @@
 use Rattle.std.proofs.Common.{ℕ, List, refl, subst, ap}
 use Rattle.std.specs.Option.{option_copied}
 use Rattle.run_lines.specs.RunOutput.{Tells}
-use Rattle.run_scenario.proofs.PlayLemmas.{closed_on, closed_writing, complaints_work, leads_none, plays_closed, remains, turns_played, world_left}
+use Rattle.run_scenario.proofs.PlayLemmas.{closed_counts, closed_on, closed_writing, complaints_work, leads_none, plays_closed, remains, turns_played, world_left}
 use Rattle.run_scenario.proofs.WriteLemmas.{front_cut, plays_behind}
+use Rattle.run_scenario.specs.ScenarioRuns.{tally}
 use Rattle.run_scenario.proofs.running.play.Goals as goal
 
 pub play-played-requires-clause-ready : goal.play-played-requires-clause-ready
@@ -12,7 +13,7 @@ play-played-requires-clause-ready g c = c.requires.listed
 pub play-played-requires-clause-leads : goal.play-played-requires-clause-leads
 play-played-requires-clause-leads g c = (
   record { name_is = refl; run_is = refl; tells_is = refl; holds_is = refl },
-  leads_none (option_copied c.args.bench.now.run.now.only) c.args.core.now c.args.bench.now.notes.now.stand _ c.requires.sees,
+  leads_none (option_copied c.args.bench.now.run.now.only) c.args.core.now c.args.bench.now.notes.now.stand (tally c.args.bench.now.complained c.args.bench.now.notes.now.critic.expected) _ c.requires.sees,
 )
 
 pub close-fault-requires : goal.close-fault-requires
@@ -24,22 +25,23 @@ returns-in-Err-clause-plays g c = λ works.
 
 pub returns-clause-plays : goal.returns-clause-plays
 returns-clause-plays g c = λ works.
-    plays_closed c.play-played.result.fault c.close-fault.result _ _ c.close-fault.ensures
+    plays_closed c.play-played.result.fault c.close-fault.result _ _ c.close-fault.ensures.closes
+    (closed_counts (option_copied c.args.bench.now.run.now.only) c.args.core.now (tally c.args.bench.now.complained c.args.bench.now.notes.now.critic.expected) c.play-played.new.player.complained _ c.play-played.new.player.notes.now.critic.expected c.close-fault.result c.close-fault.ensures.counts)
     (plays_behind
     (subst (λ (gathered : List ℕ). Tells (g.K.Sink.contents c.args.writer.now) gathered (g.K.Sink.contents c.put.new.sink) c.put.new.self c.args.front.now) c.new-buffers.ensures.gathered c.in-Ok.ensures.told)
-    (turns_played _ _ _ _ _ _ _ _ _ c.play-played.ensures.plays))
+    (turns_played _ _ _ _ _ _ _ _ _ _ _ c.play-played.ensures.plays))
 
 pub returns-clause-same_reference : goal.returns-clause-same_reference
-returns-clause-same_reference g c = (remains _ _ _ _ _ _ _ _ _ c.play-played.ensures.plays).name_is
+returns-clause-same_reference g c = (remains _ _ _ _ _ _ _ _ _ _ _ c.play-played.ensures.plays).name_is
 
 pub returns-clause-held : goal.returns-clause-held
-returns-clause-held g c = (remains _ _ _ _ _ _ _ _ _ c.play-played.ensures.plays).holds_is
+returns-clause-held g c = (remains _ _ _ _ _ _ _ _ _ _ _ c.play-played.ensures.plays).holds_is
 
 pub returns-clause-listed : goal.returns-clause-listed
-returns-clause-listed g c = ap (λ w. w.entries) (world_left _ _ _ _ _ _ _ _ _ c.play-played.ensures.plays)
+returns-clause-listed g c = ap (λ w. w.entries) (world_left _ _ _ _ _ _ _ _ _ _ _ c.play-played.ensures.plays)
 
 pub returns-clause-writing : goal.returns-clause-writing
-returns-clause-writing g c = closed_writing c.play-played.result.fault c.close-fault.result _ _ _ c.play-played.ensures.writing c.close-fault.ensures
+returns-clause-writing g c = closed_writing c.play-played.result.fault c.close-fault.result _ _ _ c.play-played.ensures.writing c.close-fault.ensures.closes
 
 pub returns-clause-reading : goal.returns-clause-reading
-returns-clause-reading g c = closed_on _ c.play-played.result.fault c.close-fault.result _ _ c.close-fault.ensures c.play-played.ensures.reading
+returns-clause-reading g c = closed_on _ c.play-played.result.fault c.close-fault.result _ _ c.close-fault.ensures.closes c.play-played.ensures.reading

@@ -16,10 +16,10 @@ pub returns-clause-played : goal.returns-clause-played
 returns-clause-played g c = λ first start earlier line long led.
     let now = c.args.self.now in
     let only = option_copied now.run.now.only in
-    rw c.count.ensures (bench_line (λ run. option_copied run.only) (λ run. g.W.CallObserver.sees now.watch.now run.list.now) (λ run. g.W.CallObserver.sees now.watch.now run.list.now)
-    start earlier line g.W.CallObserver.takes c.take_in-judged.result (record { name_is = led.0.name_is; run_is = led.0.run_is; tells_is = led.0.tells_is; holds_is = led.0.holds_is }) led.0.run_is led.0.tells_is led.1
+    rw c.count.ensures.result (bench_line (λ run. option_copied run.only) (λ run. g.W.CallObserver.sees now.watch.now run.list.now) (λ run. g.W.CallObserver.sees now.watch.now run.list.now)
+    start earlier line g.W.CallObserver.takes c.take_in-judged.result now.complained c.count.new.complained c.count.ensures.counts (record { name_is = led.0.name_is; run_is = led.0.run_is; tells_is = led.0.tells_is; holds_is = led.0.holds_is }) led.0.run_is led.0.tells_is led.1
     (plays_as (sym (resolved_long only now.notes.now.stand line long)) (turn_judged _ _ TooLong None (said_none only) c.take_in-judged.result (hears_none told (sym (left_none only c.args._core.now)) (said_none only)) c.requires.works.writes
     c.take_in-judged.ensures.judged c.take_in-judged.ensures.expects c.take_in-judged.ensures.stands c.take_in-judged.ensures.failing)))
 
 pub returns-clause-ready : goal.returns-clause-ready
-returns-clause-ready g c = λ more ready. rw c.count.ensures (ready_next c.take_in-judged.result ready)
+returns-clause-ready g c = λ more ready. rw c.count.ensures.result (ready_next c.take_in-judged.result ready)
