@@ -1,4 +1,5 @@
 //! How a run over files and the standard streams ended.
+
 use cli_base::{StopMessage, UNREAD, report_error, spot_of, summarize};
 use init_core::BootFault;
 use run_lines::LineRunFault;
@@ -15,6 +16,9 @@ pub(crate) struct RunEnd {
 }
 
 impl RunEnd {
+    ghost use Rattle.std.specs.Prelude.{◌≡◌, ◌&&◌};
+    ghost use Rattle.cli_runs.specs.RunEnd.{end_status, write_failed};
+
     /// Prints the fault of a scenario of this path, if there is one. Prints the numbers of errors and warnings too: `earlier` ones,
     /// the fault and the scenario's own. Returns the exit status.
     pub(crate) fn tell(
@@ -23,7 +27,9 @@ impl RunEnd {
         form: DiagnosticForm,
         scenario: &str,
         earlier: Counts,
-    ) -> u8 {
+    ) -> u8
+        ensures { result ≡ end_status self.now.ended self.now.unread }
+    {
         let status = self.tell_fault(rt, form, scenario);
         if let Ok(ending) = &self.ended {
             if status != UNREAD {
@@ -40,17 +46,35 @@ impl RunEnd {
     }
 
     /// Prints the fault of a scenario of this path, if there is one. Returns the exit status.
-    pub(crate) fn tell_fault(&self, rt: &HostRuntime, form: DiagnosticForm, scenario: &str) -> u8 {
+    pub(crate) fn tell_fault(&self, rt: &HostRuntime, form: DiagnosticForm, scenario: &str) -> u8
+        ensures { result ≡ end_status self.now.ended self.now.unread }
+    {
+        if self.is_unread() {
+            return UNREAD;
+        }
         if let Ok(ending) = &self.ended {
-            match ending.fault {
-                Some(LineRunFault::WriteFault) if self.unread => return UNREAD,
-                Some(fault) => {
-                    let spot = spot_of(scenario, ending.lines, fault);
-                    report_error(rt, form, spot, &StopMessage(fault));
-                }
-                None => (),
+            if let Some(fault) = ending.fault {
+                let spot = spot_of(scenario, ending.lines, fault);
+                report_error(rt, form, spot, &StopMessage(fault));
             }
         }
         exit_status(&self.ended)
+    }
+
+    // Returns whether a write failed because nobody reads what is written.
+    fn is_unread(&self) -> bool
+        ensures { result ≡ (self.now.unread && write_failed self.now.ended) }
+    {
+        self.unread && self.has_failed_write()
+    }
+
+    // Returns whether a write failed.
+    fn has_failed_write(&self) -> bool
+        ensures { result ≡ write_failed self.now.ended }
+    {
+        match &self.ended {
+            Ok(ending) => matches!(ending.fault, Some(LineRunFault::WriteFault)),
+            Err(_) => false,
+        }
     }
 }

@@ -1,0 +1,15 @@
+-- The exit status of a run over files and the standard streams.
+use Rattle.std.specs.Prelude.{ℕ, ◌&&◌, Bool, false, if◌then◌else◌, Result, Ok, Err}
+use Rattle.list_parser.specs.declared.fault.BootFault.{BootFault}
+use Rattle.run_lines.specs.Faults.{is_write_fault}
+use Rattle.run_scenario.specs.ScenarioEnd.{status_of}
+use Rattle.run_scenario.specs.declared.scenario_end.ScenarioEnd.{ScenarioEnd}
+
+-- a write failed in the run
+abbrev pub write_failed : Result ScenarioEnd BootFault → Bool
+write_failed (Err fault) = false
+write_failed (Ok ending) = is_write_fault ending.fault
+
+-- the status of the run, except if a write failed because nobody reads what is written
+abbrev pub end_status : Result ScenarioEnd BootFault → Bool → ℕ
+end_status ended unread = if unread && write_failed ended then 141 else status_of ended
