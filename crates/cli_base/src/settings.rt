@@ -1,13 +1,15 @@
 //! What a command line sets for each command: the values of names, and the form of diagnostics.
-ghost use Rattle.std.specs.Prelude.{◌≡◌, IfOk};
+ghost use Rattle.std.specs.Prelude.{◌≡◌, IfOk, OnOk};
 ghost use Rattle.std.specs.Option.{option_copied, unwrap_or};
 ghost use Rattle.line_names.specs.NameTable.{nothing};
+ghost use Rattle.cli_base.specs.Given.{given_by, given_by_all, name_in, value_in};
 
 use crate::reports::{Spot, report_error};
 use crate::status::{REFUSED, made_or_status};
 use line_names::{NameTable, RoundMark, is_name};
 use line_steps::RunPosition;
 use std::alloc::{AllocError, Global};
+use text_codec::find_byte;
 use view_diagnostics::{DiagnosticForm, Subject};
 
 /// What names denote, and the form of diagnostics.
@@ -81,7 +83,9 @@ pub fn names_given(
     rt: &HostRuntime,
     arguments: &[&str],
     form: DiagnosticForm,
-) -> Result<NameTable, u8> {
+) -> Result<NameTable, u8>
+    ensures { IfOk result (λ known. known ≡ given_by_all nothing arguments.now) }
+{
     for argument in arguments {
         if !is_taken(rt, form, argument) {
             return Err(REFUSED);
@@ -91,24 +95,35 @@ pub fn names_given(
 }
 
 // What names denote by such arguments.
-fn known_by(alloc: Global, arguments: &[&str]) -> Result<NameTable, AllocError> {
+fn known_by(alloc: Global, arguments: &[&str]) -> Result<NameTable, AllocError>
+    ensures { IfOk result (λ known. known ≡ given_by_all nothing arguments.now) }
+{
     let mut known = NameTable::new(alloc);
     for argument in arguments {
-        if let (name, Some(value)) = parted(argument) {
-            known.give(name.as_bytes(), value.as_bytes())?;
-        }
+        give(&mut known, argument.as_bytes())?;
     }
     Ok(known)
 }
 
+// Gives the name in an argument its value, if the argument has one.
+fn give(known: &mut NameTable, argument: &[u8]) -> Result<(), AllocError>
+    ensures { OnOk result (known.new ≡ given_by known.old argument.now) }
+{
+    let (name, value) = parted(argument);
+    match value {
+        Some(value) => known.give(name, value),
+        None => Ok(()),
+    }
+}
+
 // Whether an argument gives a name a value; why it doesn't is printed.
 fn is_taken(rt: &HostRuntime, form: DiagnosticForm, argument: &str) -> bool {
-    let (name, value) = parted(argument);
+    let (name, value) = parted(argument.as_bytes());
     let Some(value) = value else {
         refuse(rt, form, argument, "expected NAME=VALUE");
         return false;
     };
-    if !is_name(name.as_bytes()) {
+    if !is_name(name) {
         refuse(
             rt,
             form,
@@ -117,7 +132,7 @@ fn is_taken(rt: &HostRuntime, form: DiagnosticForm, argument: &str) -> bool {
         );
         return false;
     }
-    if !value.bytes().all(may_stand) {
+    if !value.iter().all(|byte| may_stand(*byte)) {
         refuse(
             rt,
             form,
@@ -140,9 +155,12 @@ fn refuse(rt: &HostRuntime, form: DiagnosticForm, argument: &str, why: &str) {
 }
 
 // Splits an argument at its first `=` into a name, and its value if there is one.
-fn parted(argument: &str) -> (&str, Option<&str>) {
-    match argument.split_once('=') {
-        Some((name, value)) => (name, Some(value)),
+fn parted(argument: &[u8]) -> (&[u8], Option<&[u8]>)
+    ensures name { result.0.now ≡ name_in argument.now }
+    ensures value { option_copied result.1 ≡ value_in argument.now }
+{
+    match find_byte(b'=', argument) {
+        Some(place) => (&argument[..place], Some(&argument[place + 1..])),
         None => (argument, None),
     }
 }

@@ -1,5 +1,7 @@
 //! Exit statuses, and messages for results that can't be written and scenarios that can't be read.
-ghost use Rattle.std.specs.Prelude.{◌≡◌, if◌then◌else◌, nat_lt};
+ghost use Rattle.std.specs.Prelude.{◌≡◌, if◌then◌else◌, nat_lt, is_err, true, IfErr, IfOk, OnErr, Ok};
+ghost use Rattle.std.specs.Io.KnownBytes.{Appends};
+ghost use Rattle.cli_base.specs.Statuses.{HasWritten};
 
 use crate::reports::{Spot, report_error, report_write_failure};
 use run_lines::LineRunFault;
@@ -24,28 +26,34 @@ pub const OUT_OF_MEMORY: &str = "out of memory";
 pub const UNREAD: u8 = 141;
 
 /// Returns the exit status after a write: 0, 141 for a closed pipe, or 1 for another failure, which is printed.
-pub fn status_of(rt: &HostRuntime, printed: io::Result<()>) -> u8 {
+pub fn status_of(rt: &HostRuntime, printed: io::Result<()>) -> u8
+    ensures { HasWritten printed result }
+{
     match printed {
         Ok(()) => 0,
-        Err(error) => {
-            if error.kind() == ErrorKind::BrokenPipe {
-                UNREAD
-            } else {
+        Err(error) => match error.kind() {
+            ErrorKind::BrokenPipe => UNREAD,
+            _ => {
                 report_write_failure(rt, DiagnosticForm::Text, "standard output", &error);
                 UNWRITTEN
             }
-        }
+        },
     }
 }
 
 /// Prints that the host is out of memory, and returns the exit status 1.
-pub fn no_memory(rt: &HostRuntime) -> u8 {
+pub fn no_memory(rt: &HostRuntime) -> u8
+    ensures { result ≡ 1 }
+{
     report_error(rt, DiagnosticForm::Text, Spot::nowhere(), &OUT_OF_MEMORY);
     UNWRITTEN
 }
 
 /// Returns the value that was made. If the host is out of memory, prints that and returns the exit status 1.
-pub fn made_or_status<T>(rt: &HostRuntime, made: Result<T, AllocError>) -> Result<T, u8> {
+pub fn made_or_status<T>(rt: &HostRuntime, made: Result<T, AllocError>) -> Result<T, u8>
+    ensures ok { IfOk result (λ value. made ≡ Ok value) }
+    ensures err { IfErr result (λ status. (status ≡ 1) × (is_err made ≡ true)) }
+{
     match made {
         Ok(made) => Ok(made),
         Err(AllocError) => Err(no_memory(rt)),
@@ -85,9 +93,24 @@ pub fn unread_status(lines: usize) -> u8
 }
 
 /// Prints documents on standard output. Returns the exit status, also if the host is out of memory.
-pub fn print_documents(rt: &HostRuntime, documents: Result<Vec<u8>, AllocError>) -> u8 {
+pub fn print_documents(rt: &HostRuntime, documents: Result<Vec<u8>, AllocError>) -> u8
+    ensures { OnErr documents (result ≡ 1) }
+{
+    print_on(rt, &mut io::writer(rt), documents)
+}
+
+// Prints documents on a writer. The exit status is 0 only if all of them are written.
+fn print_on<W: Write>(
+    rt: &HostRuntime,
+    writer: &mut W,
+    documents: Result<Vec<u8>, AllocError>,
+) -> u8
+    ensures printed { result ≡ 0 → IfOk documents (λ text.
+        Appends (W.contents writer.old) (W.contents writer.new) text.items) }
+    ensures failed { OnErr documents (result ≡ 1) }
+{
     match documents {
-        Ok(text) => status_of(rt, io::writer(rt).write_all(text.as_slice())),
+        Ok(text) => status_of(rt, writer.write_all(text.as_slice())),
         Err(AllocError) => no_memory(rt),
     }
 }

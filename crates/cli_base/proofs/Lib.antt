@@ -1,0 +1,2 @@
+mod MadeLemmas
+mod StatusLemmas

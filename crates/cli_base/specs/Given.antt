@@ -1,0 +1,24 @@
+-- The values that arguments of `--set` give to names.
+use Rattle.std.specs.Prelude.{ℕ, ◌+◌, ◌==◌, List, [], ◌∷◌, take, drop, position, Option}
+use Rattle.std.specs.Borrow.{Bor}
+use Rattle.std.specs.Option.{option_map, option_map_or}
+use Rattle.line_names.specs.NameTable.{NameTable, with_given}
+
+-- the place of an argument's first `=`
+abbrev pub equals_in : List ℕ → Option ℕ
+equals_in argument = position (λ b. b == 61) argument
+
+-- the name is before it, and the value after it; an argument without it has no value
+abbrev pub name_in : List ℕ → List ℕ
+name_in argument = option_map_or (λ n. take n argument) (equals_in argument) argument
+
+abbrev pub value_in : List ℕ → Option (List ℕ)
+value_in argument = option_map (λ n. drop (n + 1) argument) (equals_in argument)
+
+-- names after an argument, and after these arguments in order
+abbrev pub given_by : NameTable → List ℕ → NameTable
+given_by known argument = option_map_or (λ value. with_given known (name_in argument) value) (value_in argument) known
+
+abbrev pub given_by_all : NameTable → List (Bor (List ℕ)) → NameTable
+given_by_all known [] = known
+given_by_all known (argument ∷ arguments) = given_by_all (given_by known argument.now) arguments
