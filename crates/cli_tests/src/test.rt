@@ -1,5 +1,5 @@
 //! The command `test`: scenarios are run and policies are checked as tests, and their results are printed.
-ghost use Rattle.std.specs.Prelude.{◌≡◌, ◌+◌, if◌then◌else◌, length, nat_lt, IfOk, OnOk};
+ghost use Rattle.std.specs.Prelude.{◌≡◌, ◌+◌, ◌&&◌, not, if◌then◌else◌, length, nat_lt, IfOk, OnOk};
 ghost use Rattle.view_test_report.specs.Trials.{failed_among};
 
 use crate::coverage_printer::CoveragePrinter;
@@ -10,7 +10,7 @@ use cli_base::{
     ListFaultMessage, Machine, Origin, OutputStream, ReadFailure, Settings, Spot, StartListFailure,
     StopMessage, UNWRITTEN, Warnings, error_line, fault_spot, machine_path, plain_writer,
     read_whole, report_write_failure, rounds_spot, rounds_token, spot_of, status_of, text_of,
-    warned_status, write_file,
+    write_file,
 };
 use cli_engine::Input;
 use cli_options::TestOptions;
@@ -330,12 +330,15 @@ fn warned(
     warnings: &Warnings<'_>,
     strict: bool,
     trial: TestResult,
-) -> Result<TestResult, AllocError> {
+) -> Result<TestResult, AllocError>
+    ensures { IfOk result (λ test. test.passed
+        ≡ (trial.passed && not (strict && nat_lt 0 (length warnings.now)))) }
+{
     let mut told = warnings.lines(rt)?;
     told.extend_from_slice(trial.told.as_slice())?;
     Ok(TestResult {
         name: trial.name,
-        passed: trial.passed && warned_status(strict, warnings.count(), 0) == 0,
+        passed: trial.passed && !(strict && warnings.count() > 0),
         told,
     })
 }
@@ -350,11 +353,8 @@ fn run_from(
 ) -> Result<TestResult, AllocError> {
     let mut kept = played(rt, case, origin, marks, coverings)?;
     add_end(rt, case, &kept.ended, &mut kept.text)?;
-    Ok(TestResult {
-        name: String::from_str(rt.alloc(), case.scenario)?,
-        passed: exit_status(&kept.ended) == 0,
-        told: kept.text,
-    })
+    let name = String::from_str(rt.alloc(), case.scenario)?;
+    Ok(kept.into_result(name))
 }
 
 // A run whose diagnostics are kept.
@@ -364,6 +364,22 @@ struct TestRun {
     ended: Result<ScenarioEnd, BootFault>,
     // The diagnostics of the run.
     text: Vec<u8>,
+}
+
+impl TestRun {
+    ghost use Rattle.std.specs.Prelude.{◌≡◌};
+    ghost use Rattle.cli_tests.specs.Outcome.{is_answered};
+
+    // Returns the result of the test of this name.
+    fn into_result(self, name: String) -> TestResult
+        ensures { result.passed ≡ is_answered self.ended }
+    {
+        TestResult {
+            name,
+            passed: exit_status(&self.ended) == 0,
+            told: self.text,
+        }
+    }
 }
 
 // Runs the lines of a source, and keeps its diagnostics. Adds the coverage if that is asked for.
