@@ -11,10 +11,11 @@ use Rattle.line_friendly.specs.Friendly.FriendlyLine.{Nothing, Log, Call}
 use Rattle.line_friendly.specs.declared.fault.FriendlyFault.{FriendlyFault}
 use Rattle.run_lines.specs.Machine.{accounts_for}
 use Rattle.view_accounts.specs.Accounting.{SeesAccounts, accounts_text, sessions_kept, text_kept}
+use Rattle.run_scenario.specs.Judging.{Awaited}
 use Rattle.run_scenario.specs.RunCalls.{calls_answered, text_of_calls, text_of_steps}
-use Rattle.run_scenario.specs.ScenarioRuns.{RunsAll}
+use Rattle.run_scenario.specs.ScenarioRuns.{CountsErrors, RunsAll, tally}
 use Rattle.run_scenario.specs.LineSteps.{LineStep, calls_in, turns_of}
-use Rattle.run_scenario.specs.Writes.{Closes, IsRunFrom}
+use Rattle.run_scenario.specs.Writes.{Closes, IsRunFrom, start_at}
 use Rattle.view_accounts.specs.declared.accounting.Accounting.{Accounting}
 use Rattle.run_scenario.specs.declared.scenario_end.ScenarioEnd.{ScenarioEnd}
 use Rattle.run_lines.specs.declared.line_run_fault.LineRunFault.{LineRunFault}
@@ -22,9 +23,9 @@ use Rattle.line_steps.specs.RunPosition.{RunPosition}
 use Rattle.view_accounts.proofs.ListLemmas.{text_is}
 use Rattle.run_scenario.proofs.WriteLemmas.{closes_as, played_from, silent_turns}
 
-pub accounts_played : (watch : Accounting) (listed : Listed) {first : RunPosition} {start last : World} {input rest w w' w'' : Option (List ℕ)} {failed : Bool} (played ended : ScenarioEnd) → start.entries ≡ entries_of (start_list_of listed) →
-    RunsAll (λ _ _ _. []) true (SeesAccounts watch listed start) None first played.fault played.lines start last [] input rest failed w w' → Closes played ended w' w'' (text_kept watch listed last) →
-    IsRunFrom (turns_of None start first) (λ _. []) (λ turns. accounts_text (sessions_kept watch) listed start (calls_answered None turns)) true ended input rest failed w w''
+pub accounts_played : (watch : Accounting) (listed : Listed) {first : RunPosition} {start last : World} {awaited : Awaited} {input rest w w' w'' : Option (List ℕ)} {failed : Bool} (played ended : ScenarioEnd) → start.entries ≡ entries_of (start_list_of listed) →
+    RunsAll (λ _ _ _. []) true (SeesAccounts watch listed start) (CountsErrors None start (tally 0 awaited) played.complaints) None first played.fault played.lines start last [] input rest failed w w' → Closes played ended w' w'' (text_kept watch listed last) →
+    IsRunFrom (start_at None start first awaited) (λ _. []) (λ turns. accounts_text (sessions_kept watch) listed start (calls_answered None turns)) true ended input rest failed w w''
 accounts_played watch listed {first = first} {start = start} {last = last} {w' = w'} {w'' = w''} played ended entries plays closes =
     played_from played ended plays (silent_turns None [] turns) (closes_as played ended w' w'' _ _ (same played.fault plays.sees) closes)
   where

@@ -6,12 +6,13 @@ use Rattle.run_exchanges.specs.Exchange.{Exchange}
 use Rattle.run_lines.specs.Machine.{world_of}
 use Rattle.run_lines.specs.declared.line_answer.LineAnswer.{LineAnswer}
 use Rattle.view_runs.specs.Answers.{IsAnsweredFrom, exchange_in, exchanges, exchanges_after}
+use Rattle.run_scenario.specs.Judging.{Awaited}
 use Rattle.run_scenario.specs.RunCalls.{calls_answered}
-use Rattle.run_scenario.specs.ScenarioRuns.{RunsAll}
+use Rattle.run_scenario.specs.ScenarioRuns.{CountsErrors, RunsAll, tally}
 use Rattle.view_runs.specs.Tracing.{call_text}
-use Rattle.run_scenario.specs.LineSteps.{turns_of}
+use Rattle.run_scenario.specs.LineSteps.{LineStep, turns_of}
 use Rattle.run_scenario.specs.Observation.{IsAnsweredAfter}
-use Rattle.run_scenario.specs.Writes.{IsRunFrom, turns_on}
+use Rattle.run_scenario.specs.Writes.{IsRunFrom, start_at, turns_on}
 use Rattle.run_scenario.specs.declared.scenario_end.ScenarioEnd.{ScenarioEnd}
 use Rattle.line_steps.specs.RunPosition.{RunPosition}
 use Rattle.run_scenario.proofs.WriteLemmas.{closes_alone, played_from, silent_turns}
@@ -34,8 +35,8 @@ sees_more {start} {earlier} {call} {core} {answer} told kept sees is more_is =
     ∙ sym (exchanges_more start [] earlier call)
 
 -- what a play observed
-pub answered_from : {first : RunPosition} {start last : World} {kept found : List Exchange} {front : List ℕ} {input rest w w' : Option (List ℕ)} {failed : Bool} {tells : List (List ℕ) → ℕ → List ℕ → List ℕ} (ending : ScenarioEnd) → found ≡ kept →
-    RunsAll tells true (λ calls. kept ≡ exchanges start calls) None first ending.fault ending.lines start last front input rest failed w w' →
+pub answered_from : {first : RunPosition} {start last : World} {kept found : List Exchange} {front : List ℕ} {input rest w w' : Option (List ℕ)} {failed : Bool} {tells : List (List ℕ) → ℕ → List ℕ → List ℕ} {counts : List LineStep → Type 0} (ending : ScenarioEnd) → found ≡ kept →
+    RunsAll tells true (λ calls. kept ≡ exchanges start calls) counts None first ending.fault ending.lines start last front input rest failed w w' →
     IsAnsweredFrom (turns_of None start first) start ending found input rest failed
 answered_from {first = first} {start = start} ending is plays = record {
   given = plays.given;
@@ -45,9 +46,9 @@ answered_from {first = first} {start = start} ending is plays = record {
 }
 
 -- and it wrote nothing
-pub silent_played : {first : RunPosition} {seen : List (List ℕ) → Type 0} {start last : World} {input rest w w' : Option (List ℕ)} {failed : Bool} (ending : ScenarioEnd) →
-    RunsAll (λ _ _ _. []) true seen None first ending.fault ending.lines start last [] input rest failed w w' →
-    IsRunFrom (turns_of None start first) (λ _. []) (λ _. []) true ending input rest failed w w'
+pub silent_played : {first : RunPosition} {seen : List (List ℕ) → Type 0} {start last : World} {awaited : Awaited} {input rest w w' : Option (List ℕ)} {failed : Bool} (ending : ScenarioEnd) →
+    RunsAll (λ _ _ _. []) true seen (CountsErrors None start (tally 0 awaited) ending.complaints) None first ending.fault ending.lines start last [] input rest failed w w' →
+    IsRunFrom (start_at None start first awaited) (λ _. []) (λ _. []) true ending input rest failed w w'
 silent_played {first = first} {start = start} {w' = w'} ending plays =
     played_from ending ending plays (silent_turns None [] (turns_of None start first plays.given)) (closes_alone ending w')
 

@@ -10,22 +10,23 @@ use Rattle.line_steps.specs.ResolvedLines.{ResolvedLine}
 use Rattle.line_steps.specs.ResolvedLines.ResolvedLine.{TooLong, Skipped, BadName, Follow, Misplaced, Nothing, Log, Call, BadLine}
 use Rattle.run_lines.specs.Machine.{accounts_for}
 use Rattle.view_runs.specs.Alone.{SeesAlone, alone_sum, alone_call_text}
+use Rattle.run_scenario.specs.Judging.{Awaited}
 use Rattle.run_scenario.specs.RunCalls.{calls_answered, calls_of_steps, text_of_steps}
-use Rattle.run_scenario.specs.ScenarioRuns.{RunsAll}
+use Rattle.run_scenario.specs.ScenarioRuns.{CountsErrors, RunsAll, tally}
 use Rattle.view_runs.specs.Tracing.{TraceRow, trace_call_text}
-use Rattle.run_scenario.specs.LineSteps.{LineStep, calls_in, left_behind, next_stand, turns_of}
-use Rattle.run_scenario.specs.Writes.{Closes, IsRunFrom, WritesAfter}
+use Rattle.run_scenario.specs.LineSteps.{LineStep, calls_in, turns_of}
+use Rattle.run_scenario.specs.Writes.{Closes, IsRunFrom, WritesAfter, start_at}
 use Rattle.view_runs.specs.Transcripts.{list_behind, text_of_run_call, shown_of}
 use Rattle.run_scenario.specs.declared.scenario_end.ScenarioEnd.{ScenarioEnd}
 use Rattle.run_lines.specs.declared.line_run_fault.LineRunFault.{LineRunFault}
 use Rattle.line_steps.specs.RunPosition.{RunPosition}
-use Rattle.run_scenario.proofs.PlayedLemmas.{told_as_engine}
+use Rattle.run_scenario.proofs.PlayedLemmas.{told_as_engine, turns_length}
 use Rattle.run_scenario.proofs.WriteLemmas.{closes_alone, closes_as, played_from}
 
 -- what is told, and the account list behind it where it is asked for
-pub run_played : (numbers accounts : Bool) (only : Option (List ℕ)) (listed : Listed) {first : RunPosition} {seen : List (List ℕ) → Type 0} {start last : World} {input rest w w' w'' : Option (List ℕ)} {failed : Bool} (played ended : ScenarioEnd) →
-    RunsAll (text_of_run_call numbers start) false seen only first played.fault played.lines start last [] input rest failed w w' → Closes played ended w' w'' (accounts_for accounts listed last) →
-    IsRunFrom (turns_of only start first) (shown_of numbers only start) (list_behind accounts only listed start) false ended input rest failed w w''
+pub run_played : (numbers accounts : Bool) (only : Option (List ℕ)) (listed : Listed) {first : RunPosition} {seen : List (List ℕ) → Type 0} {start last : World} {awaited : Awaited} {input rest w w' w'' : Option (List ℕ)} {failed : Bool} (played ended : ScenarioEnd) →
+    RunsAll (text_of_run_call numbers start) false seen (CountsErrors only start (tally 0 awaited) played.complaints) only first played.fault played.lines start last [] input rest failed w w' → Closes played ended w' w'' (accounts_for accounts listed last) →
+    IsRunFrom (start_at only start first awaited) (shown_of numbers only start) (list_behind accounts only listed start) false ended input rest failed w w''
 run_played true accounts only listed {w' = w'} {w'' = w''} played ended plays closes =
     played_from played ended plays refl (subst (λ world. Closes played ended w' w'' (accounts_for accounts listed world)) plays.world closes)
 run_played false accounts only listed {first = first} {start = start} {w' = w'} {w'' = w''} played ended plays closes =
@@ -33,9 +34,9 @@ run_played false accounts only listed {first = first} {start = start} {w' = w'} 
     (subst (λ world. Closes played ended w' w'' (accounts_for accounts listed world)) plays.world closes)
 
 -- the rows of a trace, after the text before them
-pub trace_played : (front : List ℕ) (row_text : TraceRow → List ℕ) (takes : Bool) {first : RunPosition} {seen : List (List ℕ) → Type 0} {start last : World} {input rest w w' : Option (List ℕ)} {failed : Bool} (ending : ScenarioEnd) {header : List ℕ} → header ≡ front →
-    RunsAll (trace_call_text row_text start) takes seen None first ending.fault ending.lines start last header input rest failed w w' →
-    IsRunFrom (turns_of None start first) (λ turns. front ++ text_of_steps (trace_call_text row_text start) None [] turns) (λ _. []) takes ending input rest failed w w'
+pub trace_played : (front : List ℕ) (row_text : TraceRow → List ℕ) (takes : Bool) {first : RunPosition} {seen : List (List ℕ) → Type 0} {start last : World} {awaited : Awaited} {input rest w w' : Option (List ℕ)} {failed : Bool} (ending : ScenarioEnd) {header : List ℕ} → header ≡ front →
+    RunsAll (trace_call_text row_text start) takes seen (CountsErrors None start (tally 0 awaited) ending.complaints) None first ending.fault ending.lines start last header input rest failed w w' →
+    IsRunFrom (start_at None start first awaited) (λ turns. front ++ text_of_steps (trace_call_text row_text start) None [] turns) (λ _. []) takes ending input rest failed w w'
 trace_played front row_text takes {first = first} {start = start} {w' = w'} ending is plays =
     played_from ending ending plays (ap (λ text. text ++ text_of_steps (trace_call_text row_text start) None [] (turns_of None start first plays.given)) is) (closes_alone ending w')
 
@@ -63,18 +64,14 @@ few_calls : (turns : List LineStep) → length (calls_of_steps turns) ≤ length
 few_calls [] = omega arith
 few_calls (turn ∷ turns) = omega (arith, few_calls turns, one_in turn.resolved, length-append (calls_in turn.resolved) (calls_of_steps turns))
 
-few_turns : (only : Option (List ℕ)) (world : World) (stand : RunPosition) (lines : List (List ℕ)) → length (turns_of only world stand lines) ≡ length lines
-few_turns only world stand [] = refl
-few_turns only world stand (line ∷ lines) = omega (arith, few_turns only (left_behind only world stand line) (next_stand only world stand line) lines)
-
 pub few_of_name : (name : List ℕ) (world : World) (stand : RunPosition) (lines : List (List ℕ)) → length (calls_answered (Some name) (turns_of None world stand lines)) ≤ length lines
 few_of_name name world stand lines =
-    omega (arith, filter_few (is_line_of name) (calls_of_steps (turns_of None world stand lines)), few_calls (turns_of None world stand lines), few_turns None world stand lines)
+    omega (arith, filter_few (is_line_of name) (calls_of_steps (turns_of None world stand lines)), few_calls (turns_of None world stand lines), turns_length None world stand lines)
 
-pub alone_played : (name : List ℕ) {first : RunPosition} {start last core : World} {count : ℕ} {difference : Option ℕ} {input rest w w' w'' : Option (List ℕ)} {failed : Bool} (played ended : ScenarioEnd) → played.lines ≤ 1000000 →
-    RunsAll (alone_call_text name start) false (SeesAlone name core count difference start) None first played.fault played.lines start last [] input rest failed w w' →
+pub alone_played : (name : List ℕ) {first : RunPosition} {start last core : World} {awaited : Awaited} {count : ℕ} {difference : Option ℕ} {input rest w w' w'' : Option (List ℕ)} {failed : Bool} (played ended : ScenarioEnd) → played.lines ≤ 1000000 →
+    RunsAll (alone_call_text name start) false (SeesAlone name core count difference start) (CountsErrors None start (tally 0 awaited) played.complaints) None first played.fault played.lines start last [] input rest failed w w' →
     Closes played ended w' w'' (alone_sum name count) →
-    IsRunFrom (turns_of None start first) (λ turns. text_of_steps (alone_call_text name start) None [] turns) (λ turns. alone_sum name (length (calls_answered (Some name) turns))) false ended input rest failed w w''
+    IsRunFrom (start_at None start first awaited) (λ turns. text_of_steps (alone_call_text name start) None [] turns) (λ turns. alone_sum name (length (calls_answered (Some name) turns))) false ended input rest failed w w''
 alone_played name {first = first} {start = start} {core = core} {count = count} {difference = difference} {w' = w'} {w'' = w''} played ended few plays closes =
     played_from played ended plays refl (closes_as played ended w' w'' _ _ (same played.fault plays.counted plays.sees) closes)
   where

@@ -16,7 +16,7 @@ ghost use Rattle.view_runs.specs.Alone.{AreAlike, SeesAlone, alone_behind, alone
 ghost use Rattle.run_scenario.specs.RunCalls.{calls_answered, text_of_steps};
 ghost use Rattle.run_scenario.specs.Texts.{in_brackets, line_text};
 ghost use Rattle.run_scenario.specs.LineSteps.{turns_of};
-ghost use Rattle.run_scenario.specs.Writes.{Closes, IsRunFrom, IsWrittenBy, turns_on};
+ghost use Rattle.run_scenario.specs.Writes.{Closes, IsRunFrom, IsWrittenBy, start_at, start_on};
 ghost use Rattle.run_lines.specs.declared.line_run_fault.LineRunFault.TheVariants.{NoMemory as NoRoom};
 
 use crate::byte_text::{put_text_after, shown_in};
@@ -283,13 +283,13 @@ pub fn alone<S: Source, K: Sink, E: Sink>(
 ) -> Result<AloneComparison, BootFault>
     ensures played { IfOk result (λ compared. fault_before (S.has_failed reader.old)
         (K.has_failed writer.old || E.has_failed complaints.old) ≡ None →
-        IsRunFrom (turns_on None play.entry.start play.entry.list.now)
+        IsRunFrom (start_on None play.entry.start play.entry.list.now)
         (alone_text name.now play.entry.list.now) (alone_behind name.now) false compared.ending
         (S.remaining reader.old) (S.remaining reader.new)
         (S.has_failed reader.new) (K.contents writer.old) (K.contents writer.new)) }
     ensures summed { IfOk result (λ compared. fault_before (S.has_failed reader.old)
         (K.has_failed writer.old || E.has_failed complaints.old) ≡ None →
-        IsRunFrom (turns_on None play.entry.start play.entry.list.now)
+        IsRunFrom (start_on None play.entry.start play.entry.list.now)
         (alone_text name.now play.entry.list.now) (λ _. alone_sum name.now compared.lines)
         false compared.ending
         (S.remaining reader.old) (S.remaining reader.new)
@@ -347,7 +347,7 @@ fn run_alone<'a, R: Router + Drop, Q: Router + Drop, S: Source, K: Sink, E: Sink
     requires same { machines.alone ≡ machines.whole }
     ensures played { fault_before (S.has_failed reader.old)
         (K.has_failed writer.old || E.has_failed complaints.old) ≡ None →
-        IsRunFrom (turns_of None machines.whole notes.old.stand)
+        IsRunFrom (start_at None machines.whole notes.old.stand notes.old.critic.expected)
         (λ turns. text_of_steps (alone_call_text named.now.name.now machines.whole) None [] turns)
         (λ turns. alone_sum named.now.name.now
         (length (calls_answered (Some named.now.name.now) turns)))
@@ -355,7 +355,7 @@ fn run_alone<'a, R: Router + Drop, Q: Router + Drop, S: Source, K: Sink, E: Sink
         (S.has_failed reader.new) (K.contents writer.old) (K.contents writer.new) }
     ensures summed { fault_before (S.has_failed reader.old)
         (K.has_failed writer.old || E.has_failed complaints.old) ≡ None →
-        IsRunFrom (turns_of None machines.whole notes.old.stand)
+        IsRunFrom (start_at None machines.whole notes.old.stand notes.old.critic.expected)
         (λ turns. text_of_steps (alone_call_text named.now.name.now machines.whole) None [] turns)
         (λ _. alone_sum named.now.name.now result.lines)
         false result.ending (S.remaining reader.old) (S.remaining reader.new)

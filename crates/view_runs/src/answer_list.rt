@@ -13,7 +13,7 @@ ghost use Rattle.view_runs.specs.Answers.{IsAnsweredFrom, exchanges};
 ghost use Rattle.run_scenario.specs.Faults.{fault_before, unplayed};
 ghost use Rattle.view_runs.specs.Tracing.{call_text};
 ghost use Rattle.run_scenario.specs.LineSteps.{turns_of};
-ghost use Rattle.run_scenario.specs.Writes.{IsRunFrom, nothing_told, turns_on};
+ghost use Rattle.run_scenario.specs.Writes.{IsRunFrom, nothing_told, start_at, start_on, turns_on};
 
 use core_calls::Answer;
 use init_core::boot;
@@ -116,7 +116,7 @@ pub fn answers<S: Source, K: Sink, E: Sink>(
 ) -> Result<AnswerList, BootFault>
     ensures played { IfOk result (λ answers. fault_before (S.has_failed reader.old)
         (K.has_failed writer.old || E.has_failed complaints.old) ≡ None →
-        IsRunFrom (turns_on None play.entry.start play.entry.list.now) nothing_told
+        IsRunFrom (start_on None play.entry.start play.entry.list.now) nothing_told
         nothing_told true answers.ending
         (S.remaining reader.old) (S.remaining reader.new)
         (S.has_failed reader.new) (K.contents writer.old) (K.contents writer.new)) }
@@ -173,7 +173,8 @@ fn answers_on<R: Router + Drop, S: Source, K: Sink, E: Sink>(
     requires all { stage.run.only ≡ None }
     ensures played { fault_before (S.has_failed reader.old)
         (K.has_failed writer.old || E.has_failed complaints.old) ≡ None →
-        IsRunFrom (turns_of None stage.entry.core stage.entry.notes.stand) (λ _. []) (λ _. [])
+        IsRunFrom (start_at None stage.entry.core stage.entry.notes.stand
+        stage.entry.notes.critic.expected) (λ _. []) (λ _. [])
         true result.ending (S.remaining reader.old) (S.remaining reader.new)
         (S.has_failed reader.new) (K.contents writer.old) (K.contents writer.new) }
     ensures answered { fault_before (S.has_failed reader.old)

@@ -10,7 +10,7 @@ ghost use Rattle.run_lines.specs.Faults.{is_write_fault};
 ghost use Rattle.run_scenario.specs.RunCalls.{text_of_steps};
 ghost use Rattle.view_runs.specs.Tracing.{trace_call_text, trace_text};
 ghost use Rattle.run_scenario.specs.LineSteps.{turns_of};
-ghost use Rattle.run_scenario.specs.Writes.{IsRunFrom, nothing_told, turns_on};
+ghost use Rattle.run_scenario.specs.Writes.{IsRunFrom, nothing_told, start_at, start_on};
 ghost use Rattle.run_lines.specs.declared.line_run_fault.LineRunFault.TheVariants.{NoMemory as NoRoom};
 
 use crate::row_format::RowFormat;
@@ -68,7 +68,7 @@ pub fn trace<F: RowFormat + Drop, S: Source, K: Sink, E: Sink>(
 ) -> Result<ScenarioEnd, BootFault>
     ensures played { IfOk result (λ ending. fault_before (S.has_failed reader.old)
         (K.has_failed writer.old || E.has_failed complaints.old) ≡ None →
-        IsRunFrom (turns_on None play.entry.start play.entry.list.now)
+        IsRunFrom (start_on None play.entry.start play.entry.list.now)
         (trace_text F.front F.row_text play.entry.list.now) nothing_told F.takes ending
         (S.remaining reader.old) (S.remaining reader.new)
         (S.has_failed reader.new) (K.contents writer.old) (K.contents writer.new)) }
@@ -120,7 +120,8 @@ fn trace_on<R: Router + Drop, F: RowFormat + Drop, S: Source, K: Sink, E: Sink>(
     requires all { stage.run.only ≡ None }
     ensures played { fault_before (S.has_failed reader.old)
         (K.has_failed writer.old || E.has_failed complaints.old) ≡ None →
-        IsRunFrom (turns_of None stage.entry.core stage.entry.notes.stand)
+        IsRunFrom (start_at None stage.entry.core stage.entry.notes.stand
+        stage.entry.notes.critic.expected)
         (λ turns. F.front
         ++ text_of_steps (trace_call_text F.row_text stage.entry.core) None [] turns)
         (λ _. [])

@@ -12,7 +12,7 @@ ghost use Rattle.run_lines.specs.Causes.{HasCause};
 ghost use Rattle.run_scenario.specs.Faults.{fault_before, unplayed};
 ghost use Rattle.run_lines.specs.Faults.{is_write_fault};
 ghost use Rattle.run_scenario.specs.LineSteps.{turns_of};
-ghost use Rattle.run_scenario.specs.Writes.{Closes, IsRunFrom, turns_on};
+ghost use Rattle.run_scenario.specs.Writes.{Closes, IsRunFrom, start_at, start_on};
 ghost use Rattle.view_runs.specs.Transcripts.{list_behind, number_before, run_behind, text_of_run_call, text_of_run, shown_of};
 ghost use Rattle.run_lines.specs.declared.line_run_fault.LineRunFault.TheVariants.{NoMemory as NoRoom};
 
@@ -124,7 +124,7 @@ pub fn run<S: Source, K: Sink, E: Sink>(
     ensures played { IfOk result (λ ending. fault_before (S.has_failed reader.old)
         (K.has_failed writer.old || E.has_failed complaints.old) ≡ None →
         IsRunFrom
-        (turns_on (option_copied showing.entry.only) play.entry.start play.entry.list.now)
+        (start_on (option_copied showing.entry.only) play.entry.start play.entry.list.now)
         (text_of_run showing.entry play.entry.list.now) (run_behind showing.entry play.entry.list.now)
         false ending
         (S.remaining reader.old) (S.remaining reader.new)
@@ -176,8 +176,8 @@ fn run_on<R: Router + Drop, S: Source, K: Sink, E: Sink>(
     requires listed { stage.core.entries ≡ entries_of (start_list_of stage.run.list.now) }
     ensures played { fault_before (S.has_failed reader.old)
         (K.has_failed writer.old || E.has_failed complaints.old) ≡ None →
-        IsRunFrom (turns_of (option_copied stage.entry.run.only) stage.entry.core
-        stage.entry.notes.stand)
+        IsRunFrom (start_at (option_copied stage.entry.run.only) stage.entry.core
+        stage.entry.notes.stand stage.entry.notes.critic.expected)
         (shown_of showing.entry.numbers (option_copied stage.entry.run.only) stage.entry.core)
         (list_behind showing.entry.accounts (option_copied stage.entry.run.only)
         stage.entry.run.list.now stage.entry.core)

@@ -10,7 +10,7 @@ returns-clause-played g c = λ works.
     let played = c.run_accounting.ensures.played works in (
       played.0,
       played_on c.args.play.list.now None c.args.play.start (λ _ _. []) (λ start turns. accounts_text played.0 c.args.play.list.now start (calls_answered None turns)) c.run_accounting.result.ending _ _ _ _ _
-          c.in_ok-core.ensures.started c.new-notes.ensures played.1,
+          c.in_ok-core.ensures.started c.new-notes.ensures.stands c.new-notes.ensures.expects played.1,
     )
 
 pub run_accounting-requires-clause-sees : goal.run_accounting-requires-clause-sees

@@ -9,12 +9,12 @@ use Rattle.view_runs.proofs.alone_run.alone.Goals as goal
 pub returns-clause-played : goal.returns-clause-played
 returns-clause-played g c = λ works.
     played_on c.args.play.list.now None c.args.play.start (λ start turns. text_of_steps (alone_call_text c.args.name.now start) None [] turns) (λ _ turns. alone_sum c.args.name.now (length (calls_answered (Some c.args.name.now) turns))) c.run_alone.result.ending _ _ _ _ _
-    c.in_ok-whole.ensures.started c.new-notes.ensures (rw c.new-named.ensures.name at (c.run_alone.ensures.played works))
+    c.in_ok-whole.ensures.started c.new-notes.ensures.stands c.new-notes.ensures.expects (rw c.new-named.ensures.name at (c.run_alone.ensures.played works))
 
 pub returns-clause-summed : goal.returns-clause-summed
 returns-clause-summed g c = λ works.
     played_on c.args.play.list.now None c.args.play.start (λ start turns. text_of_steps (alone_call_text c.args.name.now start) None [] turns) (λ _ _. alone_sum c.args.name.now c.run_alone.result.lines) c.run_alone.result.ending _ _ _ _ _
-    c.in_ok-whole.ensures.started c.new-notes.ensures (rw c.new-named.ensures.name at (c.run_alone.ensures.summed works))
+    c.in_ok-whole.ensures.started c.new-notes.ensures.stands c.new-notes.ensures.expects (rw c.new-named.ensures.name at (c.run_alone.ensures.summed works))
 
 pub returns-clause-alike : goal.returns-clause-alike
 returns-clause-alike g c = are_alike c.args.name.now
