@@ -1,18 +1,27 @@
 //! The program on its host: its arguments, the file of a start list, the standard streams and its exit status.
-ghost use Rattle.std.specs.Prelude.{◌≡◌};
+ghost use Rattle.std.specs.Prelude.{◌≡◌, is_some, IfSome, OnOk, Result};
+ghost use Rattle.std.specs.Io.KnownBytes.{Appends};
+ghost use Rattle.std.specs.Option.{option_map};
 ghost use Rattle.std.specs.Process.{exit_status as status_told};
-ghost use Rattle.cli_engine.specs.Ending.{HasResult, program_status};
+ghost use Rattle.cli_engine.specs.Ending.{EndsOn, HasResult, IsListText, program_status};
+ghost use Rattle.cli_engine.specs.Program.{AsksFor};
+ghost use Rattle.cli_engine.specs.Texts.{end_text};
+ghost use Rattle.cli_engine.specs.declared.host.ProgramEnd.TheVariants.{Ended as Ending};
+ghost use Rattle.cli_engine.specs.declared.program.Task.{Task as Tasks};
+ghost use Rattle.cli_engine.specs.declared.program.TaskFailure.{TaskFailure as Failure};
+ghost use Rattle.run_engine.specs.declared.engine.RunSummary.{RunSummary as Summary};
 
 use crate::config::{ConfigFault, read_config_at};
 use crate::options::{Options, words_given};
 use crate::program::{Task, TaskFailure, boot_and_run, exit_status, task_of};
 use clap::Error;
-use list_parser::MACHINE_A;
+use list_parser::{BootFault, MACHINE_A};
 use run_engine::RunSummary;
 use run_lines::{Input, MAX_LINES, Output};
 use std::convert::AsStr;
+use std::fmt::Display;
 use std::io;
-use std::io::Eprint;
+use std::io::{Eprint, ErrorKind, Write};
 use std::process::{ExitCode, Termination};
 use std::rt::{Env, Files};
 
@@ -51,18 +60,51 @@ pub fn run_program<R: Env + Files + io::Input + Print + Eprint + AllocGlobal>(
         Ok(words) => run_words(rt, words.as_slice()),
         Err(error) => ProgramEnd::Refused(error),
     };
-    tell(rt, &end);
+    let _ = tell(&end, &mut io::writer(rt), &mut ErrorPrinter { to: rt });
     end
 }
 
-// Prints why no task was started, the help, or why a task was not done to its end.
-fn tell<R: Print + Eprint>(rt: &R, end: &ProgramEnd) {
-    let _ = match end {
-        ProgramEnd::Refused(error) => error.print(rt),
-        ProgramEnd::NoConfig(fault) => eprintln!(rt; "boot: {fault}"),
-        ProgramEnd::Ended(Err(failure)) => eprintln!(rt; "{failure}"),
+// Prints why no task was started, the help, or why a task was not done to its end: the help on the first writer, all else on the
+// second one. The error is a failed write.
+fn tell<O: Write, E: Write>(end: &ProgramEnd, output: &mut O, errors: &mut E) -> io::Result<()>
+    ensures fault { OnOk result (IfSome (end_text ⟦<BootFault as Display>⟧.output end.now)
+        (Appends (E.contents errors.old) (E.contents errors.new))) }
+    ensures quiet { (ended : Result Summary Failure) → end.now ≡ Ending ended → output.new ≡ output.old }
+{
+    match end {
+        ProgramEnd::Refused(error) => {
+            if error.use_stderr() {
+                write!(errors, "{error}")
+            } else {
+                write!(output, "{error}")
+            }
+        }
+        ProgramEnd::NoConfig(fault) => errors.writeln(format_args!("boot: {fault}")),
+        ProgramEnd::Ended(Err(failure)) => errors.writeln(failure),
         ProgramEnd::Ended(Ok(_)) => Ok(()),
-    };
+    }
+}
+
+// Standard error as a writer of text.
+#[derive(Drop)]
+struct ErrorPrinter<'a, R> {
+    to: &'a R,
+}
+
+impl<R: Eprint> Write for ErrorPrinter<'_, R> {
+    fn write(&mut self, buffer: &[u8]) -> io::Result<usize> {
+        match str::from_utf8(buffer) {
+            Ok(text) => {
+                self.to.eprint(text)?;
+                Ok(buffer.len())
+            }
+            Err(_) => Err(io::Error::from(ErrorKind::InvalidData)),
+        }
+    }
+
+    fn flush(&mut self) -> io::Result<()> {
+        Ok(())
+    }
 }
 
 // Does the task of these arguments. The first argument is the program's own name.
@@ -80,7 +122,13 @@ fn run_words<R: Files + io::Input + Print + AllocGlobal, S: AsStr>(
 fn run_options<R: Files + io::Input + Print + AllocGlobal>(
     rt: &R,
     options: &Options<'_>,
-) -> ProgramEnd {
+) -> ProgramEnd
+    ensures { (asked : Tasks)
+        × AsksFor options.now.check options.now.accounts (option_map (λ name. name.now) options.now.only) asked
+        × EndsOn (IsListText R.File.remaining MACHINE_A.now (is_some options.now.path)) (is_some options.now.path)
+        (λ ended text. (reader : R.Reader)
+        × HasResult ended asked text MAX_LINES (R.Reader.remaining reader)) result }
+{
     let task = task_of(options);
     match options.path() {
         Some(path) => match read_config_at(rt, path) {
