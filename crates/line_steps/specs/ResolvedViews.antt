@@ -1,5 +1,5 @@
 -- The values that contracts see for resolved lines.
-use Rattle.std.specs.Prelude.{⊤}
+use Rattle.std.specs.Prelude.{⊤, ℕ}
 use Rattle.std.specs.Option.{option_copied}
 use Rattle.line_grammar.specs.Read.{IsReadAs}
 use Rattle.line_names.specs.Views.{directive_view, filled_view}
@@ -8,6 +8,8 @@ use Rattle.line_steps.specs.ResolvedLines.ResolvedLine.{TooLong, Skipped, BadNam
 use Rattle.line_steps.specs.declared.resolved_line.ResolvedLine.{ResolvedLine as Resolved}
 use Rattle.line_steps.specs.declared.resolved_line.ResolvedLine.TheVariants as line
 use Rattle.line_steps.specs.declared.resolved_line.ScenarioCall.{ScenarioCall}
+use Rattle.line_steps.specs.declared.unread_line.UnreadReason.{UnreadReason}
+use Rattle.line_steps.specs.declared.unread_line.UnreadReason.TheVariants as unread
 
 abbrev pub call_view : ScenarioCall → ResolvedLine
 call_view call = Call (filled_view call.filled) call.line.now (option_copied call.reply)
@@ -27,3 +29,10 @@ resolved_view (line.BadLine fault) = BadLine fault
 abbrev pub HasParsedCall : Resolved → Type 0
 HasParsedCall (line.Call call) = IsReadAs call.line.now call.call
 HasParsedCall resolved = ⊤
+
+-- the column at which a line can't be parsed, from 1 on: its fault's, or that of its first byte if it is too long
+abbrev pub reason_column : UnreadReason → ℕ
+reason_column unread.TooLong = 1
+reason_column (unread.Fault fault) = fault.column
+reason_column (unread.Name fault) = fault.column
+reason_column (unread.Misplaced column why) = column

@@ -23,8 +23,13 @@ pub enum UnreadReason {
 }
 
 impl UnreadReason {
+    ghost use Rattle.std.specs.Prelude.{◌≡◌};
+    ghost use Rattle.line_steps.specs.ResolvedViews.{reason_column};
+
     /// Returns the column of the fault in its line, from 1 on.
-    pub fn column(self) -> usize {
+    pub fn column(self) -> usize
+        ensures { result ≡ reason_column self }
+    {
         match self {
             UnreadReason::TooLong => 1,
             UnreadReason::Fault(fault) => fault.column,
