@@ -9,3 +9,4 @@ pub mod Spare
 pub mod Unread
 pub mod Views
 pub mod RuleTargets
+pub mod Phrases

@@ -1,8 +1,10 @@
 //! Findings: parts of a start list that are probably not intended.
-ghost use Rattle.std.specs.Prelude.{◌≡◌, IfOk};
+ghost use Rattle.std.specs.Prelude.{◌≡◌, IfOk, Some};
+ghost use Rattle.std.specs.Option.{option_copied};
+ghost use Rattle.list_findings.specs.Phrases.{missing_text, near_text, phrase_of, phrase_text, value_at, value_text};
 
 use list_parser::Name;
-use list_parts::{BudgetAmount, ListPart, show_escaped, show_quoted, show_within};
+use list_parts::{BudgetAmount, ListPart, show_escaped, show_quoted};
 use std::alloc::{AllocError, Global};
 use std::fmt;
 use std::marker::Model;
@@ -120,17 +122,21 @@ pub enum Remark {
 }
 
 impl fmt::Display for Remark {
+    ghost output = { λ remark. phrase_text (phrase_of remark) };
+
     fn fmt<W: fmt::Write>(&self, f: &mut fmt::Formatter<W>) -> fmt::Result {
         f.write_str(self.before())?;
-        self.show_value(f)?;
+        write!(f, "{}", self.value())?;
         f.write_str(self.after())?;
-        show_near(f, self.near())
+        write!(f, "{}", NearName(self.near()))
     }
 }
 
 impl Remark {
     // The text before the value.
-    fn before(&self) -> &'static str {
+    fn before(&self) -> &'static str
+        ensures { result.now ≡ (phrase_of self.now).before }
+    {
         match self {
             Remark::GivenTwice(_) => "duplicate member `",
             Remark::Unread(_, _) => "unknown member `",
@@ -140,8 +146,9 @@ impl Remark {
             Remark::SeveralProviders(_) => "any-child: several components provide `",
             Remark::Hidden(_) => "unreachable rule: rule [",
             Remark::OtherCase(_, _) => "service: unknown service `",
-            Remark::Idle =>
-                "unused rule: it decides no session request of a script, with any label",
+            Remark::Idle => {
+                "unused rule: it decides no session request of a script, with any label"
+            }
             Remark::NoLabel(_) => "unreachable rule: ",
             Remark::Arrow => {
                 "unreachable rule: label: without a label this list sees the names alone, without the arrow"
@@ -159,30 +166,38 @@ impl Remark {
     }
 
     // The value, if there is one.
-    fn show_value<W: fmt::Write>(&self, f: &mut fmt::Formatter<W>) -> fmt::Result {
+    fn value(&self) -> RemarkValue<'_>
+        ensures { value_at result ≡ (phrase_of self.now).value }
+    {
         match self {
             Remark::GivenTwice(member) | Remark::Unread(member, _) => {
-                show_escaped(f, member.as_str())
+                RemarkValue::Escaped(member.as_str())
             }
             Remark::NoChild(name, _)
             | Remark::NoProvider(name)
             | Remark::SeveralProviders(name)
-            | Remark::OtherCase(name, _) => f.write_str(name.as_str()),
+            | Remark::OtherCase(name, _) => RemarkValue::Name(name.as_str()),
             Remark::NotProvided(child, service) => {
-                write!(f, "{child}` doesn't provide `{service}")
+                RemarkValue::Service(child.as_str(), service.as_str())
             }
-            Remark::LetsIn(front, name) => show_let_in(f, front, name),
-            Remark::NoLabel(known) | Remark::NotProviding(known) => f.write_str(known.as_str()),
-            Remark::Hidden(rule) => show_within(f, "", rule, ""),
-            Remark::LowRam(own, kept) => show_within(f, "", &BudgetAmount::ram(*own, *kept), ""),
-            Remark::LowCaps(own, kept) => show_within(f, "", &BudgetAmount::caps(*own, *kept), ""),
-            Remark::PartPages(ram) | Remark::PartReserve(ram) => show_within(f, "", ram, ""),
-            Remark::Idle | Remark::Arrow | Remark::ChosenEnd | Remark::Unreached => Ok(()),
+            Remark::LetsIn(front, name) => RemarkValue::Prefix(front.as_str(), name.as_str()),
+            Remark::NoLabel(known) | Remark::NotProviding(known) => {
+                RemarkValue::Name(known.as_str())
+            }
+            Remark::Hidden(rule) => RemarkValue::Number(*rule as u64),
+            Remark::LowRam(own, kept) => RemarkValue::Ram(*own, *kept),
+            Remark::LowCaps(own, kept) => RemarkValue::Caps(*own, *kept),
+            Remark::PartPages(ram) | Remark::PartReserve(ram) => RemarkValue::Number(*ram),
+            Remark::Idle | Remark::Arrow | Remark::ChosenEnd | Remark::Unreached => {
+                RemarkValue::Nothing
+            }
         }
     }
 
     // The text after the value.
-    fn after(&self) -> &'static str {
+    fn after(&self) -> &'static str
+        ensures { result.now ≡ (phrase_of self.now).after }
+    {
         match self {
             Remark::GivenTwice(_) => "`; the last one counts",
             Remark::Unread(_, _)
@@ -199,12 +214,18 @@ impl Remark {
                 " capabilities are insufficient for a session; expected at least 2"
             }
             Remark::PartPages(_) | Remark::PartReserve(_) => " bytes",
-            _ => "",
+            Remark::Idle
+            | Remark::Arrow
+            | Remark::LetsIn(_, _)
+            | Remark::ChosenEnd
+            | Remark::Unreached => "",
         }
     }
 
     // The name that may have been meant, if there is one.
-    fn near(&self) -> Option<&str> {
+    fn near(&self) -> Option<&str>
+        ensures { option_copied result ≡ (phrase_of self.now).near }
+    {
         match self {
             Remark::Unread(_, Some(known)) | Remark::OtherCase(_, known) => Some(known.as_str()),
             Remark::NoChild(_, Some(name)) => Some(name.as_str()),
@@ -213,20 +234,72 @@ impl Remark {
     }
 }
 
-// Which component's labels begin with a prefix too.
-fn show_let_in<W: fmt::Write>(
-    f: &mut fmt::Formatter<W>,
-    front: &FindingText,
-    name: &Name,
-) -> fmt::Result {
-    show_quoted(f, front.as_str())?;
+// The value of a remark, which is between two texts.
+#[derive(Clone, Copy)]
+enum RemarkValue<'a> {
+    Nothing,
+    Name(&'a str),
+    // A text of the list, which may have any characters.
+    Escaped(&'a str),
+    // A component, and the service that it doesn't provide.
+    Service(&'a str, &'a str),
+    // A prefix of labels, and the component whose labels begin with it too.
+    Prefix(&'a str, &'a str),
+    Number(u64),
+    // The RAM of an account, and of its reserve.
+    Ram(u64, u64),
+    // The capabilities of an account, and of its reserve.
+    Caps(u32, u32),
+}
+
+impl fmt::Display for RemarkValue<'_> {
+    ghost output = { λ value. value_text (value_at value) };
+
+    fn fmt<W: fmt::Write>(&self, f: &mut fmt::Formatter<W>) -> fmt::Result {
+        match self {
+            RemarkValue::Nothing => Ok(()),
+            RemarkValue::Name(name) => f.write_str(name),
+            RemarkValue::Escaped(text) => show_escaped(f, text),
+            RemarkValue::Service(child, service) => {
+                write!(f, "{}", MissingService(child, service))
+            }
+            RemarkValue::Prefix(front, name) => show_prefix(f, front, name),
+            RemarkValue::Number(number) => write!(f, "{number}"),
+            RemarkValue::Ram(own, kept) => write!(f, "{}", BudgetAmount::ram(*own, *kept)),
+            RemarkValue::Caps(own, kept) => write!(f, "{}", BudgetAmount::caps(*own, *kept)),
+        }
+    }
+}
+
+// A component, and the service that it doesn't provide.
+#[derive(Clone, Copy)]
+struct MissingService<'a>(&'a str, &'a str);
+
+impl fmt::Display for MissingService<'_> {
+    ghost output = { λ missing. Some (missing_text missing.0.now missing.1.now) };
+
+    fn fmt<W: fmt::Write>(&self, f: &mut fmt::Formatter<W>) -> fmt::Result {
+        write!(f, "{}` doesn't provide `{}", self.0, self.1)
+    }
+}
+
+// A prefix, and the component whose labels begin with it too.
+fn show_prefix<W: fmt::Write>(f: &mut fmt::Formatter<W>, front: &str, name: &str) -> fmt::Result {
+    show_quoted(f, front)?;
     write!(f, " is a prefix of `{name}` too")
 }
 
 // The name that may have been meant, if there is one.
-fn show_near<W: fmt::Write>(f: &mut fmt::Formatter<W>, near: Option<&str>) -> fmt::Result {
-    match near {
-        Some(near) => write!(f, "; did you mean `{near}`?"),
-        None => Ok(()),
+#[derive(Clone, Copy)]
+struct NearName<'a>(Option<&'a str>);
+
+impl fmt::Display for NearName<'_> {
+    ghost output = { λ near. Some (near_text (option_copied near.0)) };
+
+    fn fmt<W: fmt::Write>(&self, f: &mut fmt::Formatter<W>) -> fmt::Result {
+        match self.0 {
+            Some(near) => write!(f, "; did you mean `{near}`?"),
+            None => Ok(()),
+        }
     }
 }
