@@ -1,5 +1,6 @@
 //! The command `diff`: differences between two start lists.
-ghost use Rattle.std.specs.Prelude.{◌≡◌, if◌then◌else◌};
+ghost use Rattle.std.specs.Prelude.{◌≡◌, not, if◌then◌else◌, IfOk};
+ghost use Rattle.list_diff.specs.Differences.{nothing_differs};
 
 use crate::review::review;
 use budget_least::{AccountBudgets, Budget, BudgetQuery, BudgetReport};
@@ -140,6 +141,23 @@ struct DiffText {
 }
 
 impl DiffText {
+    // Returns differences as lines, or as documents of JSON. Fails if the host is out of memory.
+    fn of(
+        alloc: Global,
+        told: &ListDifferences<'_>,
+        form: DiagnosticForm,
+    ) -> Result<DiffText, AllocError>
+        ensures { IfOk result (λ made. made.is_changed ≡ not (nothing_differs told.now)) }
+    {
+        let text = if form == DiagnosticForm::Json {
+            told.documents(alloc)?
+        } else {
+            told.lines(alloc)?
+        };
+        let is_changed = !told.is_empty();
+        Ok(DiffText { text, is_changed })
+    }
+
     // Prints the text, and returns the exit status.
     fn print(&self, rt: &HostRuntime) -> u8 {
         let status = status_of(rt, io::writer(rt).write_all(self.text.as_slice()));
@@ -196,14 +214,7 @@ fn differences(
         lacks,
         replies,
     };
-    Ok(DiffText {
-        text: if form == DiagnosticForm::Json {
-            told.documents(alloc)?
-        } else {
-            told.lines(alloc)?
-        },
-        is_changed: !told.is_empty(),
-    })
+    DiffText::of(alloc, &told, form)
 }
 
 // Returns the exit status of a comparison: 4 if something is changed, else 0.
