@@ -63,16 +63,12 @@ phrase_of (remark.LowCaps own kept) = said [] (Caps own kept) (codes " capabilit
 phrase_of (remark.PartPages ram) = said (codes "quantum: expected whole pages of 4096 bytes, found ") (Number ram) (codes " bytes") None
 phrase_of (remark.PartReserve ram) = said (codes "reserve: expected whole pages of 4096 bytes, found ") (Number ram) (codes " bytes") None
 
--- a component, and the service that it doesn't provide
-abbrev pub missing_text : List ℕ → List ℕ → List ℕ
-missing_text child service = child ++ codes "` doesn't provide `" ++ service
-
--- the text of a value; those of escaped texts and of budgets aren't stated
+-- the text of a value; those of escaped texts, of budgets and of two names aren't stated
 abbrev pub value_text : Said → Option (List ℕ)
 value_text Nothing = Some []
 value_text (Name name) = Some name
 value_text (Escaped text) = None
-value_text (Service child service) = Some (missing_text child service)
+value_text (Service child service) = None
 value_text (Prefix front name) = None
 value_text (Number number) = Some (decimal number)
 value_text (Ram own kept) = None

@@ -1,7 +1,7 @@
 //! Findings: parts of a start list that are probably not intended.
 ghost use Rattle.std.specs.Prelude.{◌≡◌, IfOk, Some};
 ghost use Rattle.std.specs.Option.{option_copied};
-ghost use Rattle.list_findings.specs.Phrases.{missing_text, near_text, phrase_of, phrase_text, value_at, value_text};
+ghost use Rattle.list_findings.specs.Phrases.{near_text, phrase_of, phrase_text, value_at, value_text};
 
 use list_parser::Name;
 use list_parts::{BudgetAmount, ListPart, show_escaped, show_quoted};
@@ -261,25 +261,13 @@ impl fmt::Display for RemarkValue<'_> {
             RemarkValue::Name(name) => f.write_str(name),
             RemarkValue::Escaped(text) => show_escaped(f, text),
             RemarkValue::Service(child, service) => {
-                write!(f, "{}", MissingService(child, service))
+                write!(f, "{child}` doesn't provide `{service}")
             }
             RemarkValue::Prefix(front, name) => show_prefix(f, front, name),
             RemarkValue::Number(number) => write!(f, "{number}"),
             RemarkValue::Ram(own, kept) => write!(f, "{}", BudgetAmount::ram(*own, *kept)),
             RemarkValue::Caps(own, kept) => write!(f, "{}", BudgetAmount::caps(*own, *kept)),
         }
-    }
-}
-
-// A component, and the service that it doesn't provide.
-#[derive(Clone, Copy)]
-struct MissingService<'a>(&'a str, &'a str);
-
-impl fmt::Display for MissingService<'_> {
-    ghost output = { λ missing. Some (missing_text missing.0.now missing.1.now) };
-
-    fn fmt<W: fmt::Write>(&self, f: &mut fmt::Formatter<W>) -> fmt::Result {
-        write!(f, "{}` doesn't provide `{}", self.0, self.1)
     }
 }
 
