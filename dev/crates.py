@@ -1,7 +1,6 @@
 """What the tools of this folder share: the repository and its crates."""
 import re
 import sys
-from functools import cache
 from pathlib import Path
 
 TOP = Path(__file__).resolve().parent.parent
@@ -13,16 +12,9 @@ def text_of(path):
     return (TOP / path).read_text(encoding="utf-8")
 
 
-def dependencies():
-    """Returns each crate of crates.txt with the names in its line."""
-    return {name: names.split() for name, names in re.findall(r"^(\w+):(.*)$", text_of("crates.txt"), re.M)}
+def crate_graph():
+    """Returns the graph of crates.txt: from each crate to those in its line, without libraries of the toolchain."""
+    from networkx import DiGraph
 
-
-def below(rows):
-    """Returns for each crate all crates below it, and the libraries of the toolchain that they name."""
-
-    @cache
-    def all_of(name):
-        return set(rows.get(name, [])).union(*map(all_of, rows.get(name, [])))
-
-    return {name: all_of(name) for name in rows}
+    rows = {name: names.split() for name, names in re.findall(r"^(\w+):(.*)$", text_of("crates.txt"), re.M)}
+    return DiGraph({name: [it for it in names if it in rows] for name, names in rows.items()})

@@ -39,6 +39,7 @@ def test_version(nethrywel):
     assert nethrywel("--version") == (0, f"nethrywel {version}\n", "")
 
 
+@needs("jinja2", "networkx")
 @pytest.mark.parametrize("words", ["check-documents {}", "steps", "crate-graph --check", "theorems --check"])
 def test_documents(nethrywel, words):
     """Links, words, quotes and scenarios of documents, step lists, the picture of the crates, and the places of the theorems."""
