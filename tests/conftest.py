@@ -7,9 +7,10 @@ import socket
 import subprocess
 import time
 from pathlib import Path
+from types import SimpleNamespace
 
 import pytest
-from commands import EXAMPLES, TOP, Program, environment, limited
+from commands import EXAMPLES, TOP, Program, environment, limited, run
 from hypothesis import HealthCheck, settings
 
 # The same examples in each run, so that CI is deterministic; tests/run --random draws others, and more of them.
@@ -83,52 +84,34 @@ def report(once):
     return lambda name: once(f"report-{name}", lambda folder: write_report(name, folder)) / f"{name}.html"
 
 
-class Server:
-    """An sshd on loopback, which knows one key and has a home in a folder."""
-
-    def __init__(self, folder, name):
-        self.home, self.log = folder / name, folder / f"{name}.log"
-        self.home.mkdir()
-        with socket.create_server(("127.0.0.1", 0)) as free:
-            port = free.getsockname()[1]
-        key = folder / "key"
-        if not key.exists():
-            subprocess.run(["ssh-keygen", "-q", "-t", "ed25519", "-N", "", "-f", key], check=True)
-        config = folder / f"{name}.conf"
-        config.write_text(f"""Port {port}
-ListenAddress 127.0.0.1
-HostKey {key}
-AuthorizedKeysFile {key}.pub
-PidFile none
-StrictModes no
-UsePAM no
-PasswordAuthentication no
-KbdInteractiveAuthentication no
-ForceCommand cd {self.home} && HOME={self.home} exec sh -c "$SSH_ORIGINAL_COMMAND"
-""")
-        self.process = subprocess.Popen(["/usr/sbin/sshd", "-D", "-f", config, "-E", self.log])
-        while self.process.poll() is None and not (self.log.exists() and "Server listening" in self.log.read_text()):
-            time.sleep(0.02)
-        options = "-o IdentitiesOnly=yes -o StrictHostKeyChecking=no -o UserKnownHostsFile=/dev/null -o LogLevel=ERROR"
-        self.line = f"2/ssh -p {port} -i {key} {options} 127.0.0.1\n"
-
-    def end(self):
-        self.process.terminate()
-        self.process.wait()
-
-
 @pytest.fixture
 def sshd(tmp_path):
-    """Returns what starts a server by a name. All are ended after the test."""
-    folder, place, servers = tmp_path / "ssh", Path("/run/sshd"), []
+    """Returns what starts an sshd on loopback by a name: its process, its log, its home, and its line in a file of hosts.
+    All know one key, and are ended after the test."""
+    folder, place, ends = tmp_path / "ssh", Path("/run/sshd"), contextlib.ExitStack()
     folder.mkdir()
-    was_there = place.exists()
-    place.mkdir(exist_ok=True)
-    yield lambda name: servers.append(Server(folder, name)) or servers[-1]
-    for it in servers:
-        it.end()
-    if not was_there:
-        place.rmdir()
+    if not place.exists():
+        place.mkdir()
+        ends.callback(place.rmdir)
+    key = folder / "key"
+    run("ssh-keygen", "-q", "-t", "ed25519", "-N", "", "-f", key).ok()
+
+    def started(name):
+        home, log, config = folder / name, folder / f"{name}.log", folder / f"{name}.conf"
+        home.mkdir()
+        with socket.create_server(("127.0.0.1", 0)) as free:
+            port = free.getsockname()[1]
+        config.write_text((TOP / "tests/sshd.conf").read_text().format(port=port, key=key, home=home))
+        process = ends.enter_context(subprocess.Popen(["/usr/sbin/sshd", "-D", "-f", config, "-E", log]))
+        ends.callback(process.terminate)
+        while process.poll() is None and not (log.exists() and "Server listening" in log.read_text()):
+            time.sleep(0.02)
+        options = "-o IdentitiesOnly=yes -o StrictHostKeyChecking=no -o UserKnownHostsFile=/dev/null -o LogLevel=ERROR"
+        line = f"2/ssh -p {port} -i {key} {options} 127.0.0.1\n"
+        return SimpleNamespace(process=process, log=log, home=home, line=line)
+
+    with ends:
+        yield started
 
 
 @contextlib.contextmanager

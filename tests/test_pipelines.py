@@ -6,9 +6,9 @@ import shutil
 from xml.etree import ElementTree
 
 import pytest
-from commands import CRAWLER, NETHRYWEL_CASES, limited
+from commands import CASES, CRAWLER, limited
 
-FILES = NETHRYWEL_CASES / "test/files"
+FILES = CASES / "nethrywel/test/files"
 SCENARIO = [*CRAWLER, "friendly/crawler.scenario"]
 
 

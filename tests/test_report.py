@@ -3,30 +3,16 @@ import hashlib
 import json
 import os
 import re
+import shutil
 
 import pytest
-from commands import CRAWLER, EXAMPLES, PAGES, crawler_files, environment, limited, needs, script, tool
+from commands import CRAWLER, EXAMPLES, PAGES, TOP, crawler_files, environment, limited, needs, script, tool
 
-REPORT = tool("tools/report")
+REPORT, FILES = tool("tools/report"), TOP / "tests/pages"
 SCRIPT = "<script>window.met=1</script>"
 pytestmark = needs(*PAGES)
-# A start list, a policy and a scenario whose texts would be a page's own if they weren't escaped.
-RULE, ANY = f'{{"service": "LOG", "label": "{SCRIPT}", "any-child": true}}, ', '{"any-service": true, "any-child": true'
-STRANGE = f"""# </script>{SCRIPT}
-reader open LOG ram_quota=8K, cap_quota=3, label="{SCRIPT}"
-reader call 1 WRITE "<img src=x onerror=window.met=1>\\n"
-reader {SCRIPT}
-"""
-# Eight lines of a scenario of 100,000 lines by four components, with sessions, refusals, and wrong expectations.
-LONG = """acme/web open File_system ram_quota=40K, cap_quota=5, label="pages" => cap 1
-acme/web call 1 CREATE page{i} => OK
-globex/web alloc {size}
-acme/batch new {new}
-globex/batch quota{expected}
-acme/web call 1 WRITE page{i} 0 "{i} of 12500"
-globex/web free {cap}
-acme/web close 1 => ok
-"""
+# The arguments of a report; {} is a folder with the files of tests/pages, where strange.* have texts that would be a
+# page's own if they weren't escaped, and with two scenarios that are made: long, and the tenants' in the friendly form.
 REPORTS = {
     "crawler": [*CRAWLER, "friendly/crawler.scenario"],
     "tenants": ["--machine", "tenants.json", "--policy", "tenants.policy", "{}/tenants.scenario"],
@@ -39,16 +25,13 @@ REPORTS = {
 
 def write_report(name, folder):
     """Writes the page of a name in REPORTS into a folder."""
+    shutil.copytree(FILES, folder, dirs_exist_ok=True)
     lines = (EXAMPLES / "tenants.scenario").read_text().splitlines(keepends=True)
-    each = (LONG.format(i=i, size=4096 * (i % 30) + 1, new=i % 5000 + 1, expected="" if i % 100 else " => ok", cap=i % 3 + 1)
+    (folder / "tenants.scenario").write_text("".join(f"!{it}" for it in lines))
+    form, expected = (FILES / "long.lines").read_text(), {0: " => ok"}
+    each = (form.format(i=i, size=4096 * (i % 30) + 1, new=i % 5000 + 1, expected=expected.get(i % 100, ""), cap=i % 3 + 1)
             for i in range(12_500))
-    for file, text in {
-        "strange.json": (EXAMPLES / "friendly/crawler.json").read_text().replace(ANY, RULE + ANY, 1),
-        "strange.policy": f"deny reader -> log # {SCRIPT}\n", "strange.scenario": STRANGE,
-        "tenants.scenario": "".join(f"!{it}" for it in lines), "long.scenario": "".join(each),
-        "none.scenario": "broke alloc 800M\n",
-    }.items():
-        (folder / file).write_text(text)
+    (folder / "long.scenario").write_text("".join(each))
     REPORT(*(it.replace("{}", str(folder)) for it in REPORTS[name]), "--seconds", "600", "-o", folder / f"{name}.html").ok()
 
 
@@ -83,8 +66,7 @@ def test_name_like_an_option(nethrywel, tmp_path):
 # A command that comes to no end, and the part of the page that needs it.
 UNENDED = {"check": "reach", "tree": "reach", "reach": "reach", "route": "reach", "trace": "timelines", "run --machine": "scenario",
            "run --only": "alone", "accounts": "budgets", "least": "budgets"}
-MACHINE = """{"machine": {"pages": 64, "caps": 64}, "start": [{"name": "log", "quantum": "8K", "caps": 4, "provides": ["LOG"]},
-{"name": "alice", "quantum": "64K", "caps": 16, "binary": "script", "route": [{"service": "LOG", "child": "log"}]}]}"""
+MACHINE = (FILES / "one-script.json").read_text()
 
 
 def report_without(nethrywel, folder, command, how="kill -9 $$", seconds="600"):
@@ -134,15 +116,3 @@ def test_deep_list(tmp_path):
     (tmp_path / "deep.json").write_text("[" * 5000)
     ran = REPORT("--machine", tmp_path / "deep.json", "friendly/notes.scenario", "-o", tmp_path / "page.html")
     assert "Traceback" not in ran.err and "invalid JSON" in (tmp_path / "page.html").read_text()
-
-
-@pytest.mark.parametrize("package, words", [
-    ("jinja2", ["report", "-o", "{}"]), ("tqdm", ["report", "-o", "{}"]), ("jinja2", ["desk"]), ("waitress", ["desk"])],
-                         ids=["report-jinja2", "report-tqdm", "desk-jinja2", "desk-waitress"])
-def test_missing_package(tmp_path, package, words):
-    """Without a package report and desk say what to do, and write nothing."""
-    (tmp_path / f"{package}.py").write_text("raise ModuleNotFoundError(name=__name__)\n")
-    name, *words = [it.replace("{}", str(tmp_path / "page.html")) for it in words]
-    ran = tool(f"tools/{name}")(*words, "friendly/notes.scenario", env=environment(PYTHONPATH=tmp_path))
-    assert (ran.status, ran.out) == (1, "") and f"{package} isn't here; run dev/setup" in ran.err
-    assert not (tmp_path / "page.html").exists()

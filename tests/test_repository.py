@@ -2,13 +2,16 @@
 import re
 
 import pytest
-from commands import CASES, EXAMPLES, PYTHON, TOP, needs, run, tool
+from commands import CASES, EXAMPLES, PAGES, PYTHON, TOP, environment, needs, on_terminal, run, script, tool
+from test_pictures import CALL
+from test_sweep import small
 
 # Tools that take no argument, or only names that are known.
 CLOSED = [*(f"dev/{it}" for it in "attack check-documents crate-graph schema setup steps theorems tour".split()), "tools/sweep"]
 TOOLS = [*CLOSED, *(f"dev/{it}" for it in ("browse", "package", "pictures")),
          *(f"tools/{it}" for it in ("desk", "graph", "install", "picture", "report")),
          "tests/run", "examples/statuses", "examples/compare", "bench/measure"]
+NOTES = "friendly/notes.scenario"
 
 
 def documents():
@@ -32,6 +35,36 @@ def test_nethrywel_tool(nethrywel):
     """tools/nethrywel runs the built program, with its status."""
     assert tool("tools/nethrywel")("--version").out == nethrywel("--version").out
     assert tool("tools/nethrywel")("check", "/missing").status == 2
+
+
+@needs(*PAGES, "matplotlib")
+@pytest.mark.parametrize("name, package", [("report", "jinja2"), ("report", "tqdm"), ("desk", "jinja2"),
+                                           ("desk", "waitress"), ("picture", "matplotlib"), ("picture", "tqdm")])
+def test_missing_package(tmp_path, name, package):
+    """Without a package a tool says what to do, and writes nothing."""
+    (tmp_path / f"{package}.py").write_text("raise ModuleNotFoundError(name=__name__)\n")
+    words = {"desk": [NOTES], "picture": [], "report": ["-o", tmp_path / "page.html", NOTES]}
+    ran = tool(f"tools/{name}")(*words[name], stdin=CALL, env=environment(PYTHONPATH=tmp_path))
+    # (a program without a proof needs more memory than the desk gives it)
+    lines = [it for it in ran.err.splitlines() if "so its memory isn't limited" not in it]
+    assert (ran.status, ran.out, lines) == (1, "", [f"{name}: python3-{package} isn't here; run dev/setup"])
+    assert not (tmp_path / "page.html").exists()
+
+
+@needs(*PAGES, "matplotlib", "parallel")
+@pytest.mark.parametrize("name, shown", [("report", r"report: 00:0\d, nethrywel trace --json scenario"),
+                                         ("picture", r"picture: 00:0\d, 1 lines, drawing"), ("sweep", "100%")])
+def test_progress(nethrywel, tmp_path, name, shown):
+    """A tool shows its progress on a terminal, whose line is empty at the end, and nothing elsewhere."""
+    script(tmp_path / "nethrywel", f'sleep 0.7\nexec "{nethrywel.path}" "$@"')
+    (tmp_path / "trace").write_text(CALL)
+    words = {"report": [NOTES, "--seconds", "600", "-o", tmp_path / "page.html"], "picture": [tmp_path / "trace"]}
+    settings = {"cwd": EXAMPLES, "env": environment(PROGRAMS=tmp_path)}
+    ran, seen = (of(TOP / "tools" / name, *words.get(name, small(tmp_path, tmp_path / of.__name__)), **settings)
+                 for of in (run, on_terminal))
+    assert (ran.status, ran.err, seen.status) == (0, "", 0) and (ran.out == "") == (name == "report")
+    assert any(re.search(shown, it) for it in seen.err.split("\r"))
+    assert name == "sweep" or seen.out == ran.out and seen.err.split("\r")[-2].strip() == seen.err.split("\r")[-1] == ""
 
 
 def test_version(nethrywel):

@@ -6,7 +6,7 @@ import time
 from pathlib import Path
 
 import pytest
-from commands import EXAMPLES, environment, limited, needs, on_terminal, run, swept_scenario, tool
+from commands import EXAMPLES, environment, limited, needs, run, swept_scenario, tool
 
 SWEEP = tool("tools/sweep")
 CRAWLER = EXAMPLES / "friendly/crawler.json"
@@ -86,7 +86,8 @@ def test_batches(nethrywel, tmp_path, table):
 def test_hosts(tmp_path, table, sshd):
     """Two servers run the points, and one that doesn't answer loses nothing. No file remains on a server."""
     servers = [sshd(it) for it in ("host1", "host2", "host3")]
-    servers[2].end()
+    servers[2].process.terminate()
+    servers[2].process.wait()
     (tmp_path / "hosts").write_text("".join(it.line for it in servers))
     assert table_of(tmp_path / "out", large(tmp_path, "--points", "20", "--hosts", tmp_path / "hosts")) == table
     for it in servers[:2]:
@@ -102,13 +103,6 @@ def test_names_that_a_shell_reads(nethrywel, tmp_path):
     assert SWEEP(*small(tmp_path, out), env=environment(PROGRAMS=folder), cwd=tmp_path).status == 0
     assert not (tmp_path / "ran").exists() and not (out / "ran").exists()
     assert (out / "points.csv").read_text().count("\n") == 5
-
-
-def test_progress(tmp_path):
-    """A sweep shows its progress on a terminal, and nothing elsewhere."""
-    assert SWEEP(*small(tmp_path, tmp_path / "one"))[::2] == (0, "")
-    ran = on_terminal(SWEEP.path, *small(tmp_path, tmp_path / "two"))
-    assert ran.status == 0 and "100%" in ran.err
 
 
 def test_this_host(tmp_path):

@@ -1,8 +1,6 @@
 """What report and desk show of a program's output: replies with their log lines, each script alone, and budgets."""
-import re
-
 import pytest
-from commands import EXAMPLES, PAGES, TOP, environment, needs, on_terminal, script, tool
+from commands import EXAMPLES
 from nethrywel_tools.page_data import PageData
 
 
@@ -61,15 +59,3 @@ def test_unknown_budgets(shown):
     """If nothing is run, nothing is stated of budgets."""
     data, first = shown(None, "@repeat 2\nalice quota\n")
     assert first["wrong"] == 1 and data.least() == {"accounts": [], "left": 0, "text": [], "missing": []}
-
-
-@needs(*PAGES)
-def test_progress(nethrywel, tmp_path):
-    """A report shows its progress on a terminal, and nothing elsewhere."""
-    words, settings = ["friendly/notes.scenario", "--seconds", "600", "-o", tmp_path / "page.html"], environment(PROGRAMS=tmp_path)
-    script(tmp_path / "nethrywel", f'sleep 0.7\nexec "{nethrywel.path}" "$@"')
-    assert tool("tools/report")(*words, env=settings) == (0, "", "")
-    ran = on_terminal(TOP / "tools/report", *words, cwd=EXAMPLES, env=settings)
-    lines = ran.err.split("\r")
-    assert (ran.status, ran.out) == (0, "") and any(re.match(r"report: 00:0\d, nethrywel trace --json scenario", it) for it in lines)
-    assert lines[-2].strip() == lines[-1] == "", "the line remains on the terminal"

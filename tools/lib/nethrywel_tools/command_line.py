@@ -69,9 +69,9 @@ def main(usage, about, work, *arguments, at_interrupt=130):
     sys.exit(status)
 
 
-def progress(name):
+def progress(name, form="{desc}"):
     """Returns a line on a terminal that says for how long a tool has run and what it does now; nothing if standard error is no
     terminal."""
     from tqdm import tqdm
 
-    return tqdm(bar_format=f"{name}: {{elapsed}}, {{desc}}", disable=None, leave=False, dynamic_ncols=True)
+    return tqdm(bar_format=f"{name}: {{elapsed}}, {form}", disable=None, leave=False, dynamic_ncols=True)

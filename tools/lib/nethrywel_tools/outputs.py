@@ -1,62 +1,53 @@
-"""What nethrywel prints with --json, as values of types. No value is computed again here. docs/reference/output.md has what
-each field is; one that an object doesn't have is None."""
+"""What nethrywel prints with --json. Nothing is computed again here. docs/reference/output.md has what each field is."""
 import json
-from collections import namedtuple
 
-ACCOUNT = "ram_used ram_limit caps_used caps_limit"
-SESSION = "session session_ram_used session_ram_limit session_caps_used session_caps_limit"
+ACCOUNT = ("ram_used", "ram_limit", "caps_used", "caps_limit")
+# The fields of calls, accounts, intervals, session requests and diagnostics that the tools read.
+FIELDS = {*ACCOUNT, *(f"session_{it}" for it in ACCOUNT), *"""line component call reply session ram_from ram_below
+caps_from kind name server label ram_need ram_peak caps_need caps_peak ram caps service to by file column part
+text""".split()}
 
 
-class Call(namedtuple("Call", f"line component call reply {ACCOUNT} {SESSION}")):
-    """A row of `trace`: a call, its reply, and the accounts of its component and of its session after it."""
+class Document(dict):
+    """An object that is printed, with its fields as attributes; one that it doesn't have is None."""
 
-    __slots__ = ()
+    def __getattr__(self, name):
+        if name not in FIELDS:
+            raise AttributeError(name)
+        return self.get(name)
 
     @property
     def is_refused(self):
+        """Returns whether the reply of a call, a row of `trace`, is a refusal."""
         return self.reply.startswith("ERR ") or self.reply[:1].isupper() and self.reply[1:2].islower()
 
     @property
     def account(self):
-        return self[4:8]
+        return tuple(map(self.get, ACCOUNT))
 
     @property
     def session_account(self):
-        return self[9:13]
+        return tuple(self.get(f"session_{it}") for it in ACCOUNT)
 
-
-class Interval(namedtuple("Interval", "component session line ram_from ram_below caps_from")):
-    """A row of `least`: budgets of an account, or donations at an opening, that suffice."""
-
-    __slots__ = ()
-
-    def has(self, ram, caps):
+    def suffices(self, ram, caps):
+        """Returns whether a budget is in an interval, a row of `least`."""
         return self.ram_from <= ram and (self.ram_below is None or ram < self.ram_below) and self.caps_from <= caps
 
 
-# A line of `accounts`: an account or a session, or the reserve of the account before it, which has `ram` and `caps` alone.
-Account = namedtuple("Account", "kind name session server label ram_used ram_limit ram_need ram_peak"
-                     " caps_used caps_limit caps_need caps_peak ram caps")
-# A session request of `tree`: labels that the same rules route.
-Request = namedtuple("Request", "name service to by label")
-# A fault, a finding, advice or a breach of `check`, or a diagnostic on standard error.
-Diagnostic = namedtuple("Diagnostic", "kind file line column part text")
+def document(text):
+    return json.loads(text, object_hook=Document)
 
 
-def value_of(kind, document):
-    return kind(*map(document.get, kind._fields))
-
-
-def values_in(kind, text, *wanted):
-    """Reads a list of objects, those whose kind is wanted; a command that failed has printed none."""
-    return [value_of(kind, it) for it in json.loads(text or "[]") if not wanted or it["kind"] in wanted]
+def documents_in(text, *kinds):
+    """Reads a list of objects, those of these kinds if any is given; a command that failed has printed none."""
+    return [it for it in document(text or "[]") if not kinds or it.kind in kinds]
 
 
 def calls_in(lines):
     """Reads the rows of `trace`, one object a line."""
-    return (value_of(Call, json.loads(it)) for it in lines if it.strip())
+    return (document(it) for it in lines if it.strip())
 
 
 def diagnostics_in(text):
     """Reads diagnostics, one object a line; three kinds of failure are text in any case."""
-    return [value_of(Diagnostic, json.loads(it) if it.startswith("{") else {"text": it}) for it in text.split("\n") if it]
+    return [document(it) if it.startswith("{") else Document(text=it) for it in text.split("\n") if it]

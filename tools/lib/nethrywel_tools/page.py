@@ -1,7 +1,6 @@
 """Puts a page together: its template, its styles and scripts, and its data, as one text that asks nobody for anything."""
 import base64
 import hashlib
-import json
 import os
 
 from .command_line import Fault, Missing
@@ -23,12 +22,6 @@ def own(name):
     return text_at(f"{PAGE}/{name}", name)
 
 
-def script_text(value):
-    """Returns a value as JSON that may be in a page: no character of it begins or ends an element."""
-    text = json.dumps(value, separators=(",", ":"))
-    return text.replace("<", "\\u003c").replace(">", "\\u003e").replace("&", "\\u0026")
-
-
 def page(kind, title, data, sums, styles=(), scripts=(), sources="'none'"):
     """Returns the page's text. Only scripts that are in it with their sums run, and it connects to `sources` alone."""
     from jinja2 import Environment, FileSystemLoader
@@ -41,6 +34,8 @@ def page(kind, title, data, sums, styles=(), scripts=(), sources="'none'"):
         "default-src 'none'; style-src 'unsafe-inline'; img-src data:; base-uri 'none'; form-action 'none'; "
         f"connect-src {sources}; script-src {hashes}"
     )
-    template = Environment(loader=FileSystemLoader(PAGE), autoescape=True).get_template("page.html")
-    values = {"kind": kind, "title": title, "data": script_text(data), "sums": sums, "policy": policy}
-    return template.render(values, styles=[own("style.css"), *styles], scripts=scripts)
+    templates = Environment(loader=FileSystemLoader(PAGE), autoescape=True)
+    # (of the data, by `tojson`, no character begins or ends an element)
+    templates.policies["json.dumps_kwargs"] = {"separators": (",", ":")}
+    values = {"kind": kind, "title": title, "data": data, "sums": sums, "policy": policy}
+    return templates.get_template("page.html").render(values, styles=[own("style.css"), *styles], scripts=scripts)

@@ -4,7 +4,7 @@ import json
 import re
 from collections import Counter
 
-from .outputs import Account, Diagnostic, Interval, Request, calls_in, diagnostics_in, values_in
+from .outputs import calls_in, diagnostics_in, documents_in
 from .start_list_places import places, range_of, rules_in, rules_named
 from .timelines import TICKS, TIMELINES, Timelines, donation_in, some, thin
 
@@ -92,7 +92,7 @@ def budget_of(key, rows, given):
     name, session, line = key
     below = ("" if it.ram_below is None else f" below {amount(it.ram_below)}" for it in rows)
     said = "; ".join(f"ram from {amount(it.ram_from)}{less}, caps from {it.caps_from}" for it, less in zip(rows, below))
-    told, fits = [said or "no budget serves"], bool(given) and any(it.has(*given) for it in rows)
+    told, fits = [said or "no budget serves"], bool(given) and any(it.suffices(*given) for it in rows)
     if given and rows:
         more = given[0] - rows[0].ram_from, given[1] - rows[0].caps_from
         gap = f"{amount(abs(more[0]))} and {abs(more[1])}"
@@ -136,7 +136,7 @@ class PageData:
         found = places(self.list)
         self.rules = rules_in(self.list, found)
         status, out, err = self.ran("check", "--json", *(["--policy", "policy"] if self.policy else []), "list.json")
-        told = [*values_in(Diagnostic, out), *diagnostics_in(err)] if status != 1 else []
+        told = [*documents_in(out), *diagnostics_in(err)] if status != 1 else []
         breaches = [it for it in told if it.file == "policy"]
         for it in told:
             if it.file != "policy":
@@ -149,8 +149,8 @@ class PageData:
             data["policy"] = policy_lines(self.policy, status, breaches, self.rules)
         if data["boots"]:
             tree = self.ran("tree", "--json", "list.json")[1]
-            data["ways"] = requests_of(values_in(Request, tree, "wish"), self.rules)
-            self.budgets = {it.name: (it.ram, it.caps) for it in values_in(Account, tree, "component")}
+            data["ways"] = requests_of(documents_in(tree, "wish"), self.rules)
+            self.budgets = {it.name: (it.ram, it.caps) for it in documents_in(tree, "component")}
             data["reach"] = json.loads(self.ran("reach", "--json", "list.json")[1] or "null")
         return data["boots"]
 
@@ -172,7 +172,7 @@ class PageData:
             "refused": some(it.refused, TICKS),
         } for it in timelines]
         listed = self.ran("accounts", "--json", *self.machine, "scenario")[1]
-        accounts = accounts_of(values_in(Account, listed, "account", "session", "reserve"))
+        accounts = accounts_of(documents_in(listed, "account", "session", "reserve"))
         donated = Counter()
         for it in accounts:
             if it["session"]:
@@ -229,7 +229,7 @@ class PageData:
             return {"accounts": [], "left": 0, "text": [], "missing": self.missing.get("budgets", [])}
         found, given = [], dict(self.budgets)
         if self.list is None:
-            boot = values_in(Account, self.ran("accounts", "--json", "/dev/null")[1], "account")
+            boot = documents_in(self.ran("accounts", "--json", "/dev/null")[1], "account")
             given = {it.name: (it.ram_limit, it.caps_limit) for it in boot if it.name != "init"}
         openings = Counter()
         for it in self.calls:
@@ -237,7 +237,7 @@ class PageData:
                 key = it.component, int(it.reply[4:]), it.line
                 openings[key] += 1
                 given[key] = donation_in(it.call)
-        for it in values_in(Interval, out):
+        for it in documents_in(out):
             key = it.component, it.session, it.line
             if found and found[-1][0] == key and found[-1][1][-1].ram_below is not None:
                 found[-1][1].append(it)

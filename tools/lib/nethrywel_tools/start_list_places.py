@@ -1,6 +1,7 @@
 """Where the parts of a start list are in its text: values, rules, and what a diagnostic or a route decision names."""
 import json
 import re
+from itertools import count, takewhile
 
 RULE = re.compile(r"(default-route|route)\[([0-9]+)\](?: for ([^,:]+))?")
 STEP = re.compile(r'([a-z-]+)(?: and [a-z-]+)?(?:\[([0-9]+)\])?(?: "[^"]*")?$')
@@ -47,29 +48,18 @@ def range_of(diagnostic, text, found):
     return found.get((*path, named[1]), best) if named else best
 
 
-def entries(value, path=(), home=""):
-    """Yields the JSON path and the path of names of each entry, an init's before its own."""
-    start = value.get("start") if isinstance(value, dict) else None
-    for i, entry in enumerate(start if isinstance(start, list) else []):
-        if isinstance(entry, dict) and isinstance(entry.get("name"), str):
-            at = (*path, "start", i)
-            yield at, home + entry["name"]
-            yield from entries(entry.get("config"), (*at, "config"), home + entry["name"] + "/")
-
-
 def rules_in(text, found):
     """Returns where each rule is, by the path of its client or init, the member that has it, and its number."""
-    try:
-        value = json.loads(text)
-    except (ValueError, RecursionError):
-        return {}
-    rules = {}
-    for at, name in entries(value):
-        for member, owner in (("route", at), ("default-route", at[:-2])):
-            number = 0
-            while (*owner, member, number) in found:
-                rules[name, member, number] = found[(*owner, member, number)]
-                number += 1
+    names, rules = {(): ""}, {}
+    for path in sorted(found, key=len):
+        *at, last = path or [None]
+        home, step = tuple(at[:-3]), at[-3:-1]
+        is_entry = home in names and step == ["config"] * bool(home) + ["start"]
+        if last == "name" and is_entry and text[found[path][0]] == '"':
+            names[tuple(at)] = name = names[home] + "/" * bool(home) + json.loads(text[slice(*found[path])])
+            for member, owner in (("route", at), ("default-route", at[:-2])):
+                for number in takewhile(lambda it: (*owner, member, it) in found, count()):
+                    rules[name, member, number] = found[(*owner, member, number)]
     return rules
 
 
