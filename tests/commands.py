@@ -12,8 +12,7 @@ from typing import NamedTuple
 import pytest
 
 TOP = Path(__file__).resolve().parent.parent
-CASES, EXAMPLES = TOP / "cases", TOP / "examples"
-ENGINE_CASES, NETHRYWEL_CASES, TOOL_CASES = (CASES / it for it in ("engine", "nethrywel", "tools"))
+CASES, ENGINE_CASES, EXAMPLES = TOP / "cases", TOP / "cases/engine", TOP / "examples"
 PYTHON = "/usr/bin/python3"
 CRAWLER = ("--machine", "friendly/crawler.json")
 SENSORS = ("--machine", "friendly/sensors.json")

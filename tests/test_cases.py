@@ -2,11 +2,10 @@
 import re
 
 import pytest
-from commands import (CASES, CRAWLER, ENGINE_CASES, EXAMPLES, NETHRYWEL_CASES, PYTHON, SENSORS, TOOL_CASES, TOP, Program,
-                      machine_of, run, tool)
+from commands import CASES, ENGINE_CASES, EXAMPLES, PYTHON, TOP, Program, machine_of, run, tool
 
 KINDS = (".stdout", ".args", ".status", ".stderr")
-FOLDERS = [it for root in (ENGINE_CASES, NETHRYWEL_CASES, TOOL_CASES) for it in sorted(root.iterdir()) if it.is_dir()]
+FOLDERS = [it for root in ("engine", "nethrywel", "tools") for it in sorted((CASES / root).iterdir()) if it.is_dir()]
 
 
 def id_of(path):
@@ -22,9 +21,9 @@ def names_in(folder):
 SLOW = ("as-many-lines-as-may-be",)
 
 
-def cases(root):
-    return [pytest.param(folder / name, marks=[pytest.mark.slow] * (name in SLOW))
-            for folder in FOLDERS if folder.parent == root for name in names_in(folder)]
+def cases():
+    found = ((folder, name) for folder in FOLDERS for name in names_in(folder))
+    return [pytest.param(folder / name, marks=[pytest.mark.slow] * (name in SLOW)) for folder, name in found]
 
 
 def check(program, case):
@@ -37,19 +36,11 @@ def check(program, case):
     assert ran == (int(parts[".status"] or 0), *(parts[it].decode(errors="surrogateescape") for it in (".stdout", ".stderr")))
 
 
-@pytest.mark.parametrize("case", cases(ENGINE_CASES), ids=id_of)
-def test_engine(engine, case):
-    check(engine, case)
-
-
-@pytest.mark.parametrize("case", cases(NETHRYWEL_CASES), ids=id_of)
-def test_nethrywel(nethrywel, case):
-    check(nethrywel, case)
-
-
-@pytest.mark.parametrize("case", cases(TOOL_CASES), ids=id_of)
-def test_tool(case):
-    check(tool(f"tools/{case.parent.name}"), case)
+@pytest.mark.parametrize("case", cases(), ids=id_of)
+def test_case(request, case):
+    """The first folder of a case is its program, or has folders of the tools' names."""
+    of = case.relative_to(CASES).parts[0]
+    check(tool(f"tools/{case.parent.name}") if of == "tools" else request.getfixturevalue(of), case)
 
 
 def test_second_build(engine, tmp_path):
@@ -95,10 +86,8 @@ def checked(engine, text, path):
     path.write_bytes(text)
     ran = engine("--check", path)
     fault = re.fullmatch(r"boot: (.*)\n", ran.err)
-    if ran == (0, "ok\n", ""):
-        return "ok"
-    assert (ran.status, ran.out, bool(fault)) == (2, "", True), ran
-    return fault[1]
+    assert ran == ((2, "", fault[0]) if fault else (0, "ok\n", ""))
+    return fault[1] if fault else "ok"
 
 
 @pytest.mark.parametrize("text, result", lists())
@@ -128,17 +117,8 @@ def test_example(engine, nethrywel, name):
     assert nethrywel("run", *accounts, *machine, "-", stdin=strict) == (0, transcript, "")
 
 
-SHOWN = {
-    **{f"{it}.transcript": ("run", *machine_of(it), f"{it}.scenario") for it in scenarios("friendly/*.scenario")},
-    "friendly/crawler.alone": ("alone", *CRAWLER, "reader", "friendly/crawler.scenario"),
-    "friendly/crawler.accounts": ("accounts", *CRAWLER, "friendly/crawler.scenario"),
-    "friendly/crawler.trace": ("trace", *CRAWLER, "friendly/crawler.scenario"),
-    "friendly/crawler.tree": ("tree", "friendly/crawler.json"),
-    "friendly/crawler.dot": ("tree", "--dot", "friendly/crawler.json"),
-    "friendly/sensors.least": ("least", *SENSORS, "friendly/sensors.scenario"),
-    "friendly/sensors-least.json": ("least", *SENSORS, "--list", "friendly/sensors.scenario"),
-    "friendly/sensors-least.scenario": ("least", *SENSORS, "--scenario", "friendly/sensors.scenario"),
-}
+SHOWN = {file: words.split() for file, words in (it.split(": ") for it in (CASES / "shown").read_text().splitlines())}
+SHOWN |= {f"{it}.transcript": ("run", *machine_of(it), f"{it}.scenario") for it in scenarios("friendly/*.scenario")}
 
 
 @pytest.mark.parametrize("file", SHOWN)

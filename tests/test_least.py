@@ -16,96 +16,80 @@ def machine(budgets):
                        "start": SERVERS + scripts})
 
 
+# By the call that gives it back, what a script takes: a call with one of these sizes, and the reply that binds a name.
+TAKEN = {"free": ("alloc {}", (1, 4096, 9000, 65536), "cap"), "capfree": ("capalloc", (0,), "cap"),
+         "del": ("new {}", (1, 2000, 9000, 20000), "at"), "sdel": ("snew {}", (1, 8000), "at")}
+STEPS = (*((step, end) for end in TAKEN for step in ("takes", "gives")),
+         *((it,) for it in "opens requests requests lends repeats closes refused".split()))
+
+
 class Script:
     """The lines of a script, each of which is granted if its accounts suffice, and the names of what the script has."""
 
     def __init__(self, name, pick, numbers):
         self.name, self.pick, self.numbers = name, pick, numbers
-        self.pages, self.blocks, self.slices, self.objects, self.sessions = [], [], [], [], {}
+        self.names, self.sessions = {it: [] for it in TAKEN}, {}
+
+    def lines(self):
+        """Returns the lines of one more step, which opens a session if it needs one and there is none."""
+        step, *of = self.pick(STEPS)
+        if step in ("requests", "lends", "closes"):
+            step, of = (step, [self.pick(sorted(self.sessions))]) if self.sessions else ("opens", [])
+        return getattr(self, step)(*of)
 
     def binds(self, call, form, names):
         """Returns the line of a call whose reply binds a new name, which is added to others."""
         names.append(f"${self.name}{next(self.numbers)}")
         return f"{self.name} {call} => {form} {names[-1]}"
 
-    def ends(self, call, names):
+    def takes(self, end):
+        call, sizes, form = TAKEN[end]
+        return [self.binds(call.format(self.pick(sizes)), form, self.names[end])]
+
+    def gives(self, end):
         """Returns the line of a call that gives back what a name denotes, or a line that binds one if there is none."""
-        if not names:
-            return self.alloc()
-        return f"{self.name} {call} {names.pop(self.pick(range(len(names))))} => ok"
+        names = self.names[end]
+        return [f"{self.name} {end} {names.pop(self.pick(range(len(names))))} => ok"] if names else self.takes("free")
 
-    def donation(self):
-        return f"ram_quota={self.pick((1, 4096, 9000, 16384, 40960))}, cap_quota={self.pick((1, 2, 3, 6))}"
+    def opened(self, names):
+        ram, caps = self.pick((1, 4096, 9000, 16384, 40960)), self.pick((1, 2, 3, 6))
+        return self.binds(f"open File_system ram_quota={ram}, cap_quota={caps}", "cap", names)
 
-    def session(self):
-        return self.pick(sorted(self.sessions)) if self.sessions else None
-
-    def alloc(self):
-        return self.binds(f"alloc {self.pick((1, 4096, 9000, 65536))}", "cap", self.pages)
-
-    def open(self):
+    def opens(self):
         names = []
-        line = self.binds(f"open File_system {self.donation()}", "cap", names)
+        line = self.opened(names)
         self.sessions[names[0]] = {}
-        return line
+        return [line]
 
-    def request(self):
-        """Returns the line of a request to a session, or one that opens a session if there is none."""
-        at = self.session()
-        if at is None:
-            return self.open()
+    def requests(self, at):
         files = self.sessions[at]
         if not files or self.pick((True, False)):
             files[f"f{next(self.numbers)}"] = 0
-            return f"{self.name} call {at} CREATE {list(files)[-1]} => OK"
+            return [f"{self.name} call {at} CREATE {list(files)[-1]} => OK"]
         file, more = self.pick(sorted(files)), self.pick((1, 40, 3000))
-        line = f"{self.name} call {at} WRITE {file} {files[file]} {'61' * more} => OK {more}"
         files[file] += more
-        return line
+        return [f"{self.name} call {at} WRITE {file} {files[file] - more} {'61' * more} => OK {more}"]
 
-    def lends(self):
+    def lends(self, at):
         """Returns lines that use a session's buffer and give it back."""
-        at = self.session()
-        if at is None:
-            return [self.open()]
         names = []
         return [self.binds(f"call {at} BUFFER {self.pick((1, 5000))}", "OK cap", names),
                 self.binds(f"attach {names[0]}", "at", names), f"{self.name} poke {names[1]} 61 => ok",
                 f"{self.name} call {at} UNBUFFER => OK"]
 
-    def round(self):
+    def repeats(self):
         """Returns lines of a round, in which a session needs more each time."""
         names = []
-        opening = self.binds(f"open File_system {self.donation()}", "cap", names)
+        opening = self.opened(names)
         lent = self.binds(f"call {names[0]} BUFFER $n+{self.pick((1, 4096))}", "OK cap", names)
         return ["@repeat 2 as n", opening, lent, f"{self.name} close {names[0]} => ok", "@end"]
 
-    def close(self):
-        at = self.session()
-        if at is None:
-            return self.open()
+    def closes(self, at):
         del self.sessions[at]
-        return f"{self.name} close {at} => ok"
+        return [f"{self.name} close {at} => ok"]
 
-    def lines(self):
-        """Returns the lines of one more step."""
-        return self.pick((
-            lambda: [self.alloc()],
-            lambda: [self.ends("free", self.pages)],
-            lambda: [self.binds("capalloc", "cap", self.objects)],
-            lambda: [self.ends("capfree", self.objects)],
-            lambda: [self.binds(f"new {self.pick((1, 2000, 9000, 20000))}", "at", self.blocks)],
-            lambda: [self.ends("del", self.blocks)],
-            lambda: [self.binds(f"snew {self.pick((1, 8000))}", "at", self.slices)],
-            lambda: [self.ends("sdel", self.slices)],
-            lambda: [self.open()],
-            lambda: [self.request()],
-            lambda: [self.request()],
-            self.lends,
-            self.round,
-            lambda: [self.close()],
-            lambda: [f"{self.name} alloc 17M => refused"],
-        ))()
+    def refused(self):
+        return [f"{self.name} alloc 17M => refused"]
 
 
 @st.composite
