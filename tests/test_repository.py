@@ -53,7 +53,8 @@ def test_missing_package(tmp_path, name, package):
 
 @needs(*PAGES, "matplotlib", "parallel")
 @pytest.mark.parametrize("name, shown", [("report", r"report: 00:0\d, nethrywel trace --json scenario"),
-                                         ("picture", r"picture: 00:0\d, 1 lines, drawing"), ("sweep", "100%")])
+                                         ("picture", r"picture: 00:0\d, 1 lines, drawing"), ("sweep", "100%")],
+                         ids=["report", "picture", "sweep"])
 def test_progress(nethrywel, tmp_path, name, shown):
     """A tool shows its progress on a terminal, whose line is empty at the end, and nothing elsewhere."""
     script(tmp_path / "nethrywel", f'sleep 0.7\nexec "{nethrywel.path}" "$@"')
