@@ -13,8 +13,8 @@ use cli_options::DiffOptions;
 use init_core::{BootFault, ListEntry, StartList};
 use line_rounds::UnfoldedText;
 use list_diff::{
-    ComponentNeed, LineResult, ListDifferences, NeedChange, QuotaAmounts, ReachSide, ReplyChange,
-    changed_replies, changes, lacks, leads, line_results,
+    ComponentNeed, LineResult, ListDifferences, NeedChange, QuotaAmounts, ReachChange, ReachSide,
+    ReplyChange, changed_replies, changes, lacks, leads, line_results,
 };
 use list_reach::ReachTable;
 use list_review::Review;
@@ -205,7 +205,7 @@ fn differences(
         cells: news.cells(),
     };
     let changes = changes(alloc, before, after)?;
-    let leads = leads(alloc, was, now)?;
+    let leads = changed_leads(alloc, was, now)?;
     let told = ListDifferences {
         before,
         after,
@@ -215,6 +215,15 @@ fn differences(
         replies,
     };
     DiffText::of(alloc, &told, form)
+}
+
+// Compares where requests are routed on two start lists. Fails if the host is out of memory.
+fn changed_leads<'a>(
+    alloc: Global,
+    was: ReachSide<'a>,
+    now: ReachSide<'a>,
+) -> Result<Vec<ReachChange<'a>>, AllocError> {
+    leads(alloc, was, now)
 }
 
 // Returns the exit status of a comparison: 4 if something is changed, else 0.
