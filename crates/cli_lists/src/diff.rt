@@ -1,6 +1,5 @@
 //! The command `diff`: differences between two start lists.
-ghost use Rattle.std.specs.Prelude.{◌≡◌, not, if◌then◌else◌, IfOk};
-ghost use Rattle.list_diff.specs.Differences.{nothing_differs};
+ghost use Rattle.std.specs.Prelude.{◌≡◌, if◌then◌else◌};
 
 use crate::review::review;
 use budget_least::{AccountBudgets, Budget, BudgetQuery, BudgetReport};
@@ -13,8 +12,8 @@ use cli_options::DiffOptions;
 use init_core::{BootFault, ListEntry, StartList};
 use line_rounds::UnfoldedText;
 use list_diff::{
-    ComponentNeed, LineResult, ListDifferences, NeedChange, QuotaAmounts, ReachChange, ReachSide,
-    ReplyChange, changed_replies, changes, lacks, leads, line_results,
+    ComponentNeed, LineResult, ListDifferences, NeedChange, QuotaAmounts, ReachSide, ReplyChange,
+    changed_replies, changes, lacks, leads, line_results,
 };
 use list_reach::ReachTable;
 use list_review::Review;
@@ -141,23 +140,6 @@ struct DiffText {
 }
 
 impl DiffText {
-    // Returns differences as lines, or as documents of JSON. Fails if the host is out of memory.
-    fn of(
-        alloc: Global,
-        told: &ListDifferences<'_>,
-        form: DiagnosticForm,
-    ) -> Result<DiffText, AllocError>
-        ensures { IfOk result (λ made. made.is_changed ≡ not (nothing_differs told.now)) }
-    {
-        let text = if form == DiagnosticForm::Json {
-            told.documents(alloc)?
-        } else {
-            told.lines(alloc)?
-        };
-        let is_changed = !told.is_empty();
-        Ok(DiffText { text, is_changed })
-    }
-
     // Prints the text, and returns the exit status.
     fn print(&self, rt: &HostRuntime) -> u8 {
         let status = status_of(rt, io::writer(rt).write_all(self.text.as_slice()));
@@ -205,7 +187,7 @@ fn differences(
         cells: news.cells(),
     };
     let changes = changes(alloc, before, after)?;
-    let leads = changed_leads(alloc, was, now)?;
+    let leads = leads(alloc, was, now)?;
     let told = ListDifferences {
         before,
         after,
@@ -214,16 +196,14 @@ fn differences(
         lacks,
         replies,
     };
-    DiffText::of(alloc, &told, form)
-}
-
-// Compares where requests are routed on two start lists. Fails if the host is out of memory.
-fn changed_leads<'a>(
-    alloc: Global,
-    was: ReachSide<'a>,
-    now: ReachSide<'a>,
-) -> Result<Vec<ReachChange<'a>>, AllocError> {
-    leads(alloc, was, now)
+    Ok(DiffText {
+        text: if form == DiagnosticForm::Json {
+            told.documents(alloc)?
+        } else {
+            told.lines(alloc)?
+        },
+        is_changed: !told.is_empty(),
+    })
 }
 
 // Returns the exit status of a comparison: 4 if something is changed, else 0.
