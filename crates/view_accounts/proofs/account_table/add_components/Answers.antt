@@ -1,0 +1,14 @@
+-- A component more, and all of them.
+use Rattle.std.proofs.Common.{ap, ◌∙◌, ◌++◌, map}
+use Rattle.std.specs.List.{enumerate_from, flat_map}
+use Rattle.std.proofs.lemmas.List.{take_all}
+use Rattle.view_accounts.specs.AccountTable.{component_rows}
+use Rattle.view_accounts.specs.Rows.{component_shown, session_shown}
+use Rattle.view_accounts.specs.Table.{rows_of}
+use Rattle.view_accounts.proofs.TableLemmas.{appended, enumerated_next}
+use Rattle.view_accounts.proofs.account_table.add_components.Goals as goal
+
+pub loop-place-preserved : goal.loop-place-preserved
+loop-place-preserved c =
+    appended (rows_of c.args.rows.now.items) _ _ _ _ _ c.loop-place.invariant c.in_ok-add_component.ensures
+    (enumerated_next (λ e. component_rows (map session_shown c.args.closed.now) e.0 e.1) component_shown c.args.components.now c.loop-place.place c.index-components-place.result c.loop-place-test.true c.index-components-place.is)
