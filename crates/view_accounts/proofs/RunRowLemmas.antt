@@ -1,5 +1,5 @@
 -- The rows that are kept are those after the calls so far.
-use Rattle.std.proofs.Common.{◌≡◌, ℕ, ◌<◌, Bool, true, false, cond, List, [], ◌∷◌, ◌++◌, append-nil, is_some, length, Option, Some, None, IfNone, IfOk, IfSome, Result, Ok, Err, refl, sym, ◌∙◌, ap, subst}
+use Rattle.std.proofs.Common.{◌≡◌, ℕ, ◌<◌, Bool, true, cond, List, [], ◌∷◌, ◌++◌, append-nil, is_some, length, Option, Some, None, IfNone, IfOk, IfSome, Result, Ok, Err, refl, sym, ◌∙◌, ap, subst}
 use Rattle.std.proofs.lemmas.Option.{none-some}
 use Rattle.std.specs.declared.alloc.AllocError.{AllocError}
 use Rattle.std.specs.Option.{option_map}
@@ -9,7 +9,6 @@ use Rattle.own_model.specs.StartList.{entries_of}
 use Rattle.own_model.specs.Text.{lines_of}
 use Rattle.own_model.specs.World.{World, world_running}
 use Rattle.line_steps.specs.RunPosition.{RunPosition}
-use Rattle.run_lines.specs.Accounts.{listed_at}
 use Rattle.run_lines.specs.LineRuns.{EndsFor}
 use Rattle.run_lines.specs.declared.columns.AccountOwner.TheVariants as owner
 use Rattle.run_lines.specs.declared.line_run_fault.LineRunFault.{LineRunFault}
@@ -23,8 +22,8 @@ use Rattle.view_accounts.specs.Accounting.{SeesAccounts, sessions_kept, text_kep
 use Rattle.view_accounts.specs.Kept.{found}
 use Rattle.view_accounts.specs.Needs.{Needed}
 use Rattle.view_accounts.specs.Peaks.{Noted, noted_of, session_at}
-use Rattle.view_accounts.specs.Rows.{AccountShown, ComponentShown, SessionShown, accounts_shown}
-use Rattle.view_accounts.specs.RunRows.{Measures, ShowsRows, account_row, closed_kept, component_row, entries_in, in_turn, init_row, measures_after, measures_kept, open_row, reserve_row, rows_after, rows_in, rows_kept, selector_count, session_rows}
+use Rattle.view_accounts.specs.Rows.{accounts_shown}
+use Rattle.view_accounts.specs.RunRows.{Measures, ShowsRows, account_row, component_row, entries_in, in_turn, init_row, measures_after, measures_kept, open_row, rows_after, rows_kept, selector_count, session_rows}
 use Rattle.view_accounts.specs.declared.account_rows.AccountRows.{AccountRows}
 use Rattle.view_accounts.specs.declared.accounting.Accounting.{Accounting}
 use Rattle.view_accounts.proofs.NeedLemmas.{below_is, running_is}

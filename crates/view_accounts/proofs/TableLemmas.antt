@@ -4,7 +4,7 @@ use Rattle.std.specs.List.{enumerate_from, flat_map}
 use Rattle.std.specs.Prelude.{Vec, vec_items}
 use Rattle.std.proofs.lemmas.Bool.{cases_lt, eqb-false}
 use Rattle.std.proofs.lemmas.Grind.{flat_map-append}
-use Rattle.std.proofs.lemmas.List.{drop_more, get_or_append_left, get_or_past, get_or_push, get_or_read, length-map, length-take-le, map_more, map_push, take_all}
+use Rattle.std.proofs.lemmas.List.{drop_more, get_or_append_left, get_or_past, get_or_push, length-map, length-take-le, map_more, map_push}
 use Rattle.view_accounts.specs.Table.{Row, cell_text, row_line, row_of, rows_of, width_at, width_in}
 
 -- a piece more of what a text has from its start on

@@ -1,6 +1,5 @@
 -- The rows of the table of accounts: what a row is of, and its figures.
-use Rattle.std.specs.Prelude.{ℕ, ◌/◌, ◌%◌, ◌==◌, ◌&&◌, ◌++◌, Bool, List, [], ◌∷◌, codes, decimal, nat_lt, if◌then◌else◌, Option, Some, None}
-use Rattle.std.specs.Option.{option_map_or}
+use Rattle.std.specs.Prelude.{ℕ, ◌/◌, ◌%◌, ◌==◌, ◌&&◌, ◌++◌, List, [], ◌∷◌, codes, decimal, nat_lt, if◌then◌else◌, Option, Some, None}
 use Rattle.view_accounts.specs.Table.{Row}
 use Rattle.view_accounts.specs.declared.table_rows.Figures.{Figures}
 

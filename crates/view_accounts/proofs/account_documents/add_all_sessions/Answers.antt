@@ -1,11 +1,11 @@
 -- One more, and all of them.
-use Rattle.std.proofs.Common.{ap, subst, ◌++◌, map, take}
+use Rattle.std.proofs.Common.{subst, ◌++◌, map, take}
 use Rattle.std.specs.List.{flat_map}
 use Rattle.std.proofs.lemmas.List.{take_all}
-use Rattle.view_accounts.specs.AccountDocuments.{Lists, component_documents, session_documents, session_members}
-use Rattle.view_accounts.specs.Rows.{component_shown, session_shown}
+use Rattle.view_accounts.specs.AccountDocuments.{Lists, session_documents}
+use Rattle.view_accounts.specs.Rows.{component_shown}
 use Rattle.view_accounts.proofs.DocumentLemmas.{listed_more}
-use Rattle.view_accounts.proofs.TableLemmas.{flat_next, maps_next}
+use Rattle.view_accounts.proofs.TableLemmas.{flat_next}
 use Rattle.view_accounts.proofs.account_documents.add_all_sessions.Goals as goal
 
 pub loop-component-preserved : goal.loop-component-preserved

@@ -1,8 +1,7 @@
 -- The documents of those so far.
 use Rattle.std.proofs.Common.{◌++◌, List, map, take}
-use Rattle.std.specs.List.{flat_map}
-use Rattle.view_accounts.specs.AccountDocuments.{Lists, Member, component_documents, session_documents, session_members}
-use Rattle.view_accounts.specs.Rows.{component_shown, session_shown}
+use Rattle.view_accounts.specs.AccountDocuments.{Lists, Member, session_members}
+use Rattle.view_accounts.specs.Rows.{session_shown}
 use Rattle.view_accounts.proofs.account_documents.add_sessions.Given as goal
 
 abbrev pub invariant-loop-session : goal.invariant-loop-session

@@ -1,5 +1,5 @@
 -- A component more.
-use Rattle.std.proofs.Common.{◌∷◌, [], ◌∙◌, sym, ap}
+use Rattle.std.proofs.Common.{◌∷◌, [], sym, ap}
 use Rattle.view_accounts.specs.Rows.{component_shown}
 use Rattle.view_accounts.specs.RunRows.{component_row, measures_kept}
 use Rattle.view_accounts.proofs.RowLemmas.{in_turn-none, pushed}

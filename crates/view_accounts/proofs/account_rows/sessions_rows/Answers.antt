@@ -1,5 +1,5 @@
 -- A selector more; the others name nothing.
-use Rattle.std.proofs.Common.{◌∙◌, sym, ap, arith}
+use Rattle.std.proofs.Common.{◌∙◌, sym, arith}
 use Rattle.view_accounts.specs.Rows.{session_shown}
 use Rattle.view_accounts.specs.RunRows.{measures_kept, selector_count, session_rows}
 use Rattle.view_accounts.proofs.RowLemmas.{added_rows, in_turn-all, in_turn-none, no_session}

@@ -1,7 +1,5 @@
 -- A component more, and all of them.
-use Rattle.std.proofs.Common.{ap, ◌∙◌, ◌++◌, map}
-use Rattle.std.specs.List.{enumerate_from, flat_map}
-use Rattle.std.proofs.lemmas.List.{take_all}
+use Rattle.std.proofs.Common.{map}
 use Rattle.view_accounts.specs.AccountTable.{component_rows}
 use Rattle.view_accounts.specs.Rows.{component_shown, session_shown}
 use Rattle.view_accounts.specs.Table.{rows_of}

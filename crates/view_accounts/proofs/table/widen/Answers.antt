@@ -1,5 +1,5 @@
 -- A cell more, and all of them.
-use Rattle.std.proofs.Common.{ap, max, length, get_or, [], ◌∙◌, sym}
+use Rattle.std.proofs.Common.{ap, max, length, get_or, [], ◌∙◌}
 use Rattle.std.proofs.lemmas.List.{take_all}
 use Rattle.view_accounts.specs.Table.{row_of, width_at}
 use Rattle.view_accounts.proofs.TableLemmas.{widened}
