@@ -105,11 +105,12 @@ module _ (entries : List Entry) (needed : Needed) (component selector : ℕ) (ro
       by (Some account) = refl
       by None = refl
 
-  -- and another one has
-  pub some_open : (a : Account) (n : Noted) (account : Option Account) (noted : Option Noted) (row : SessionShown) → Some a ≡ account → Some n ≡ noted → row ≡ session_row entries component selector (Some a) needed n →
-      rows ++ row ∷ [] ≡ rows ++ open_row entries needed component selector account noted
-  some_open a n account noted row account_is noted_is is =
-      ap (λ r. rows ++ r ∷ []) is ∙ (λ i. rows ++ open_row entries needed component selector (account_is i) (noted_is i))
+-- the row of an open session with values is added
+pub added_open : {X : Type 0} (shown : X → SessionShown) (entries : List Entry) (component selector : ℕ) (rows rows' : List X) (row : X) (a : Account) (n : Noted) (kept needed : Needed) (account : Option Account) (noted : Option Noted) → rows' ≡ rows ++ row ∷ [] → shown row ≡ session_row entries component selector (Some a) kept n → kept ≡ needed → Some a ≡ account → Some n ≡ noted →
+    map shown rows' ≡ map shown rows ++ open_row entries needed component selector account noted
+added_open shown entries component selector rows rows' row a n kept needed account noted is row_is needed_is account_is noted_is =
+    ap (map shown) is ∙ map_push shown rows row ∙ ap (λ r. map shown rows ++ r ∷ []) row_is
+    ∙ (λ i. map shown rows ++ open_row entries (needed_is i) component selector (account_is i) (noted_is i))
 
 -- ---- rows by their parts
 

@@ -226,7 +226,7 @@ struct SessionName {
 }
 
 // Adds the row of the session that a selector of a component names, if it names one.
-#[tactic(auto, using(crate::proofs::RowLemmas::none_open, crate::proofs::RowLemmas::none_noted, crate::proofs::RowLemmas::some_open))]
+#[tactic(auto, using(crate::proofs::RowLemmas::none_open, crate::proofs::RowLemmas::none_noted))]
 fn add_session<R: Router + Drop>(
     alloc: Global,
     core: &Core<R>,
