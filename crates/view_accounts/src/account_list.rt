@@ -15,7 +15,7 @@ ghost use Rattle.run_lines.specs.Machine.{world_of};
 ghost use Rattle.run_scenario.specs.Faults.{fault_before, unplayed};
 ghost use Rattle.run_scenario.specs.RunCalls.{calls_answered};
 ghost use Rattle.run_scenario.specs.LineSteps.{turns_of};
-ghost use Rattle.run_scenario.specs.Writes.{Closes, IsRunFrom, nothing_told, turns_on};
+ghost use Rattle.run_scenario.specs.Writes.{Closes, IsRunFrom, nothing_told, start_at, start_on};
 ghost use Rattle.run_lines.specs.declared.line_run_fault.LineRunFault.TheVariants.{NoMemory as NoRoom};
 
 use crate::account_rows::AccountRows;
@@ -58,7 +58,7 @@ pub fn accounts<S: Source, K: Sink, E: Sink>(
 ) -> Result<AccountList, BootFault>
     ensures played { IfOk result (λ accounts. fault_before (S.has_failed reader.old)
         (K.has_failed writer.old || E.has_failed complaints.old) ≡ None →
-        (sessions : OfSessions) × (IsRunFrom (turns_on None play.entry.start play.entry.list.now)
+        (sessions : OfSessions) × (IsRunFrom (start_on None play.entry.start play.entry.list.now)
         nothing_told (accounts_behind sessions play.entry.list.now) true accounts.ending
         (S.remaining reader.old) (S.remaining reader.new)
         (S.has_failed reader.new) (K.contents writer.old) (K.contents writer.new)
@@ -117,7 +117,8 @@ fn run_accounting<R: Router + Drop, S: Source, K: Sink, E: Sink>(
     ensures played { fault_before (S.has_failed reader.old)
         (K.has_failed writer.old || E.has_failed complaints.old) ≡ None →
         (sessions : OfSessions)
-        × (IsRunFrom (turns_of None stage.entry.core stage.entry.notes.stand) (λ _. [])
+        × (IsRunFrom (start_at None stage.entry.core stage.entry.notes.stand
+        stage.entry.notes.critic.expected) (λ _. [])
         (λ turns. accounts_text sessions stage.entry.run.list.now stage.entry.core
         (calls_answered None turns))
         true result.ending (S.remaining reader.old) (S.remaining reader.new)

@@ -13,11 +13,11 @@ returns-clause-played g c = λ works.
       played.0,
       (
         played_on c.args.play.list.now None c.args.play.start (λ _ _. []) (λ start turns. accounts_text played.0 c.args.play.list.now start (calls_answered None turns)) c.run_accounting.result.ending _ _ _ _ _
-            c.in_ok-core.ensures.started c.new-notes.ensures played.1.0,
+            c.in_ok-core.ensures.started c.new-notes.ensures.stands c.new-notes.ensures.expects played.1.0,
         subst (λ world. ShowsRows played.0 c.args.play.list.now world (turns_of None world c.args.play.start) c.run_accounting.result.ending.fault (g.S.Source.remaining c.args.reader.now) c.run_accounting.result.rows)
             c.in_ok-core.ensures.started
             (subst (λ stand. ShowsRows played.0 c.args.play.list.now c.in_ok-core.core.now (turns_of None c.in_ok-core.core.now stand) c.run_accounting.result.ending.fault (g.S.Source.remaining c.args.reader.now) c.run_accounting.result.rows)
-            c.new-notes.ensures played.1.1),
+            c.new-notes.ensures.stands played.1.1),
       ),
     )
 
