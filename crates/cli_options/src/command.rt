@@ -47,9 +47,9 @@ pub enum Command<'a> {
     /// Prints where a session request is routed to, and by which rules.
     Route(RouteOptions<'a>),
     /// Prints a table of all lines, with the use of quota after each line.
-    Trace(TraceOptions<'a>),
+    Trace(ReportOptions<'a>),
     /// Prints all accounts after a scenario.
-    Accounts(AccountsOptions<'a>),
+    Accounts(ReportOptions<'a>),
     /// Prints the sufficient budgets of each account of a scenario.
     Least(LeastOptions<'a>),
     /// Prints the replies to a component in the whole run and alone.
@@ -154,25 +154,12 @@ pub struct RouteOptions<'a> {
     pub args: &'a str,
 }
 
-/// The options of `trace`.
+/// The options of `trace` and `accounts`.
 #[derive(Drop)]
-pub struct TraceOptions<'a> {
+pub struct ReportOptions<'a> {
     /// The path of a start list, if one is named.
     pub machine: Option<&'a str>,
-    /// Whether documents of JSON are written in place of comma-separated values.
-    pub json: bool,
-    /// The path of the scenario.
-    pub scenario: &'a str,
-}
-
-/// The options of `accounts`.
-#[derive(Drop)]
-pub struct AccountsOptions<'a> {
-    /// The path of a start list, if one is named.
-    pub machine: Option<&'a str>,
-    /// Whether each account is written as a line of the account list, in place of a table.
-    pub plain: bool,
-    /// Whether a document of JSON is written in place of a table.
+    /// Whether documents of JSON are written in place of comma-separated values or lines.
     pub json: bool,
     /// The path of the scenario.
     pub scenario: &'a str,
@@ -301,8 +288,7 @@ impl<'a> Command<'a> {
             Command::Tree(asked) => asked.json,
             Command::Reach(asked) => asked.json,
             Command::Route(asked) => asked.json,
-            Command::Trace(asked) => asked.json,
-            Command::Accounts(asked) => asked.json,
+            Command::Trace(asked) | Command::Accounts(asked) => asked.json,
             Command::Least(asked) => asked.json,
             Command::Alone(asked) => asked.json,
             Command::Diff(asked) => asked.json,
@@ -449,7 +435,7 @@ impl<'a> Command<'a> {
     fn trace(found: &ArgMatches<'a>) -> Command<'a>
         ensures { Asks result (codes "trace") (rows_of (found_of found.now)) }
     {
-        Command::Trace(TraceOptions {
+        Command::Trace(ReportOptions {
             machine: found.get_str("machine"),
             json: is_set(found, "json"),
             scenario: path(found, "scenario"),
@@ -460,9 +446,8 @@ impl<'a> Command<'a> {
     fn accounts(found: &ArgMatches<'a>) -> Command<'a>
         ensures { Asks result (codes "accounts") (rows_of (found_of found.now)) }
     {
-        Command::Accounts(AccountsOptions {
+        Command::Accounts(ReportOptions {
             machine: found.get_str("machine"),
-            plain: is_set(found, "plain"),
             json: is_set(found, "json"),
             scenario: path(found, "scenario"),
         })

@@ -129,13 +129,7 @@ pub(crate) const COMMANDS: &[CommandForm<'static>] = &[
     CommandForm {
         name: "accounts",
         about: help::ACCOUNTS,
-        words: &[
-            MACHINE,
-            ArgumentForm::Flag("plain", help::PLAIN),
-            JSON,
-            SET,
-            SCENARIO,
-        ],
+        words: &[MACHINE, JSON, SET, SCENARIO],
     },
     CommandForm {
         name: "alone",

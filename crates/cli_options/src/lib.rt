@@ -11,9 +11,8 @@ mod help;
 mod input_files;
 
 pub use command::{
-    AccountsOptions, AloneOptions, CheckOptions, Color, Command, CommandLine, DiffOptions,
-    LeastOptions, ReachOptions, RecordOptions, RouteOptions, RunOptions, TestOptions, TraceOptions,
-    TreeOptions,
+    AloneOptions, CheckOptions, Color, Command, CommandLine, DiffOptions, LeastOptions,
+    ReachOptions, RecordOptions, ReportOptions, RouteOptions, RunOptions, TestOptions, TreeOptions,
 };
 pub use commands::{alone_usage_error, color_value_error, missing_command_error, words_given};
 pub use help::CALLS;

@@ -16,20 +16,12 @@ pub(crate) enum RunView<'a> {
         json: bool,
     },
     /// The accounts after the last line.
-    Accounts(AccountsForm),
+    Accounts {
+        /// Whether the accounts are printed as a list of JSON.
+        json: bool,
+    },
     /// The replies to the component of this name, in the whole run and alone.
     Alone(&'a [u8]),
-}
-
-/// The form in which accounts are printed.
-#[derive(Clone, Copy)]
-pub(crate) enum AccountsForm {
-    /// A table.
-    Table,
-    /// A line of the account list for each account.
-    Lines,
-    /// A list of JSON.
-    Json,
 }
 
 impl<'a> RunView<'a> {
@@ -62,7 +54,9 @@ pub(crate) fn view(
             let format = JsonRows { alloc };
             trace(alloc, play, format, reader, writer, complaints)
         }
-        RunView::Accounts(_) => { Ok(accounts(alloc, play, reader, writer, complaints)?.ending) }
+        RunView::Accounts { .. } => {
+            Ok(accounts(alloc, play, reader, writer, complaints)?.ending)
+        }
         RunView::Alone(name) => {
             let compared = alone(alloc, play, name, reader, writer, complaints)?;
             Ok(if compared.lines == 0 || compared.difference.is_some() {

@@ -1,7 +1,6 @@
 pub mod AccountViewLemmas
 pub mod AccountingLemmas
 pub mod ClosedLemmas
-pub mod DocumentLemmas
 pub mod HearLemmas
 pub mod KeptLemmas
 pub mod ListLemmas
@@ -9,8 +8,5 @@ pub mod NeedLemmas
 pub mod NotedLemmas
 pub mod OpenLemmas
 pub mod PeakLemmas
-pub mod RowLemmas
-pub mod RunRowLemmas
 pub mod SessionStepLemmas
 pub mod SessionTableLemmas
-pub mod TableLemmas
