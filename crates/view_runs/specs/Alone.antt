@@ -1,8 +1,9 @@
 -- The replies to one component in the whole run, and alone.
-use Rattle.std.specs.Prelude.{◌≡◌, ℕ, ◌<◌, ◌^◌, ◌==◌, true, List, [], ◌∷◌, ◌++◌, length, codes, decimal, if◌then◌else◌, Option, Some, None}
+use Rattle.std.specs.Prelude.{◌≡◌, ℕ, ◌<◌, ◌^◌, ◌==◌, true, List, [], ◌∷◌, ◌++◌, length, map, codes, decimal, if◌then◌else◌, Option, Some, None}
 use Rattle.std.specs.Option.{option_map_or}
 use Rattle.own_model.specs.Listed.{Listed}
 use Rattle.own_model.specs.LinesOfName.{is_line_of, joined, pieces, pieces_for, said_by}
+use Rattle.own_model.specs.Reply.{printed}
 use Rattle.own_model.specs.World.{World, world_running}
 use Rattle.run_lines.specs.Answered.{after_all, output_of_lines}
 use Rattle.run_scenario.specs.RunCalls.{calls_answered, calls_of_steps, text_of_steps}
@@ -15,10 +16,11 @@ use Rattle.run_scenario.specs.Writes.{transcript_of}
 abbrev pub told_in : World → List ℕ → List ℕ
 told_in world call = output_of_lines None world (call ∷ [])
 
--- a call in a line of this number, after it the text of its bytes, its text in one world, and its text in another
+-- a call in a line of this number as the log prints bytes, after it the text of its bytes, its text in one world, and its text in
+-- another
 abbrev pub told_in_both : World → World → ℕ → List ℕ → List ℕ
 told_in_both whole alone number call =
-    (decimal number ++ codes ": " ++ call ++ option_map_or in_brackets (line_text call) [] ++ 10 ∷ [])
+    (decimal number ++ codes ": " ++ map printed call ++ option_map_or in_brackets (line_text call) [] ++ 10 ∷ [])
     ++ (codes "  whole: " ++ told_in whole call)
     ++ (codes "  alone: " ++ told_in alone call)
 

@@ -1,8 +1,9 @@
 //! The replies to one component in the whole run, and in a run of its own lines alone.
-ghost use Rattle.std.specs.Prelude.{◌≡◌, ◌≢◌, ◌≤◌, ◌∷◌, ◌++◌, ◌||◌, [], ℕ, List, codes, decimal, length, false, true, is_err, IfOk, IfErr, IfNone, IfSome, OnErr, OnOk, None, Some};
+ghost use Rattle.std.specs.Prelude.{◌≡◌, ◌≢◌, ◌≤◌, ◌∷◌, ◌++◌, ◌||◌, [], ℕ, List, codes, decimal, length, map, false, true, is_err, IfOk, IfErr, IfNone, IfSome, OnErr, OnOk, None, Some};
 ghost use Rattle.std.specs.Option.{option_map_or};
 ghost use Rattle.std.specs.Result.{result_err};
 ghost use Rattle.own_model.specs.Listed.{start_list_of};
+ghost use Rattle.own_model.specs.Reply.{printed};
 ghost use Rattle.own_model.specs.StartList.{Boots, entries_of};
 ghost use Rattle.list_parser.specs.Quota.{quota_fault};
 ghost use Rattle.list_parser.specs.declared.fault.BootFault.TheVariants.{NoMemory};
@@ -20,6 +21,7 @@ ghost use Rattle.run_scenario.specs.Writes.{Closes, IsRunFrom, IsWrittenBy, star
 ghost use Rattle.run_lines.specs.declared.line_run_fault.LineRunFault.TheVariants.{NoMemory as NoRoom};
 
 use crate::byte_text::{put_text_after, shown_in};
+use crate::printed_bytes::put_printed;
 use arrayvec::ArrayVec;
 use core_calls::Reply;
 use init_core::boot;
@@ -201,7 +203,7 @@ fn put_both<K: Sink>(
     requires read { IsReadAs heard.now.line.now heard.now.call }
     ensures told { OutputsUnless result (K.contents writer.old) gathered.old
         (K.contents writer.new) gathered.new
-        ((decimal heard.now.number ++ codes ": " ++ heard.now.line.now
+        ((decimal heard.now.number ++ codes ": " ++ map printed heard.now.line.now
         ++ option_map_or in_brackets (line_text heard.now.line.now) [] ++ 10 ∷ [])
         ++ (codes "  whole: " ++ answer_text (Some heard.now.answer))
         ++ (codes "  alone: " ++ answer_text (Some alone.now))) }
@@ -222,7 +224,7 @@ fn put_heard<K: Sink>(
     requires read { IsReadAs heard.now.line.now heard.now.call }
     ensures told { OutputsUnless result (K.contents writer.old) gathered.old
         (K.contents writer.new) gathered.new
-        (decimal heard.now.number ++ codes ": " ++ heard.now.line.now
+        (decimal heard.now.number ++ codes ": " ++ map printed heard.now.line.now
         ++ option_map_or in_brackets (line_text heard.now.line.now) [] ++ 10 ∷ []) }
     ensures failing { K.has_failed writer.new ≡ is_err result }
 {
@@ -231,7 +233,7 @@ fn put_heard<K: Sink>(
     gathered.put(writer, b"\n")
 }
 
-// Gathers a line after its number.
+// Gathers a line after its number, as the log prints bytes.
 fn put_line<K: Sink>(
     number: u64,
     line: &[u8],
@@ -240,12 +242,12 @@ fn put_line<K: Sink>(
 ) -> Result<(), DeviceFault>
     requires { K.has_failed writer.old ≡ false }
     ensures told { OutputsUnless result (K.contents writer.old) gathered.old
-        (K.contents writer.new) gathered.new (decimal number ++ codes ": " ++ line.now) }
+        (K.contents writer.new) gathered.new (decimal number ++ codes ": " ++ map printed line.now) }
     ensures failing { K.has_failed writer.new ≡ is_err result }
 {
     put_number(number, gathered, writer)?;
     gathered.put(writer, b": ")?;
-    gathered.put(writer, line)
+    put_printed(line, gathered, writer)
 }
 
 // Gathers an answer after the name of its side.
@@ -266,9 +268,9 @@ fn put_side<K: Sink>(
 }
 
 /// Runs a scenario on a machine, and the lines of one name alone on a second machine. For each of these lines it writes the
-/// number and the line with the text of its bytes. It also writes the line's answers in the whole run and alone. At the end it
-/// writes how many these lines are, and that their answers are the same. They always are the same: each component's answers are
-/// those of its own run. Errors of lines are written as they are found.
+/// number and the line, as the log prints bytes, with the text of its bytes. It also writes the line's answers in the whole run
+/// and alone. At the end it writes how many these lines are, and that their answers are the same. They always are the same: each
+/// component's answers are those of its own run. Errors of lines are written as they are found.
 ///
 /// At a fault the output up to the fault is written, or a prefix of it if a write failed or the host is out of memory. It stops
 /// as `run` does.
