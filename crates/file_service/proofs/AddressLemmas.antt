@@ -7,17 +7,18 @@ use Rattle.own_model.specs.FileService.{File}
 use Rattle.own_model.specs.NatMap.{NatMap}
 use Rattle.own_model.specs.OwnHeap.{OwnHeap}
 use Rattle.sliced_heap.specs.Chain.{is_listed}
-use Rattle.file_service.specs.Calls.{HasBytes}
-use Rattle.file_service.specs.Files.{file_at, files_of, link_in, nodes_from}
-use Rattle.file_service.specs.Index.{AreFiles, AreOnTheWay, IsAmong, word_at}
-use Rattle.file_service.specs.Links.{followed}
-use Rattle.file_service.specs.declared.session.RecentFile.{RecentFile}
-use Rattle.file_service.proofs.FollowLemmas.{first_at, followed_at, followed_back, followed_same, listed_at}
-use Rattle.file_service.proofs.KeptLemmas.{blocks_are, listed_nonzero}
-use Rattle.file_service.proofs.LinkLemmas.{once_first}
-use Rattle.file_service.proofs.NextLemmas.{next_is}
-use Rattle.file_service.proofs.NodeKeptLemmas.{back_of}
-use Rattle.file_service.proofs.RecentLemmas.{get_listed}
+use Rattle.session_nodes.specs.Calls.{HasBytes}
+use Rattle.session_nodes.specs.Order.{link_in, nodes_from}
+use Rattle.file_service.specs.Files.{file_at, files_of}
+use Rattle.session_nodes.specs.Index.{AreListed, AreOnTheWay, IsAmong, word_at}
+use Rattle.session_nodes.specs.Links.{followed}
+use Rattle.session_nodes.specs.declared.recent.RecentNode.{RecentNode}
+use Rattle.session_nodes.proofs.FollowLemmas.{first_at, followed_at, followed_back, followed_same, listed_at}
+use Rattle.session_nodes.proofs.KeptLemmas.{blocks_are, listed_nonzero}
+use Rattle.session_nodes.proofs.LinkLemmas.{once_first}
+use Rattle.session_nodes.proofs.NextLemmas.{next_is}
+use Rattle.session_nodes.proofs.NodeKeptLemmas.{back_of}
+use Rattle.session_nodes.proofs.RecentLemmas.{get_listed}
 use Rattle.file_service.proofs.SearchLemmas.{link_some}
 
 some_of_default : (o : Option ℕ) (a : ℕ) → a ≡ unwrap_or o 0 → a ≢ 0 → o ≡ Some a
@@ -28,7 +29,7 @@ none_of_default : (o : Option ℕ) → unwrap_or o 0 ≡ 0 → ((x : ℕ) → o 
 none_of_default None is some = refl
 none_of_default (Some x) is some = absurd (some x refl is)
 
-module _ (first last root : ℕ) {recent : Option RecentFile} (nodes : OwnHeap) (contents : NatMap (List ℕ)) (files : AreFiles first last root recent nodes contents) where
+module _ (first last root : ℕ) {recent : Option RecentNode} (nodes : OwnHeap) (contents : NatMap (List ℕ)) (files : AreListed first last root recent nodes contents) where
   abbrev blocks : List ℕ
   blocks = files.blocks
 
@@ -85,7 +86,7 @@ module _ (first last root : ℕ) {recent : Option RecentFile} (nodes : OwnHeap) 
   first_found place = let same : place ≡ place - 0 = omega arith in ap (λ n. followed next n first) same ∙ found_ahead 0 place first first_is (omega arith)
 
   -- from the remembered file on
-  module _ (file : RecentFile) (is : recent ≡ Some file) where
+  module _ (file : RecentNode) (is : recent ≡ Some file) where
     among : slice_get blocks file.place ≡ Some file.address
     among = ap (λ xs. slice_get xs file.place) (sym are) ∙ subst (λ r. IsAmong r (nodes_from first nodes)) is files.indexed.remembered
 
@@ -143,7 +144,7 @@ module _ (first last root : ℕ) {recent : Option RecentFile} (nodes : OwnHeap) 
       a_file = slice_get-map f (nodes_from first nodes) place ∙ ap (option_map f) placed
 
       -- it is remembered
-      pub remembers : AreFiles first last root (Some (record { place = place; address = address })) nodes contents
+      pub remembers : AreListed first last root (Some (record { place = place; address = address })) nodes contents
       remembers = record {
         blocks = blocks;
         stand = files.stand;

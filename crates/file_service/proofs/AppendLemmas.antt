@@ -9,15 +9,17 @@ use Rattle.own_model.specs.NatMap.{NatMap}
 use Rattle.own_model.specs.OwnHeap.{OwnHeap, chunk_with, offset_of}
 use Rattle.own_model.proofs.NatMapLemmas.{get-insert}
 use Rattle.sliced_heap.specs.Chain.{is_listed}
-use Rattle.file_service.specs.Calls.{HasBytes}
-use Rattle.file_service.specs.Files.{node_at, link_in, file_at, files_of, IsFile, StandAt}
-use Rattle.file_service.specs.Index.{KeepsPlace}
-use Rattle.file_service.specs.Node.{FileNode, node_of}
+use Rattle.session_nodes.specs.Calls.{HasBytes}
+use Rattle.session_nodes.specs.Order.{node_at, link_in, HoldsNode, StandAt}
+use Rattle.file_service.specs.Files.{file_at, files_of}
+use Rattle.session_nodes.specs.Index.{KeepsPlace}
+use Rattle.session_nodes.specs.Node.{StoredNode, node_of}
 use Rattle.file_service.specs.Session.{LinksTo, KeepsFile, IsFresh}
 use Rattle.file_service.proofs.FileListLemmas.{append_map}
-use Rattle.file_service.proofs.NodeKeptLemmas.{place_same}
-use Rattle.file_service.proofs.KeptLemmas.{Stays, stand_appended, files_kept, files_are, blocks_are, ChunksStay, OffsetsStay, AllStay}
-use Rattle.file_service.proofs.LinkLemmas.{listed_first, listed_later, last_listed, unlisted}
+use Rattle.session_nodes.proofs.NodeKeptLemmas.{place_same}
+use Rattle.file_service.proofs.FileKeptLemmas.{files_kept, files_are}
+use Rattle.session_nodes.proofs.KeptLemmas.{Stays, stand_appended, blocks_are, ChunksStay, OffsetsStay, AllStay}
+use Rattle.session_nodes.proofs.LinkLemmas.{listed_first, listed_later, last_listed, unlisted}
 use Rattle.file_service.proofs.SearchLemmas.{link_some}
 
 -- ---- a node is stored
@@ -40,21 +42,21 @@ module _ (nodes later : OwnHeap) (block : ℕ) (payload : List ℕ) (stored : la
   pub stored_links : (first target : ℕ) → block ≢ 0 → node_at later block ≡ record (node_at nodes block) { next = target } → HasBytes later.payloads block 0 96 → KeepsPlace nodes later block →
       LinksTo first block target first nodes later
   stored_links first target some is there place = record {
-    linked = link_some first later block some ∙ ap (λ (n : FileNode). n.next) is;
-    links = λ b other. ap (λ (n : FileNode). cond (eqb b 0) first n.next) (stored_node b other);
+    linked = link_some first later block some ∙ ap (λ (n : StoredNode). n.next) is;
+    links = λ b other. ap (λ (n : StoredNode). cond (eqb b 0) first n.next) (stored_node b other);
     rest = stored_rest;
     files = λ b was. ⊎_elim
         (λ (here : b ≡ block). subst (KeepsFile nodes later) (sym here) (record {
-          name = ap (λ (n : FileNode). n.name) is;
-          size = ap (λ (n : FileNode). n.size) is;
-          content = ap (λ (n : FileNode). n.content) is;
+          name = ap (λ (n : StoredNode). n.name) is;
+          size = ap (λ (n : StoredNode). n.size) is;
+          content = ap (λ (n : StoredNode). n.content) is;
           there = there;
           place = place;
         }))
         (λ (other : b ≢ block). record {
-          name = ap (λ (n : FileNode). n.name) (stored_node b other);
-          size = ap (λ (n : FileNode). n.size) (stored_node b other);
-          content = ap (λ (n : FileNode). n.content) (stored_node b other);
+          name = ap (λ (n : StoredNode). n.name) (stored_node b other);
+          size = ap (λ (n : StoredNode). n.size) (stored_node b other);
+          content = ap (λ (n : StoredNode). n.content) (stored_node b other);
           there = stored_there b other was;
           place = place_same nodes later b (stored_payload b other);
         })
@@ -105,9 +107,9 @@ module _ (first last : ℕ) (nodes mid later : OwnHeap) (contents : NatMap (List
       let one = stored_node nodes mid block payload stored b other in
       let file = links.files b (stored_there nodes mid block payload stored b other (stand.each b t).there) in
       record {
-        name = file.name ∙ ap (λ (n : FileNode). n.name) one;
-        size = file.size ∙ ap (λ (n : FileNode). n.size) one;
-        content = file.content ∙ ap (λ (n : FileNode). n.content) one;
+        name = file.name ∙ ap (λ (n : StoredNode). n.name) one;
+        size = file.size ∙ ap (λ (n : StoredNode). n.size) one;
+        content = file.content ∙ ap (λ (n : StoredNode). n.content) one;
         there = file.there;
         chunk = chunk_same (b - 16);
         offset = offset_same (b - 16);
@@ -124,15 +126,15 @@ module _ (first last : ℕ) (nodes mid later : OwnHeap) (contents : NatMap (List
   not_last e = other_block last (subst (λ l. is_listed (0 ∷ blocks) l ≡ true) (sym stand.last_is) (last_listed 0 blocks)) (sym e)
 
   ends : link_in first_later later block ≡ 0
-  ends = links.links block not_last ∙ link_some first mid block block_some ∙ ap (λ (n : FileNode). n.next) back
+  ends = links.links block not_last ∙ link_some first mid block block_some ∙ ap (λ (n : StoredNode). n.next) back
 
   new_file : KeepsFile mid later block
   new_file = links.files block there
 
   new_empty : (node_at later block).size ≡ 0
-  new_empty = new_file.size ∙ ap (λ (n : FileNode). n.size) back
+  new_empty = new_file.size ∙ ap (λ (n : StoredNode). n.size) back
 
-  new_is_file : IsFile later contents block
+  new_is_file : HoldsNode later contents block
   new_is_file = search (rules, new_file, chunk_same, count_same, new_empty)
 
   pub stand_new : StandAt first_later block later contents (blocks ++ block ∷ [])
@@ -146,7 +148,7 @@ module _ (first last : ℕ) (nodes mid later : OwnHeap) (contents : NatMap (List
   }
   files_new =
       let f : ℕ → File = file_at later contents in
-      let old = files_kept first last nodes later contents contents blocks stand (omega (arith, count_same)) stays ∙ sym (files_are first last nodes contents blocks stand) in
+      let old = files_kept nodes later contents contents blocks stays ∙ sym (files_are first last nodes contents blocks stand) in
       let shape = ap (λ (n : OwnHeap). n.shape) rest in
       let files : map f (blocks ++ block ∷ []) ≡ (files_of first nodes contents).files ++ record { name = name; bytes = []; chunk = chunk_with nodes (block - 16); offset = offset_of nodes (block - 16) } ∷ [] =
       append_map f f blocks (block ∷ []) ∙ ap (λ (xs : List File). xs ++ f block ∷ []) old ∙ ap (λ (x : File). (files_of first nodes contents).files ++ x ∷ []) new_file_is in

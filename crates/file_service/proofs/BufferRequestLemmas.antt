@@ -25,14 +25,14 @@ use Rattle.server_frame.specs.declared.effect.Effect.{Effect}
 use Rattle.server_frame.specs.declared.effect.Effect.TheVariants.{Nothing}
 use Rattle.session_proto.specs.File.{model_request}
 use Rattle.session_proto.specs.declared.file.FileRequest.{FileRequest}
-use Rattle.file_service.specs.SoundHeaps.{Stock}
-use Rattle.file_service.specs.SessionHeaps.{stock_of, StaySoundHeaps, KeepsRooms}
-use Rattle.file_service.specs.SessionBuffer.{FillsBuffer, TakesBuffer, HasBuffer, buffer_key}
+use Rattle.session_nodes.specs.SoundHeaps.{Stock}
+use Rattle.session_nodes.specs.SessionHeaps.{stock_of, StaySoundHeaps, KeepsRooms}
+use Rattle.session_nodes.specs.SessionBuffer.{FillsBuffer, TakesBuffer, HasBuffer, buffer_key}
 use Rattle.file_service.specs.Session.{files_in, served_in, session_served, Answers, HasFiles, IsAnswered, IsReady, Leaves, LeavesSession, Serves}
 use Rattle.file_service.specs.declared.session.FileSession.{FileSession}
-use Rattle.file_service.specs.declared.session.SessionBuffer.{SessionBuffer}
+use Rattle.session_nodes.specs.declared.session_buffer.SessionBuffer.{SessionBuffer}
 use Rattle.file_service.proofs.RequestLemmas.{told_text}
-use Rattle.file_service.proofs.SourceLemmas.{buffer_kept, buffer_same}
+use Rattle.session_nodes.proofs.SourceLemmas.{buffer_kept, buffer_same}
 
 -- ---- why a put or a get is refused
 

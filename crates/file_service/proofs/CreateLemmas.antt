@@ -18,13 +18,15 @@ use Rattle.own_model.proofs.ByteLemmas.{length-zeros}
 use Rattle.own_model.proofs.NatMapLemmas.{some_of, get-insert, get-insert_same}
 use Rattle.heap_core.proofs.TakesGrownLemmas.{growth_fits}
 use Rattle.sliced_heap.specs.Chain.{is_listed}
-use Rattle.file_service.specs.Calls.{TakesNode, TakesInHole, TakesInChunk}
-use Rattle.file_service.specs.Files.{node_at, file_at, StandAt}
-use Rattle.file_service.specs.SoundHeaps.{Stock}
+use Rattle.session_nodes.specs.Calls.{TakesNode, TakesInHole, TakesInChunk}
+use Rattle.session_nodes.specs.Order.{node_at, StandAt}
+use Rattle.file_service.specs.Files.{file_at}
+use Rattle.session_nodes.specs.SoundHeaps.{Stock}
 use Rattle.file_service.specs.Session.{IsFresh}
-use Rattle.file_service.specs.Node.{FileNode, node_of}
-use Rattle.file_service.proofs.KeptLemmas.{Stays, stand_kept, files_kept, blocks_are, AllStay}
-use Rattle.file_service.proofs.PlaceLemmas.{HasPlaces, chunk_taken, offset_taken, count_taken, chunk_grown, offset_grown, placed_in_hole, placed_in_chunk, starts_at}
+use Rattle.session_nodes.specs.Node.{StoredNode, node_of}
+use Rattle.file_service.proofs.FileKeptLemmas.{files_kept}
+use Rattle.session_nodes.proofs.KeptLemmas.{Stays, stand_kept, blocks_are, AllStay}
+use Rattle.session_nodes.proofs.PlaceLemmas.{HasPlaces, chunk_taken, offset_taken, count_taken, chunk_grown, offset_grown, placed_in_hole, placed_in_chunk, starts_at}
 
 -- what a taken block leaves and where it stands
 pub record Takes (first last : ℕ) (blocks : List ℕ) (block : ℕ) (old new : Stock) : Type 0 where
@@ -58,10 +60,10 @@ module _ (first last : ℕ) (nodes later : OwnHeap) (contents : NatMap (List ℕ
   taken_stays b t = grind (arith, nat_tests, same_node, same_payload)
 
   pub stand_taken : StandAt first last later contents blocks
-  stand_taken = stand_kept first last nodes later contents contents blocks stand more taken_stays (λ b t. ap (λ (n : FileNode). n.next) (same_node b t))
+  stand_taken = stand_kept first last nodes later contents contents blocks stand more taken_stays (λ b t. ap (λ (n : StoredNode). n.next) (same_node b t))
 
   pub files_taken : map (file_at later contents) blocks ≡ map (file_at nodes contents) blocks
-  files_taken = files_kept first last nodes later contents contents blocks stand more taken_stays
+  files_taken = files_kept nodes later contents contents blocks taken_stays
 
   -- the block is none of those of files
   pub fresh_taken : 0 < block → block < 2 ^ 64 → 96 ≤ length payload → chunk_with later (block - 16) < length later.shape.chunks → IsFresh first later block
@@ -85,7 +87,7 @@ long_taken size enough = let e = length-zeros (size_taken 112 size - 16) in grin
 module _ (first last : ℕ) (blocks : List ℕ) (block : ℕ) (low : block < 2 ^ 64) (old : Stock) (stand : StandAt first last old.nodes old.contents blocks) (has : HasPlaces old.nodes)
     (free : get old.nodes.payloads block ≡ None) where
   -- in the best hole
-  in_hole : (hole : Spot) (new : Stock) → hole_for node_size old.nodes.shape ≡ Some hole → TakesInHole hole block old new → Takes first last blocks block old new
+  in_hole : (hole : Spot) (new : Stock) → hole_for node_size old.nodes.shape ≡ Some hole → TakesInHole node_size hole block old new → Takes first last blocks block old new
   in_hole hole new best t =
       let later : OwnHeap = with_block node_size hole old.nodes in
       let payload = zeros (size_taken (block_size node_size) hole.size - 16) in
@@ -114,7 +116,7 @@ module _ (first last : ℕ) (blocks : List ℕ) (block : ℕ) (low : block < 2 ^
       subst (Takes first last blocks block old) (sym t.is) takes
 
   -- in a new chunk
-  in_chunk : (new : Stock) → HasPlaces new.nodes → hole_for node_size old.nodes.shape ≡ None → TakesInChunk block old new → Takes first last blocks block old new
+  in_chunk : (new : Stock) → HasPlaces new.nodes → hole_for node_size old.nodes.shape ≡ None → TakesInChunk node_size block old new → Takes first last blocks block old new
   in_chunk new later_has none t =
       let growth : Growth = growth_of node_size old.nodes.shape old.account in
       let grown : OwnHeap = with_chunk growth t.start old.nodes in
@@ -147,7 +149,7 @@ module _ (first last : ℕ) (blocks : List ℕ) (block : ℕ) (low : block < 2 ^
       subst (Takes first last blocks block old) (sym t.is) takes
 
   -- a taken block
-  pub takes_node : (new : Stock) → HasPlaces new.nodes → TakesNode block old new → Takes first last blocks block old new
+  pub takes_node : (new : Stock) → HasPlaces new.nodes → TakesNode node_size block old new → Takes first last blocks block old new
   takes_node new later_has t = elim (hole_for node_size old.nodes.shape) as (λ o. hole_for node_size old.nodes.shape ≡ o → Takes first last blocks block old new) [
     | Some hole ↦ λ best. in_hole hole new best (t.in_hole hole best)
     | None ↦ λ none. in_chunk new later_has none (t.in_chunk none)

@@ -15,27 +15,28 @@ use Rattle.own_model.specs.OwnHeap.{OwnHeap}
 use Rattle.own_model.specs.Sliced.{block_size}
 use Rattle.own_model.proofs.NatMapLemmas.{get-remove}
 use Rattle.sliced_heap.specs.Chain.{is_listed}
-use Rattle.file_service.specs.Calls.{payload_in, content_given, HasBytes}
-use Rattle.file_service.specs.Files.{file_at, link_in, nodes_from, StandAt}
-use Rattle.file_service.specs.SoundHeaps.{Stock}
-use Rattle.file_service.specs.Index.{ChangesTails, IsAmong, IsNamed, KeepsPlace, LeadsBack, previous_at, remembered_without}
-use Rattle.file_service.specs.Node.{FileNode}
+use Rattle.session_nodes.specs.Calls.{payload_in, content_given, HasBytes}
+use Rattle.session_nodes.specs.Order.{link_in, nodes_from, StandAt}
+use Rattle.file_service.specs.Files.{file_at}
+use Rattle.session_nodes.specs.SoundHeaps.{Stock}
+use Rattle.session_nodes.specs.Index.{ChangesTails, IsAmong, IsNamed, KeepsPlace, LeadsBack, previous_at, remembered_without}
+use Rattle.session_nodes.specs.Node.{StoredNode}
 use Rattle.file_service.specs.Session.{IsFound, KeepsOwn, LinksTo, Serves, Unlists, served_in}
 use Rattle.file_service.specs.declared.session.FileSession.{FileSession}
-use Rattle.file_service.proofs.BackLemmas.{back_kept}
-use Rattle.file_service.proofs.IndexLemmas.{named_kept}
-use Rattle.file_service.proofs.LinkLemmas.{listed_append, last_listed, once_apart, once_later, unlisted}
-use Rattle.file_service.proofs.NodeKeptLemmas.{indexed_by, place_same, place_then}
+use Rattle.session_nodes.proofs.BackLemmas.{back_kept}
+use Rattle.session_nodes.proofs.IndexLemmas.{named_kept}
+use Rattle.session_nodes.proofs.LinkLemmas.{listed_append, last_listed, once_apart, once_later, unlisted}
+use Rattle.session_nodes.proofs.NodeKeptLemmas.{indexed_by, place_same, place_then}
 use Rattle.file_service.proofs.RemoveLemmas.{stand_removed, files_removed}
 use Rattle.file_service.proofs.ReplaceLemmas.{credited_is}
-use Rattle.file_service.proofs.KeptLemmas.{blocks_are, listed_nonzero}
-use Rattle.file_service.proofs.RecentLemmas.{among_without}
+use Rattle.session_nodes.proofs.KeptLemmas.{blocks_are, listed_nonzero}
+use Rattle.session_nodes.proofs.RecentLemmas.{among_without}
 use Rattle.file_service.proofs.SearchLemmas.{found_named, found_long, found_file, found_content, in_blocks, link_some}
 use Rattle.file_service.proofs.ServeLemmas.{serves_done, drop_done, file_name}
 use Rattle.file_service.proofs.TailFileLemmas.{account_same, files_tails, found_tails}
 
 -- the node before a file that is found
-pub previous_there : (first last : ℕ) (nodes : OwnHeap) (contents : NatMap (List ℕ)) (name : List ℕ) (previous address : ℕ) (node : FileNode) →
+pub previous_there : (first last : ℕ) (nodes : OwnHeap) (contents : NatMap (List ℕ)) (name : List ℕ) (previous address : ℕ) (node : StoredNode) →
     IsFound first last nodes contents name previous address node → previous ≢ 0 → HasBytes nodes.payloads previous 0 96
 previous_there first last nodes contents name previous address node found some =
     let among : is_listed (0 ∷ found.before) previous ≡ true = subst (λ l. is_listed (0 ∷ found.before) l ≡ true) (sym found.previous_is) (last_listed 0 found.before) in
@@ -48,14 +49,14 @@ listed_more : (before behind : List ℕ) (a b : ℕ) → is_listed (before ++ be
 listed_more before behind a b t = let all = listed_append before (a ∷ behind) b in let part = listed_append before behind b in grind (arith, nat_tests)
 
 -- what is so of a file whose node is out of the tree, and still linked to
-pub record IsUnlisted (session : FileSession) (old was : Stock) (root : ℕ) (name : List ℕ) (previous address : ℕ) (node : FileNode) : Type 0 where
+pub record IsUnlisted (session : FileSession) (old was : Stock) (root : ℕ) (name : List ℕ) (previous address : ℕ) (node : StoredNode) : Type 0 where
   pub found : IsFound session.first session.last was.nodes was.contents name previous address node
   pub named : IsNamed root was.nodes (found.before ++ found.behind)
   pub back : LeadsBack (previous_at was.nodes) 0 (found.before ++ found.behind)
   pub served : served_in (Drop name) session was ≡ served_in (Drop name) session old
   pub remembered : IsAmong session.recent (found.before ++ address ∷ found.behind)
 
-pub is_unlisted : (session later : FileSession) (old was : Stock) (name : List ℕ) (previous address : ℕ) (node : FileNode) →
+pub is_unlisted : (session later : FileSession) (old was : Stock) (name : List ℕ) (previous address : ℕ) (node : StoredNode) →
     IsAmong session.recent (nodes_from session.first old.nodes) → IsFound session.first session.last old.nodes old.contents name (previous_at old.nodes address) address node → previous ≡ previous_at old.nodes address → ChangesTails old was → Unlists session later address old was →
     IsUnlisted session old was later.root name previous address node
 unfolding found_tails
@@ -77,7 +78,7 @@ is_unlisted session later old was name previous address node recent was_found is
 credited_none : (account : Account) → credited account 0 0 ≡ account
 credited_none account = grind (arith, nat_tests)
 
-module _ (session later : FileSession) (was linked given : Stock) (name : List ℕ) (previous address : ℕ) (node : FileNode)
+module _ (session later : FileSession) (was linked given : Stock) (name : List ℕ) (previous address : ℕ) (node : StoredNode)
     (found : IsFound session.first session.last was.nodes was.contents name previous address node)
     (links : LinksTo session.first previous node.next later.first was.nodes linked.nodes)
     (rest : linked ≡ record was { nodes = linked.nodes }) (named : IsNamed later.root was.nodes (found.before ++ found.behind)) (back : LeadsBack (previous_at was.nodes) 0 (found.before ++ found.behind)) where
@@ -129,7 +130,7 @@ module _ (session later : FileSession) (was linked given : Stock) (name : List �
           remembered : IsAmong later.recent (found.before ++ found.behind)
           remembered =
               let some = listed_nonzero session.first session.last was.nodes was.contents (found.before ++ address ∷ found.behind) found.stand address (in_blocks session.first session.last was.nodes was.contents name previous address node found) in
-              let next = ap (λ (n : FileNode). n.next) found.node_is ∙ sym (link_some session.first was.nodes address some) in
+              let next = ap (λ (n : StoredNode). n.next) found.node_is ∙ sym (link_some session.first was.nodes address some) in
               subst (λ r. IsAmong r (found.before ++ found.behind)) (sym recent_is)
               (among_without (link_in session.first was.nodes) 0 node.next session.recent found.before found.behind address (once_later 0 (found.before ++ address ∷ found.behind) found.stand.line.once) found.stand.line.leads next recent)
 

@@ -6,23 +6,23 @@ use Rattle.std.specs.FinMap.{insert}
 use Rattle.own_model.specs.NatMap.{NatMap}
 use Rattle.own_model.specs.OwnHeap.{OwnHeap}
 use Rattle.sliced_heap.specs.Chain.{is_listed}
-use Rattle.file_service.specs.Files.{node_at, nodes_from, StandAt}
-use Rattle.file_service.specs.SoundHeaps.{Stock}
-use Rattle.file_service.specs.Index.{AreFiles, IsAmong, CanEnter, ChangesTree, Enters, IsPadded, KeepsPlace, previous_at}
-use Rattle.file_service.specs.Links.{last_of}
-use Rattle.file_service.specs.Node.{FileNode, rank_of}
-use Rattle.file_service.specs.declared.session.RecentFile.{RecentFile}
+use Rattle.session_nodes.specs.Order.{node_at, nodes_from, StandAt}
+use Rattle.session_nodes.specs.SoundHeaps.{Stock}
+use Rattle.session_nodes.specs.Index.{AreListed, IsAmong, CanEnter, ChangesTree, Enters, IsPadded, KeepsPlace, previous_at}
+use Rattle.session_nodes.specs.Links.{last_of}
+use Rattle.session_nodes.specs.Node.{StoredNode, rank_of}
+use Rattle.session_nodes.specs.declared.recent.RecentNode.{RecentNode}
 use Rattle.file_service.specs.Session.{LinksTo, IsFresh}
 use Rattle.file_service.proofs.AppendLemmas.{stand_new, stored_payload}
-use Rattle.file_service.proofs.BackLemmas.{back_appended}
-use Rattle.file_service.proofs.IndexLemmas.{few_below, named_kept}
-use Rattle.file_service.proofs.KeptLemmas.{blocks_are}
-use Rattle.file_service.proofs.LinkLemmas.{listed_first, listed_later, once_later, unlisted}
-use Rattle.file_service.proofs.RecentLemmas.{among_appended}
-use Rattle.file_service.proofs.NodeKeptLemmas.{back_of, indexed_by, named_of, place_same, place_then}
+use Rattle.session_nodes.proofs.BackLemmas.{back_appended}
+use Rattle.session_nodes.proofs.IndexLemmas.{few_below, named_kept}
+use Rattle.session_nodes.proofs.KeptLemmas.{blocks_are}
+use Rattle.session_nodes.proofs.LinkLemmas.{listed_first, listed_later, once_later, unlisted}
+use Rattle.session_nodes.proofs.RecentLemmas.{among_appended}
+use Rattle.session_nodes.proofs.NodeKeptLemmas.{back_of, indexed_by, named_of, place_same, place_then}
 use Rattle.file_service.proofs.TailFileLemmas.{stand_tails}
 
-module _ (first last root : ℕ) {recent : Option RecentFile} (nodes mid linked : OwnHeap) (contents : NatMap (List ℕ)) (files : AreFiles first last root recent nodes contents)
+module _ (first last root : ℕ) {recent : Option RecentNode} (nodes mid linked : OwnHeap) (contents : NatMap (List ℕ)) (files : AreListed first last root recent nodes contents)
     (block : ℕ) (fresh : IsFresh first nodes block) (payload : List ℕ) (stored : mid ≡ record nodes { payloads = insert nodes.payloads block payload })
     (name : List ℕ) (back : node_at mid block ≡ record { next = 0; content = 0; size = 0; name = name }) (padded : IsPadded mid block)
     (first_later : ℕ) (links : LinksTo first last block first_later mid linked)
@@ -48,7 +48,7 @@ module _ (first last root : ℕ) {recent : Option RecentFile} (nodes mid linked 
   its = (links.files block padded.there).place
 
   its_name : (node_at linked block).name ≡ name
-  its_name = its.name ∙ ap (λ (n : FileNode). n.name) back
+  its_name = its.name ∙ ap (λ (n : StoredNode). n.name) back
 
   pub can_enter : CanEnter root files.blocks block (rank_of name) linked
   can_enter = record {
@@ -63,7 +63,7 @@ module _ (first last root : ℕ) {recent : Option RecentFile} (nodes mid linked 
     few = few_below (2 ^ 64) files.blocks (once_later 0 files.blocks files.stand.line.once) (λ b t. files.indexed.named.small b (ap (λ xs. is_listed xs b) are ∙ t));
   }
 
-module _ (first last root : ℕ) {recent : Option RecentFile} (nodes mid : OwnHeap) (contents : NatMap (List ℕ)) (linked now : Stock) (files : AreFiles first last root recent nodes contents)
+module _ (first last root : ℕ) {recent : Option RecentNode} (nodes mid : OwnHeap) (contents : NatMap (List ℕ)) (linked now : Stock) (files : AreListed first last root recent nodes contents)
     (block : ℕ) (fresh : IsFresh first nodes block) (payload : List ℕ) (stored : mid ≡ record nodes { payloads = insert nodes.payloads block payload })
     (name : List ℕ) (back : node_at mid block ≡ record { next = 0; content = 0; size = 0; name = name }) (padded : IsPadded mid block) (previous : previous_at mid block ≡ last)
     (first_later : ℕ) (links : LinksTo first last block first_later mid linked.nodes) (contents_are : linked.contents ≡ contents)
@@ -77,7 +77,7 @@ module _ (first last root : ℕ) {recent : Option RecentFile} (nodes mid : OwnHe
       subst (λ c. StandAt first_later block linked.nodes c (files.blocks ++ block ∷ [])) (sym contents_are)
       (stand_new first last nodes mid linked.nodes contents files.blocks files.stand block fresh payload stored name back padded.there first_later links)
 
-  pub are_appended : AreFiles first_later block later_root recent now.nodes now.contents
+  pub are_appended : AreListed first_later block later_root recent now.nodes now.contents
   are_appended =
       let stand = stand_tails first_later block linked now tree.tails (files.blocks ++ block ∷ []) stand_linked in
       let enter = can_enter first last root nodes mid linked.nodes contents files block fresh payload stored name back padded first_later links new in

@@ -18,15 +18,17 @@ use Rattle.own_model.specs.Sliced.{sliced_size}
 use Rattle.own_model.proofs.ByteLemmas.{length-zeros, length-with_part}
 use Rattle.own_model.proofs.NatMapLemmas.{get-insert_same, get-insert_other}
 use Rattle.sliced_heap.specs.Chain.{is_listed}
-use Rattle.file_service.specs.Calls.{payload_in, content_taken, content_copied, content_written, HasBytes}
-use Rattle.file_service.specs.Files.{node_at, file_at, files_of, StandAt, HasContent}
-use Rattle.file_service.specs.SoundHeaps.{Stock}
-use Rattle.file_service.specs.Node.{FileNode}
+use Rattle.session_nodes.specs.Calls.{payload_in, content_taken, content_copied, content_written, HasBytes}
+use Rattle.session_nodes.specs.Order.{node_at, StandAt, HasContent}
+use Rattle.file_service.specs.Files.{file_at, files_of}
+use Rattle.session_nodes.specs.SoundHeaps.{Stock}
+use Rattle.session_nodes.specs.Node.{StoredNode}
 use Rattle.file_service.specs.Session.{files_in, served_in, HasFiles, IsFound, IsOwn, KeepsOwn, Serves}
 use Rattle.file_service.specs.declared.session.FileSession.{FileSession}
-use Rattle.file_service.proofs.FrontLemmas.{front_longer}
-use Rattle.file_service.proofs.KeptLemmas.{Stays, bytes_by, same_file, stand_kept, blocks_are, files_are}
-use Rattle.file_service.proofs.LinkLemmas.{listed_append, map_kept}
+use Rattle.session_nodes.proofs.FrontLemmas.{front_longer}
+use Rattle.file_service.proofs.FileKeptLemmas.{same_file, files_are}
+use Rattle.session_nodes.proofs.KeptLemmas.{Stays, bytes_by, stand_kept, blocks_are}
+use Rattle.session_nodes.proofs.LinkLemmas.{listed_append, map_kept}
 use Rattle.file_service.proofs.SearchLemmas.{in_blocks, found_content, found_has, found_long, found_bytes, content_long}
 use Rattle.file_service.proofs.WriteLemmas.{longer_served}
 
@@ -49,7 +51,7 @@ pub record TakesLonger (was taken : Stock) (size content offset : ℕ) (bytes : 
 apart_from : (m : NatMap (List ℕ)) (a b : ℕ) (payload : List ℕ) → get m a ≡ Some payload → get m b ≡ None → a ≢ b
 apart_from m a b payload some none e = none-some payload (sym none ∙ ap (get m) (sym e) ∙ some)
 
-module _ (session : FileSession) (was taken : Stock) (name : List ℕ) (previous address : ℕ) (node : FileNode)
+module _ (session : FileSession) (was taken : Stock) (name : List ℕ) (previous address : ℕ) (node : StoredNode)
     (found : IsFound session.first session.last was.nodes was.contents name previous address node)
     (size content offset : ℕ) (bytes : List ℕ) (low : offset ≤ node.size) (takes : TakesLonger was taken size content offset bytes) where
   -- the file's content is another one

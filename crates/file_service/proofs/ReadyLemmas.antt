@@ -9,13 +9,13 @@ use Rattle.sliced_heap.specs.Heap.{payer_of, share_at}
 use Rattle.sliced_heap.proofs.BesideLemmas.{map_of}
 use Rattle.server_frame.specs.Session.{IsSessionAccount, holding_of}
 use Rattle.server_frame.proofs.HoldingLemmas.{heap_linked, session_heap}
-use Rattle.file_service.specs.SessionBuffer.{HasBuffer, KeepsBuffer}
+use Rattle.session_nodes.specs.SessionBuffer.{HasBuffer, KeepsBuffer}
 use Rattle.file_service.specs.Session.{IsReady, IsSession}
 use Rattle.file_service.specs.declared.session.FileSession.{FileSession}
-use Rattle.file_service.specs.declared.session.SessionBuffer.{SessionBuffer}
-use Rattle.file_service.proofs.BeginLemmas.{session_share}
-use Rattle.file_service.proofs.FurnishedLemmas.{laid_back}
-use Rattle.file_service.proofs.SourceLemmas.{has_buffer}
+use Rattle.session_nodes.specs.declared.session_buffer.SessionBuffer.{SessionBuffer}
+use Rattle.session_nodes.proofs.BeginLemmas.{session_share}
+use Rattle.session_nodes.proofs.FurnishedLemmas.{laid_back}
+use Rattle.session_nodes.proofs.SourceLemmas.{has_buffer}
 
 -- what stands is lent between requests
 keeps_buffer : (b : Option SessionBuffer) (share : Share) → HasBuffer b share → KeepsBuffer b share

@@ -10,17 +10,19 @@ use Rattle.own_model.specs.NatMap.{NatMap}
 use Rattle.own_model.specs.OwnHeap.{OwnHeap, chunk_with, offset_of}
 use Rattle.own_model.proofs.NatMapLemmas.{get-remove}
 use Rattle.sliced_heap.specs.Chain.{is_listed}
-use Rattle.file_service.specs.Files.{node_at, link_in, file_at, files_of, StandAt}
-use Rattle.file_service.specs.Links.{last_of}
-use Rattle.file_service.specs.Node.{FileNode, node_of}
+use Rattle.session_nodes.specs.Order.{node_at, link_in, StandAt}
+use Rattle.file_service.specs.Files.{file_at, files_of}
+use Rattle.session_nodes.specs.Links.{last_of}
+use Rattle.session_nodes.specs.Node.{StoredNode, node_of}
 use Rattle.file_service.specs.Session.{IsFound, LinksTo}
 use Rattle.file_service.proofs.FileListLemmas.{append_map, without_behind}
-use Rattle.file_service.proofs.KeptLemmas.{Stays, same_file, stand_without, files_are, listed_nonzero, OthersStay, ChunksStay, OffsetsStay}
-use Rattle.file_service.proofs.LinkLemmas.{map_kept, listed_append, last_listed, once_later, once_apart, unlisted}
-use Rattle.file_service.proofs.PlaceLemmas.{chunk_given, offset_given, count_given}
+use Rattle.file_service.proofs.FileKeptLemmas.{same_file, files_are}
+use Rattle.session_nodes.proofs.KeptLemmas.{Stays, stand_without, listed_nonzero, OthersStay, ChunksStay, OffsetsStay}
+use Rattle.session_nodes.proofs.LinkLemmas.{map_kept, listed_append, last_listed, once_later, once_apart, unlisted}
+use Rattle.session_nodes.proofs.PlaceLemmas.{chunk_given, offset_given, count_given}
 use Rattle.file_service.proofs.SearchLemmas.{files_around, in_blocks, not_old}
 
-module _ (first last : ℕ) (nodes mid later : OwnHeap) (contents after : NatMap (List ℕ)) (name : List ℕ) (previous address : ℕ) (node : FileNode)
+module _ (first last : ℕ) (nodes mid later : OwnHeap) (contents after : NatMap (List ℕ)) (name : List ℕ) (previous address : ℕ) (node : StoredNode)
     (found : IsFound first last nodes contents name previous address node)
     (first_later last_later : ℕ) (links : LinksTo first previous node.next first_later nodes mid) (given : later ≡ without_block address mid)
     (last_is : last_later ≡ cond (eqb last address) previous last)
@@ -51,7 +53,7 @@ module _ (first last : ℕ) (nodes mid later : OwnHeap) (contents after : NatMap
   left_stays b t other = let apart = not_old first last nodes contents name previous address node found b t other in grind (arith, nat_tests, left_node, left_payload, chunk_same, offset_same, apart)
 
   left_link : (b : ℕ) → b ≢ address → link_in first_later later b ≡ link_in first_later mid b
-  left_link b other = ap (λ (n : FileNode). cond (eqb b 0) first_later n.next) (left_node b other)
+  left_link b other = ap (λ (n : StoredNode). cond (eqb b 0) first_later n.next) (left_node b other)
 
   left_links : (b : ℕ) → is_listed (0 ∷ all) b ≡ true → b ≢ address → b ≢ last_of 0 found.before → link_in first_later later b ≡ link_in first nodes b
   left_links b t other holder = left_link b other ∙ links.links b (λ e. holder (e ∙ found.previous_is))

@@ -11,24 +11,25 @@ use Rattle.own_model.specs.NatMap.{NatMap}
 use Rattle.own_model.specs.OwnHeap.{OwnHeap}
 use Rattle.own_model.proofs.NatMapLemmas.{get-remove}
 use Rattle.sliced_heap.specs.Chain.{is_listed}
-use Rattle.file_service.specs.Calls.{payload_in, HasBytes}
-use Rattle.file_service.specs.Files.{node_at, nodes_from, files_of, HasContent}
-use Rattle.file_service.specs.Index.{AreFiles, IsIndexed, KeepsPlace}
-use Rattle.file_service.specs.Node.{FileNode}
-use Rattle.file_service.specs.declared.session.RecentFile.{RecentFile}
+use Rattle.session_nodes.specs.Calls.{payload_in, HasBytes}
+use Rattle.session_nodes.specs.Order.{node_at, nodes_from, HasContent}
+use Rattle.file_service.specs.Files.{files_of}
+use Rattle.session_nodes.specs.Index.{AreListed, IsIndexed, KeepsPlace}
+use Rattle.session_nodes.specs.Node.{StoredNode}
+use Rattle.session_nodes.specs.declared.recent.RecentNode.{RecentNode}
 use Rattle.file_service.specs.Session.{IsFound, IsOwn}
-use Rattle.file_service.proofs.KeptLemmas.{bytes_by, blocks_are}
+use Rattle.session_nodes.proofs.KeptLemmas.{bytes_by, blocks_are}
 use Rattle.file_service.proofs.AppendLemmas.{stored_payload}
-use Rattle.file_service.proofs.NodeKeptLemmas.{indexed_kept, place_same}
+use Rattle.session_nodes.proofs.NodeKeptLemmas.{indexed_kept, place_same}
 use Rattle.file_service.proofs.SearchLemmas.{in_blocks, content_long}
 use Rattle.file_service.proofs.SetLemmas.{stand_rewritten, files_rewritten}
 
-module _ (first last : ℕ) (nodes later : OwnHeap) (contents : NatMap (List ℕ)) (name : List ℕ) (previous address : ℕ) (node : FileNode)
+module _ (first last : ℕ) (nodes later : OwnHeap) (contents : NatMap (List ℕ)) (name : List ℕ) (previous address : ℕ) (node : StoredNode)
     (found : IsFound first last nodes contents name previous address node)
     (payload : List ℕ) (stored : later ≡ record nodes { payloads = insert nodes.payloads address payload })
     (content size : ℕ) (back : node_at later address ≡ record node { content = content; size = size }) (there : HasBytes later.payloads address 0 96)
     (has : 0 < size → HasContent contents (record node { content = content; size = size })) (own : 0 < size → IsOwn first nodes content)
-    (root : ℕ) {recent : Option RecentFile} (indexed : IsIndexed first root recent nodes) (place : KeepsPlace nodes later address) where
+    (root : ℕ) {recent : Option RecentNode} (indexed : IsIndexed first root recent nodes) (place : KeepsPlace nodes later address) where
   places : (b : ℕ) → is_listed (found.before ++ address ∷ found.behind) b ≡ true → KeepsPlace nodes later b
   places b t = elim (cases_eq b address) [
     | inl here ↦ subst (KeepsPlace nodes later) (sym here) place
@@ -39,7 +40,7 @@ module _ (first last : ℕ) (nodes later : OwnHeap) (contents : NatMap (List ℕ
   own_others some b t other some_b = own some b t some_b
 
   -- there was no old content
-  pub kept_alone : AreFiles first last root recent later contents
+  pub kept_alone : AreListed first last root recent later contents
   kept_alone =
       let stand = stand_rewritten first last nodes later contents contents name previous address node found payload stored content size back there has own_others (λ a apart. refl) in
       record {
@@ -63,12 +64,12 @@ module _ (first last : ℕ) (nodes later : OwnHeap) (contents : NatMap (List ℕ
     content_stays some =
         let listed : is_listed (nodes_from first nodes) address ≡ true =
         ap (λ xs. is_listed xs address) (blocks_are first last nodes contents (found.before ++ address ∷ found.behind) found.stand) ∙ in_blocks first last nodes contents name previous address node found in
-        gone content (λ _ e. own some address listed (subst (λ (n : FileNode). 0 < n.size) found.node_is was_some) (ap (λ (n : FileNode). n.content) (sym found.node_is) ∙ sym e))
+        gone content (λ _ e. own some address listed (subst (λ (n : StoredNode). 0 < n.size) found.node_is was_some) (ap (λ (n : StoredNode). n.content) (sym found.node_is) ∙ sym e))
 
     has_left : 0 < size → HasContent left (record node { content = content; size = size })
     has_left some = let h = has some in record { payload = h.payload; there = content_stays some ∙ h.there; long = h.long }
 
-    pub kept_left : AreFiles first last root recent later left
+    pub kept_left : AreListed first last root recent later left
     kept_left =
         let stand = stand_rewritten first last nodes later contents left name previous address node found payload stored content size back there has_left own_others gone in
         record {

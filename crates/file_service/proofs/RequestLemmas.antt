@@ -19,7 +19,7 @@ use Rattle.own_model.proofs.NatMapLemmas.{some_of}
 use Rattle.region_map.specs.Regions.{Regions}
 use Rattle.dataspace_core.specs.Store.{Store}
 use Rattle.core_calls.specs.ReplyText.{Told, told_alone}
-use Rattle.file_service.specs.SessionHeaps.{stock_of}
+use Rattle.session_nodes.specs.SessionHeaps.{stock_of}
 use Rattle.file_service.specs.Session.{files_in, served_in, HasFiles, Serves}
 use Rattle.file_service.proofs.ServeLemmas.{serves_done}
 use Rattle.file_service.specs.declared.session.FileSession.{FileSession}

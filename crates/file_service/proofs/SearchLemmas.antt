@@ -12,24 +12,26 @@ use Rattle.own_model.specs.NatMap.{NatMap}
 use Rattle.own_model.specs.OwnHeap.{OwnHeap}
 use Rattle.own_model.specs.Sliced.{sliced_size}
 use Rattle.sliced_heap.specs.Chain.{is_listed}
-use Rattle.file_service.specs.Calls.{payload_in, HasBytes}
-use Rattle.file_service.specs.Files.{node_at, link_in, bytes_at, file_at, files_of, HasContent, IsFile, StandAt}
-use Rattle.file_service.specs.Links.{along, last_of, Leads}
-use Rattle.file_service.specs.Node.{FileNode}
+use Rattle.session_nodes.specs.Calls.{payload_in, HasBytes}
+use Rattle.session_nodes.specs.Order.{node_at, link_in, bytes_at, HasContent, HoldsNode, StandAt}
+use Rattle.file_service.specs.Files.{file_at, files_of}
+use Rattle.session_nodes.specs.Links.{along, last_of, Leads}
+use Rattle.session_nodes.specs.Node.{StoredNode}
 use Rattle.file_service.specs.Session.{IsFound}
 use Rattle.file_service.proofs.FileListLemmas.{append_map, find_behind}
-use Rattle.file_service.proofs.KeptLemmas.{blocks_few, files_are, listed_nonzero}
-use Rattle.file_service.proofs.LinkLemmas.{listed_append, along_line, once_first}
+use Rattle.file_service.proofs.FileKeptLemmas.{files_are}
+use Rattle.session_nodes.proofs.KeptLemmas.{blocks_few, listed_nonzero}
+use Rattle.session_nodes.proofs.LinkLemmas.{listed_append, along_line, once_first}
 
 -- a content is as long as its file, or longer
 pub content_long : (size : ℕ) → size ≤ sliced_size size - 32
 content_long size = let covers = (IsLeastPageSize-page_of (32 + size)).covers in omega (arith, covers)
 
 -- the front of a content is as long as the file
-pub bytes_long : (contents : NatMap (List ℕ)) (node : FileNode) → (0 < node.size → HasContent contents node) → length (bytes_at contents node) ≡ node.size
+pub bytes_long : (contents : NatMap (List ℕ)) (node : StoredNode) → (0 < node.size → HasContent contents node) → length (bytes_at contents node) ≡ node.size
 bytes_long contents node content = search (rules, content_long, length-take)
 
-module _ (first last : ℕ) (nodes : OwnHeap) (contents : NatMap (List ℕ)) (name : List ℕ) (previous address : ℕ) (node : FileNode)
+module _ (first last : ℕ) (nodes : OwnHeap) (contents : NatMap (List ℕ)) (name : List ℕ) (previous address : ℕ) (node : StoredNode)
     (found : IsFound first last nodes contents name previous address node) where
   abbrev pub f : ℕ → File
   f = file_at nodes contents
@@ -48,12 +50,12 @@ module _ (first last : ℕ) (nodes : OwnHeap) (contents : NatMap (List ℕ)) (na
   pub not_old : (b : ℕ) → is_listed (found.before ++ address ∷ found.behind) b ≡ true → b ≢ address → 0 < (node_at nodes b).size → 0 < node.size → (node_at nodes b).content ≢ node.content
   not_old b t other some_b some e = search (rules, in_blocks)
 
-  pub found_file : IsFile nodes contents address
+  pub found_file : HoldsNode nodes contents address
   found_file = found.stand.each address in_blocks
 
   -- it has as many bytes as its node says
   pub found_long : length (f address).bytes ≡ node.size
-  found_long = bytes_long contents (node_at nodes address) found_file.content ∙ ap (λ (n : FileNode). n.size) (sym found.node_is)
+  found_long = bytes_long contents (node_at nodes address) found_file.content ∙ ap (λ (n : StoredNode). n.size) (sym found.node_is)
 
   -- its content, if it has one
   pub found_content : 0 < node.size → HasContent contents node
@@ -102,7 +104,7 @@ module _ (first last : ℕ) (nodes : OwnHeap) (contents : NatMap (List ℕ)) (pr
       along_line (link_in first nodes) (len nodes.payloads) previous behind none (omega (arith, many, length-append before behind)) leads
 
   -- and holds a file's node
-  pub here_behind : address ≢ 0 → IsFile nodes contents address
+  pub here_behind : address ≢ 0 → HoldsNode nodes contents address
   here_behind some = grind (arith, nat_tests, next_behind, listed_append)
 
   -- the same blocks, with it last of those before

@@ -12,18 +12,20 @@ use Rattle.own_model.specs.NatMap.{NatMap}
 use Rattle.own_model.specs.Text.{is_name}
 use Rattle.own_model.specs.OwnHeap.{OwnHeap}
 use Rattle.sliced_heap.specs.Chain.{is_listed}
-use Rattle.file_service.specs.Calls.{payload_in}
-use Rattle.file_service.specs.Files.{node_at, file_at, files_of, nodes_from, StandAt}
-use Rattle.file_service.specs.Index.{AreFiles, IsNamed, LeadsBack, Seeks, previous_at}
-use Rattle.file_service.specs.Node.{FileNode, node_of, rank_of}
-use Rattle.file_service.specs.declared.session.RecentFile.{RecentFile}
+use Rattle.session_nodes.specs.Calls.{payload_in}
+use Rattle.session_nodes.specs.Order.{node_at, nodes_from, StandAt}
+use Rattle.file_service.specs.Files.{file_at, files_of}
+use Rattle.session_nodes.specs.Index.{AreListed, IsNamed, LeadsBack, Seeks, previous_at}
+use Rattle.session_nodes.specs.Node.{StoredNode, node_of, rank_of}
+use Rattle.session_nodes.specs.declared.recent.RecentNode.{RecentNode}
 use Rattle.file_service.specs.Session.{IsFound}
-use Rattle.file_service.proofs.BackLemmas.{back_at}
-use Rattle.file_service.proofs.KeptLemmas.{blocks_are, files_are, listed_nonzero}
-use Rattle.file_service.proofs.LinkLemmas.{listed_append, listed_first, listed_later, once_apart, once_later, unlisted}
+use Rattle.session_nodes.proofs.BackLemmas.{back_at}
+use Rattle.file_service.proofs.FileKeptLemmas.{files_are}
+use Rattle.session_nodes.proofs.KeptLemmas.{blocks_are, listed_nonzero}
+use Rattle.session_nodes.proofs.LinkLemmas.{listed_append, listed_first, listed_later, once_apart, once_later, unlisted}
 use Rattle.heap_core.specs.Words.{are_bytes}
-use Rattle.file_service.proofs.NodeKeptLemmas.{named_of, back_of}
-use Rattle.file_service.proofs.RankLemmas.{rank_name}
+use Rattle.session_nodes.proofs.NodeKeptLemmas.{named_of, back_of}
+use Rattle.session_nodes.proofs.RankLemmas.{rank_name}
 
 -- a name is no longer than names are
 pub name_short : (bytes : List ℕ) → length (node_of bytes).name ≤ 32
@@ -77,7 +79,7 @@ between (x ∷ xs) a t = elim (cases_eq a x) [
       record { before = x ∷ rest.before; behind = rest.behind; is = ap (λ ys. x ∷ ys) rest.is }
 ]
 
-module _ (first last root : ℕ) {recent : Option RecentFile} (nodes : OwnHeap) (contents : NatMap (List ℕ)) (files : AreFiles first last root recent nodes contents) (name : List ℕ) where
+module _ (first last root : ℕ) {recent : Option RecentNode} (nodes : OwnHeap) (contents : NatMap (List ℕ)) (files : AreListed first last root recent nodes contents) (name : List ℕ) where
   named : IsNamed root nodes files.blocks
   named = named_of first last root nodes contents files.blocks files.stand files.indexed
 
@@ -110,12 +112,12 @@ module _ (first last root : ℕ) {recent : Option RecentFile} (nodes : OwnHeap) 
     found_listed some = seeks.listed files.blocks named some
 
     -- what is found has the name
-    pub found_is : 0 < address → (node : FileNode) → node ≡ node_at nodes address → node.name ≡ name → IsFound first last nodes contents name (previous_at nodes address) address node
+    pub found_is : 0 < address → (node : StoredNode) → node ≡ node_at nodes address → node.name ≡ name → IsFound first last nodes contents name (previous_at nodes address) address node
     found_is some node node_is is =
         let at = between files.blocks address (found_listed some) in
         let stand = subst (StandAt first last nodes contents) at.is files.stand in
         let back = back_of first last root nodes contents files.blocks files.stand files.indexed in
-        let here : (node_at nodes address).name ≡ name = ap (λ (n : FileNode). n.name) (sym node_is) ∙ is in
+        let here : (node_at nodes address).name ≡ name = ap (λ (n : StoredNode). n.name) (sym node_is) ∙ is in
         record {
           before = at.before;
           behind = at.behind;

@@ -15,57 +15,21 @@ use Rattle.own_model.specs.Growth.{heap_refusal, hole_for, shape_given}
 use Rattle.own_model.specs.Text.{is_name}
 use Rattle.region_map.specs.Regions.{Regions}
 use Rattle.dataspace_core.specs.Store.{Store}
+use Rattle.file_service.specs.Files.{file_at}
 use Rattle.heap_core.specs.declared.heap.Heap.{Heap}
 use Rattle.sliced_heap.specs.declared.heap.SlicedHeap.{SlicedHeap}
 use Rattle.sliced_heap.specs.Heap.{payer_of}
-use Rattle.sliced_heap.proofs.EndLemmas.{keeps_then}
-use Rattle.std.specs.FinMap.{get}
-use Rattle.own_model.specs.NatMap.{NatMap}
-use Rattle.own_model.specs.Region.{Region}
-use Rattle.file_service.specs.Files.{file_at}
-use Rattle.file_service.specs.SoundHeaps.{Stock, HasSoundHeaps, KeepsLent, KeepsSoundHeaps, KeepsSession}
-use Rattle.file_service.specs.SessionHeaps.{stock_of}
-use Rattle.file_service.specs.declared.session_heaps.SessionHeaps.{SessionHeaps}
-use Rattle.file_service.specs.Index.{previous_at}
-use Rattle.file_service.specs.Node.{FileNode}
-use Rattle.file_service.specs.Node.{value_of as node_value}
+use Rattle.session_nodes.specs.SoundHeaps.{Stock, HasSoundHeaps, KeepsLent, KeepsSoundHeaps, KeepsSession}
+use Rattle.session_nodes.specs.SessionHeaps.{stock_of}
+use Rattle.session_nodes.specs.declared.session_heaps.SessionHeaps.{SessionHeaps}
+use Rattle.session_nodes.specs.Index.{previous_at}
+use Rattle.session_nodes.specs.Node.{StoredNode}
+use Rattle.session_nodes.specs.Node.{value_of as node_value}
 use Rattle.file_service.specs.Session.{files_in, Finds, HasFiles, KeepsOwn, Serves, IsTold, IsFound, served_in}
 use Rattle.file_service.specs.declared.session.FileSession.{FileSession}
 use Rattle.file_service.specs.declared.session.FoundFile.{FoundFile}
 
--- ---- what other accounts have
-
--- nothing is done
-pub keeps_same : (heap : Heap) (sliced : SlicedHeap) (old new : Store) (regions : Regions) → HasSoundHeaps heap sliced old regions → new ≡ old → KeepsSession sliced heap sliced old new regions regions
-keeps_same heap sliced old new regions furnished e = search rules
-
--- what is lent stays through one thing after another
-pub lent_both : (account : ℕ) (old mid new : Store) (regions middle after : Regions) → KeepsLent account old mid regions middle → KeepsLent account mid new middle after → KeepsLent account old new regions after
-lent_both account old mid new regions middle after first next = record {
-  stands = next.stands ∙ first.stands;
-  bytes = λ s r lent. next.bytes s r (ap (λ (m : NatMap Region). get m s) first.stands ∙ lent) ∙ first.bytes s r lent;
-}
-
--- so does a session
-pub stays_both : (heap later : Heap) (sliced between now : SlicedHeap) (old mid new : Store) (regions middle after : Regions) →
-    KeepsSoundHeaps sliced heap between old mid regions middle → KeepsSoundHeaps between later now mid new middle after → KeepsSoundHeaps sliced later now old new regions after
-stays_both heap later sliced between now old mid new regions middle after first next = search (rules, keeps_then)
-
--- one thing after another
-pub keeps_both : (heap later : Heap) (sliced between now : SlicedHeap) (old mid new : Store) (regions middle after : Regions) →
-    KeepsSession sliced heap between old mid regions middle → KeepsSession between later now mid new middle after → KeepsSession sliced later now old new regions after
-keeps_both heap later sliced between now old mid new regions middle after first next = record {
-  stays = stays_both heap later sliced between now old mid new regions middle after first.stays next.stays;
-  lent = lent_both (payer_of sliced) old mid new regions middle after first.lent (subst (λ x. KeepsLent x mid new middle after) first.stays.payer next.lent);
-}
-
 -- ---- after a search, which leaves the memory
-
-pub keeps_after : {later : Heap} {sliced now : SlicedHeap} {store mid new : Store} {regions after : Regions} → mid ≡ store → KeepsSession sliced later now mid new regions after → KeepsSession sliced later now store new regions after
-keeps_after {later} {sliced} {now} {store} {mid} {new} {regions} {after} same keeps = subst (λ m. KeepsSession sliced later now m new regions after) same keeps
-
-pub furnished_after : {heap : Heap} {sliced : SlicedHeap} {store mid : Store} {regions : Regions} → mid ≡ store → HasSoundHeaps heap sliced store regions → HasSoundHeaps heap sliced mid regions
-furnished_after {heap} {sliced} {store} {mid} {regions} same furnished = subst (λ m. HasSoundHeaps heap sliced m regions) (sym same) furnished
 
 pub files_after : (session : FileSession) (regions : Regions) {store mid : Store} → mid ≡ store → HasFiles session (stock_of session.rooms store regions) → HasFiles session (stock_of session.rooms mid regions)
 files_after session regions same files = subst (λ m. HasFiles session (stock_of session.rooms m regions)) (sym same) files
@@ -106,12 +70,12 @@ pub name_is : (xs ys : List ℕ) → bytes_eq xs ys ≡ true → xs ≡ ys
 name_is xs ys e = (bytes_eq-Decides xs ys).0 e
 
 -- a file that is found has the name
-pub found_name : (first last : ℕ) (session : FileSession) (has : Stock) (name : List ℕ) (previous address : ℕ) (node : FileNode) →
+pub found_name : (first last : ℕ) (session : FileSession) (has : Stock) (name : List ℕ) (previous address : ℕ) (node : StoredNode) →
     IsFound first last has.nodes has.contents name previous address node → node.name ≡ name
 found_name first last session has name previous address node found = search (rules, name_is)
 
 -- so has the file of its block
-pub file_name : (first last : ℕ) (has : Stock) (name : List ℕ) (previous address : ℕ) (node : FileNode) →
+pub file_name : (first last : ℕ) (has : Stock) (name : List ℕ) (previous address : ℕ) (node : StoredNode) →
     IsFound first last has.nodes has.contents name previous address node → (file_at has.nodes has.contents address).name ≡ name
 file_name first last has name previous address node found = name_is (file_at has.nodes has.contents address).name name found.named
 

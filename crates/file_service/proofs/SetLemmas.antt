@@ -7,17 +7,19 @@ use Rattle.own_model.specs.FileService.{File, rewritten}
 use Rattle.own_model.specs.NatMap.{NatMap}
 use Rattle.own_model.specs.OwnHeap.{OwnHeap, chunk_with, offset_of}
 use Rattle.sliced_heap.specs.Chain.{is_listed}
-use Rattle.file_service.specs.Calls.{payload_in, HasBytes}
-use Rattle.file_service.specs.Files.{node_at, nodes_from, file_at, files_of, HasContent, IsFile, StandAt}
-use Rattle.file_service.specs.Node.{FileNode}
+use Rattle.session_nodes.specs.Calls.{payload_in, HasBytes}
+use Rattle.session_nodes.specs.Order.{node_at, nodes_from, HasContent, HoldsNode, StandAt}
+use Rattle.file_service.specs.Files.{file_at, files_of}
+use Rattle.session_nodes.specs.Node.{StoredNode}
 use Rattle.file_service.specs.Session.{IsFound}
 use Rattle.file_service.proofs.AppendLemmas.{stored_node, stored_there, stored_rest}
 use Rattle.file_service.proofs.FileListLemmas.{append_map, rewritten_behind}
-use Rattle.file_service.proofs.KeptLemmas.{Stays, same_file, stand_set, files_are, blocks_are, OthersStay, ChunksStay, OffsetsStay}
-use Rattle.file_service.proofs.LinkLemmas.{map_kept, listed_append, once_later, once_apart, unlisted}
+use Rattle.file_service.proofs.FileKeptLemmas.{same_file, files_are}
+use Rattle.session_nodes.proofs.KeptLemmas.{Stays, stand_set, blocks_are, OthersStay, ChunksStay, OffsetsStay}
+use Rattle.session_nodes.proofs.LinkLemmas.{map_kept, listed_append, once_later, once_apart, unlisted}
 use Rattle.file_service.proofs.SearchLemmas.{files_around, in_blocks, not_old}
 
-module _ (first last : ℕ) (nodes later : OwnHeap) (contents after : NatMap (List ℕ)) (name : List ℕ) (previous address : ℕ) (node : FileNode)
+module _ (first last : ℕ) (nodes later : OwnHeap) (contents after : NatMap (List ℕ)) (name : List ℕ) (previous address : ℕ) (node : StoredNode)
     (found : IsFound first last nodes contents name previous address node)
     (payload : List ℕ) (stored : later ≡ record nodes { payloads = insert nodes.payloads address payload })
     (content size : ℕ) (back : node_at later address ≡ record node { content = content; size = size }) (there : HasBytes later.payloads address 0 96)
@@ -42,9 +44,9 @@ module _ (first last : ℕ) (nodes later : OwnHeap) (contents after : NatMap (Li
   set_stays b t other =
       let same = stored_node nodes later address payload stored b other in
       record {
-        name = ap (λ (n : FileNode). n.name) same;
-        size = ap (λ (n : FileNode). n.size) same;
-        content = ap (λ (n : FileNode). n.content) same;
+        name = ap (λ (n : StoredNode). n.name) same;
+        size = ap (λ (n : StoredNode). n.size) same;
+        content = ap (λ (n : StoredNode). n.content) same;
         there = stored_there nodes later address payload stored b other (found.stand.each b t).there;
         chunk = chunk_same (b - 16);
         offset = offset_same (b - 16);
@@ -54,13 +56,13 @@ module _ (first last : ℕ) (nodes later : OwnHeap) (contents after : NatMap (Li
   set_links : (b : ℕ) → is_listed all b ≡ true → (node_at later b).next ≡ (node_at nodes b).next
   set_links b t = search (rules, stored_node, cases_eq)
 
-  set_file : IsFile later after address
+  set_file : HoldsNode later after address
   set_file = search (rules, in_all, chunk_same, count_same)
 
   set_own : (b : ℕ) → is_listed all b ≡ true → b ≢ address → 0 < (node_at later address).size → 0 < (node_at nodes b).size → (node_at later address).content ≢ (node_at nodes b).content
   set_own b t other some some_b e =
       let listed : is_listed (nodes_from first nodes) b ≡ true = ap (λ xs. is_listed xs b) (blocks_are first last nodes contents all found.stand) ∙ t in
-      own (subst (λ (n : FileNode). 0 < n.size) back some) b listed other some_b (sym e ∙ ap (λ (n : FileNode). n.content) back)
+      own (subst (λ (n : StoredNode). 0 < n.size) back some) b listed other some_b (sym e ∙ ap (λ (n : StoredNode). n.content) back)
 
   pub stand_rewritten : StandAt first last later after all
   stand_rewritten = stand_set first last nodes later contents after all found.stand (omega (arith, count_same)) address in_all set_stays set_links set_file set_own

@@ -6,17 +6,19 @@ use Rattle.own_model.specs.FileService.{is_named}
 use Rattle.own_model.specs.NatMap.{NatMap}
 use Rattle.own_model.specs.OwnHeap.{OwnHeap, chunk_with, offset_of}
 use Rattle.sliced_heap.specs.Chain.{is_listed}
-use Rattle.file_service.specs.Calls.{HasBytes}
-use Rattle.file_service.specs.Files.{node_at, file_at, files_of, link_in, StandAt}
-use Rattle.file_service.specs.SoundHeaps.{Stock}
-use Rattle.file_service.specs.Index.{ChangesTails}
-use Rattle.file_service.specs.Links.{Leads}
-use Rattle.file_service.specs.Node.{FileNode}
+use Rattle.session_nodes.specs.Calls.{HasBytes}
+use Rattle.session_nodes.specs.Order.{node_at, link_in, StandAt}
+use Rattle.file_service.specs.Files.{file_at, files_of}
+use Rattle.session_nodes.specs.SoundHeaps.{Stock}
+use Rattle.session_nodes.specs.Index.{ChangesTails}
+use Rattle.session_nodes.specs.Links.{Leads}
+use Rattle.session_nodes.specs.Node.{StoredNode}
 use Rattle.file_service.specs.Session.{IsFound}
-use Rattle.file_service.proofs.KeptLemmas.{Stays, files_are, listed_nonzero, same_file, stand_kept, AllStay}
-use Rattle.file_service.proofs.LinkLemmas.{listed_append, listed_first, listed_later, map_kept}
+use Rattle.file_service.proofs.FileKeptLemmas.{files_are, same_file}
+use Rattle.session_nodes.proofs.KeptLemmas.{Stays, listed_nonzero, stand_kept, AllStay}
+use Rattle.session_nodes.proofs.LinkLemmas.{listed_append, listed_first, listed_later, map_kept}
 use Rattle.file_service.proofs.SearchLemmas.{link_some}
-use Rattle.file_service.proofs.TailLemmas.{tail_node, tail_there}
+use Rattle.session_nodes.proofs.TailLemmas.{tail_node, tail_there}
 
 module _ (first last : ℕ) (old new : Stock) (tails : ChangesTails old new) (blocks : List ℕ) (stand : StandAt first last old.nodes old.contents blocks) where
   pub contents_same : new.contents ≡ old.contents
@@ -35,9 +37,9 @@ module _ (first last : ℕ) (old new : Stock) (tails : ChangesTails old new) (bl
   stays b t =
       let same = node_same b t in
       record {
-        name = ap (λ (n : FileNode). n.name) same;
-        size = ap (λ (n : FileNode). n.size) same;
-        content = ap (λ (n : FileNode). n.content) same;
+        name = ap (λ (n : StoredNode). n.name) same;
+        size = ap (λ (n : StoredNode). n.size) same;
+        content = ap (λ (n : StoredNode). n.content) same;
         there = tail_there old.nodes new.nodes b (tails.fronts b) (stand.each b t).there;
         chunk = ap (λ (s : Stock). chunk_with s.nodes (b - 16)) tails.rest;
         offset = ap (λ (s : Stock). offset_of s.nodes (b - 16)) tails.rest;
@@ -50,7 +52,7 @@ module _ (first last : ℕ) (old new : Stock) (tails : ChangesTails old new) (bl
   pub stand_tails : StandAt first last new.nodes new.contents blocks
   stand_tails =
       subst (λ c. StandAt first last new.nodes c blocks) (sym contents_same)
-      (stand_kept first last old.nodes new.nodes old.contents old.contents blocks stand more stays (λ b t. ap (λ (n : FileNode). n.next) (node_same b t)))
+      (stand_kept first last old.nodes new.nodes old.contents old.contents blocks stand more stays (λ b t. ap (λ (n : StoredNode). n.next) (node_same b t)))
 
   pub file_same : (b : ℕ) → is_listed blocks b ≡ true → file_at new.nodes new.contents b ≡ file_at old.nodes old.contents b
   file_same b t = ap (λ c. file_at new.nodes c b) contents_same ∙ same_file old.nodes new.nodes old.contents old.contents b (stays b t)
@@ -62,7 +64,7 @@ module _ (first last : ℕ) (old new : Stock) (tails : ChangesTails old new) (bl
       λ i. record { files = value i; shape = shape_same i }
 
 -- a file that is found is found as it was
-unfoldable pub found_tails : (first last : ℕ) (old new : Stock) (name : List ℕ) (previous address : ℕ) (node : FileNode) → ChangesTails old new → IsFound first last old.nodes old.contents name previous address node →
+unfoldable pub found_tails : (first last : ℕ) (old new : Stock) (name : List ℕ) (previous address : ℕ) (node : StoredNode) → ChangesTails old new → IsFound first last old.nodes old.contents name previous address node →
     IsFound first last new.nodes new.contents name previous address node
 found_tails first last old new name previous address node tails found =
     let all : List ℕ = found.before ++ address ∷ found.behind in

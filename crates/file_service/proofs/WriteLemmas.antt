@@ -20,16 +20,17 @@ use Rattle.own_model.specs.Sliced.{sliced_size, sliced_refusal}
 use Rattle.own_model.proofs.ByteLemmas.{length-with_part}
 use Rattle.own_model.proofs.NatMapLemmas.{some_of, insert_back, get-insert_same, get-insert_other}
 use Rattle.sliced_heap.specs.Chain.{is_listed}
-use Rattle.file_service.specs.Calls.{payload_in, content_written}
-use Rattle.file_service.specs.Files.{node_at, file_at, files_of, nodes_from, HasContent, StandAt}
-use Rattle.file_service.specs.SoundHeaps.{Stock}
-use Rattle.file_service.specs.Index.{IsIndexed}
-use Rattle.file_service.specs.Node.{FileNode}
+use Rattle.session_nodes.specs.Calls.{payload_in, content_written}
+use Rattle.session_nodes.specs.Order.{node_at, nodes_from, HasContent, StandAt}
+use Rattle.file_service.specs.Files.{file_at, files_of}
+use Rattle.session_nodes.specs.SoundHeaps.{Stock}
+use Rattle.session_nodes.specs.Index.{IsIndexed}
+use Rattle.session_nodes.specs.Node.{StoredNode}
 use Rattle.file_service.specs.Session.{files_in, served_in, HasFiles, IsFound, IsTold, KeepsOwn, Serves}
 use Rattle.file_service.specs.declared.session.FileSession.{FileSession}
 use Rattle.file_service.proofs.FileListLemmas.{rewritten_same}
-use Rattle.file_service.proofs.FrontLemmas.{front_written}
-use Rattle.file_service.proofs.KeptLemmas.{blocks_are}
+use Rattle.session_nodes.proofs.FrontLemmas.{front_written}
+use Rattle.session_nodes.proofs.KeptLemmas.{blocks_are}
 use Rattle.file_service.proofs.SearchLemmas.{in_blocks, found_named, found_file, found_content, found_long, found_bytes, content_long}
 use Rattle.file_service.proofs.ServeLemmas.{serves_done, file_name}
 use Rattle.file_service.proofs.SetLemmas.{stand_rewritten, files_rewritten}
@@ -77,7 +78,7 @@ no_bytes : (xs : List ℕ) (offset : ℕ) (part : List ℕ) → length part ≡ 
 no_bytes xs offset [] none = with_bytes-nothing xs offset
 no_bytes xs offset (x ∷ part) none = absurd (omega (arith, none))
 
-module _ (session : FileSession) (was : Stock) (name : List ℕ) (previous address : ℕ) (node : FileNode)
+module _ (session : FileSession) (was : Stock) (name : List ℕ) (previous address : ℕ) (node : StoredNode)
     (found : IsFound session.first session.last was.nodes was.contents name previous address node) (offset : ℕ) (bytes : List ℕ) where
   abbrev pub file : File
   file = file_at was.nodes was.contents address
@@ -131,7 +132,7 @@ module _ (session : FileSession) (was : Stock) (name : List ℕ) (previous addre
           let blocks = blocks_are session.first session.last was.nodes was.contents (found.before ++ address ∷ found.behind) found.stand in
           let some_node : 0 < node.size = omega (arith, some, within) in
           other (found.stand.apart b address (ap (λ xs. is_listed xs b) (sym blocks) ∙ t) (in_blocks session.first session.last was.nodes was.contents name previous address node found)
-          some_b (subst (λ (n : FileNode). 0 < n.size) found.node_is some_node) (e ∙ ap (λ (n : FileNode). n.content) found.node_is))
+          some_b (subst (λ (n : StoredNode). 0 < n.size) found.node_is some_node) (e ∙ ap (λ (n : StoredNode). n.content) found.node_is))
 
       others : (a : ℕ) → (0 < node.size → a ≢ node.content) → get after a ≡ get was.contents a
       others a apart = get-insert_other was.contents node.content put a (apart (omega (arith, some, within)))

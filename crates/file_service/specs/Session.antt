@@ -14,16 +14,17 @@ use Rattle.own_model.specs.OwnHeap.{OwnHeap, chunk_with}
 use Rattle.own_model.specs.Session.{Labelled}
 use Rattle.own_model.specs.Services.ServiceState.{Filing}
 use Rattle.sliced_heap.specs.Chain.{is_listed}
-use Rattle.file_service.specs.Calls.{HasBytes}
-use Rattle.file_service.specs.Files.{file_at, files_of, link_in, node_at, nodes_from, StandAt}
-use Rattle.file_service.specs.Index.{AreFiles, IsNamed, KeepsPlace, LeadsBack, previous_at}
-use Rattle.file_service.specs.Links.{last_of}
-use Rattle.file_service.specs.Node.{FileNode}
-use Rattle.file_service.specs.Node.{value_of as node_value}
+use Rattle.session_nodes.specs.Calls.{HasBytes}
+use Rattle.session_nodes.specs.Order.{link_in, node_at, nodes_from, StandAt}
+use Rattle.file_service.specs.Files.{file_at, files_of}
+use Rattle.session_nodes.specs.Index.{AreListed, IsNamed, KeepsPlace, LeadsBack, previous_at}
+use Rattle.session_nodes.specs.Links.{last_of}
+use Rattle.session_nodes.specs.Node.{StoredNode}
+use Rattle.session_nodes.specs.Node.{value_of as node_value}
 use Rattle.file_service.specs.declared.session.FoundFile.{FoundFile}
-use Rattle.file_service.specs.SoundHeaps.{Stock}
-use Rattle.file_service.specs.SessionHeaps.{stock_of, AreSoundHeaps, AreKept, StaySoundHeaps}
-use Rattle.file_service.specs.SessionBuffer.{KeepsBuffer, HasBuffer, buffer_key}
+use Rattle.session_nodes.specs.SoundHeaps.{Stock}
+use Rattle.session_nodes.specs.SessionHeaps.{stock_of, AreSoundHeaps, AreKept, StaySoundHeaps}
+use Rattle.session_nodes.specs.SessionBuffer.{KeepsBuffer, HasBuffer, buffer_key}
 use Rattle.own_model.specs.BufferService.{SessionRequest, BufferServed, session_request_served}
 use Rattle.trade_base.specs.declared.id.DsId.{DsId}
 use Rattle.region_map.specs.Regions.{Regions}
@@ -44,7 +45,7 @@ value_of session share = record {
 -- what is true of a session between its requests
 pub record IsSession (session : FileSession) (account : ℕ) (share : Share) : Type 0 where
   pub rooms : AreKept session.rooms account share
-  pub files : AreFiles session.first session.last session.root session.recent (heap_in session.rooms.nodes share) (sliced_of share)
+  pub files : AreListed session.first session.last session.root session.recent (heap_in session.rooms.nodes share) (sliced_of share)
   pub buffer : KeepsBuffer session.buffer share
 
 -- ---- while a request is served
@@ -55,7 +56,7 @@ files_in session stock = files_of session.first stock.nodes stock.contents
 
 -- it has files
 abbrev pub HasFiles : FileSession → Stock → Type 0
-HasFiles session stock = AreFiles session.first session.last session.root session.recent stock.nodes stock.contents
+HasFiles session stock = AreListed session.first session.last session.root session.recent stock.nodes stock.contents
 
 -- a session has the same label and the same buffer
 pub record KeepsOwn (old later : FileSession) : Type 0 where
@@ -109,7 +110,7 @@ pub record IsAnswered (served : BufferServed) (effect : Effect) (told : Told) (o
   pub stays : StaySoundHeaps old.rooms later.rooms store new regions after
 
 -- the node of a name is found, with what is before it: none of the files before it has the name
-pub record IsFound (first last : ℕ) (nodes : OwnHeap) (contents : NatMap (List ℕ)) (name : List ℕ) (previous address : ℕ) (node : FileNode) : Type 0 where
+pub record IsFound (first last : ℕ) (nodes : OwnHeap) (contents : NatMap (List ℕ)) (name : List ℕ) (previous address : ℕ) (node : StoredNode) : Type 0 where
   pub before : List ℕ
   pub behind : List ℕ
   pub stand : StandAt first last nodes contents (before ++ address ∷ behind)
@@ -139,7 +140,7 @@ pub record LinksTo (first holder block later_first : ℕ) (nodes later : OwnHeap
   pub files : (b : ℕ) → HasBytes nodes.payloads b 0 96 → KeepsFile nodes later b
 
 -- a block holds this node of a file
-pub record IsListed (session : FileSession) (stock : Stock) (block : ℕ) (node : FileNode) : Type 0 where
+pub record IsListed (session : FileSession) (stock : Stock) (block : ℕ) (node : StoredNode) : Type 0 where
   pub there : is_listed (nodes_from session.first stock.nodes) block ≡ true
   pub node_is : node ≡ node_at stock.nodes block
 

@@ -9,16 +9,15 @@ ghost use Rattle.own_model.specs.BufferService.SessionRequest.{OfBuffer};
 ghost use Rattle.dataspace_core.specs.Store.{Exists};
 ghost use Rattle.server_frame.specs.SessionBuffer.{IsEffect, bytes_lent};
 ghost use Rattle.session_proto.specs.FileReply.{model_error};
-ghost use Rattle.file_service.specs.SessionHeaps.{StaySoundHeaps};
-ghost use Rattle.file_service.specs.SessionBuffer.{buffer_key};
+ghost use Rattle.session_nodes.specs.SessionHeaps.{StaySoundHeaps};
+ghost use Rattle.session_nodes.specs.SessionBuffer.{buffer_key};
 ghost use Rattle.file_service.specs.Session.{Answers, IsReady, session_served, counted_reply, done_reply, lent_reply, lent_effect, gone_effect};
 
-use crate::contents::ContentRange;
 use crate::file_requests::error_of;
-use crate::session::{FileRange, FileSession, SessionBuffer};
-use crate::write_source::WriteSource;
+use crate::session::{FileRange, FileSession};
 use dataspace_core::Memory;
 use region_map::RegionMap;
+use session_nodes::{ContentRange, SessionBuffer, WriteSource};
 use session_proto::FileError;
 use trade_base::{DsId, page_round};
 

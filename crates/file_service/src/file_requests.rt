@@ -6,22 +6,22 @@ ghost use Rattle.own_model.specs.Heap.{header};
 ghost use Rattle.own_model.specs.OwnHeap.{chunk_with, offset_of};
 ghost use Rattle.own_model.specs.FileText.FileRequest.{Create, Write, Clear, Drop};
 ghost use Rattle.session_proto.specs.FileReply.{model_error};
-ghost use Rattle.file_service.specs.Calls.{payload_in, content_copied, HasBytes};
+ghost use Rattle.session_nodes.specs.Calls.{payload_in, content_copied, HasBytes};
 ghost use Rattle.sliced_heap.specs.Chain.{is_listed};
-ghost use Rattle.file_service.specs.Files.{file_at, node_at, nodes_from, HasContent};
-ghost use Rattle.file_service.specs.Index.{ChangesTails, IsIndexed, LinksBack, previous_at, remembered_without};
-ghost use Rattle.file_service.specs.Node.{value_of as node_value, rank_of};
-ghost use Rattle.file_service.specs.Source.{bytes_from, HasSource};
-ghost use Rattle.file_service.specs.SessionHeaps.{stock_of, AreSoundHeaps, KeepsRooms};
+ghost use Rattle.session_nodes.specs.Order.{node_at, nodes_from, HasContent};
+ghost use Rattle.file_service.specs.Files.{file_at};
+ghost use Rattle.session_nodes.specs.Index.{ChangesTails, IsIndexed, previous_at};
+ghost use Rattle.session_nodes.specs.Node.{value_of as node_value, rank_of};
+ghost use Rattle.session_nodes.specs.Source.{bytes_from, HasSource};
+ghost use Rattle.session_nodes.specs.SessionHeaps.{stock_of, AreSoundHeaps, KeepsRooms};
 ghost use Rattle.file_service.specs.Session.{files_in, HasFiles, Finds, LinksTo, IsListed, Unlists, IsFresh, IsOwn, KeepsOwn, Serves, done_reply, counted_reply, served_in};
 
-use crate::name_tree::{NamedNode, PREVIOUS};
-use crate::node::{NEXT, Node, copied};
-use crate::session::{FileSession, FoundFile, RecentFile};
-use crate::session_heaps::SessionHeaps;
-use crate::write_source::WriteSource;
+use crate::session::{FileSession, FoundFile};
 use dataspace_core::Memory;
 use region_map::RegionMap;
+use session_nodes::{
+    NEXT, NODE_SIZE, NamedNode, Node, PREVIOUS, WriteSource, copied, recent_without,
+};
 use session_proto::FileError;
 use std::marker::Brand;
 use std::sync::ledger::Blank;
@@ -54,7 +54,10 @@ impl FileSession {
         if self.find(memory, map, name).is_some() {
             return Err(FileError::Exists);
         }
-        let address = self.rooms.take_node(memory, map).map_err(error_of)?;
+        let address = self
+            .rooms
+            .take_node(memory, map, NODE_SIZE as u64)
+            .map_err(error_of)?;
         self.append(memory, map, address, name);
         Ok(())
     }
@@ -350,45 +353,11 @@ impl FileSession {
     }
 }
 
-impl SessionHeaps {
-    /// Links the node at an address, if there is one, back to another node.
-    fn link_back(&self, memory: &mut Memory, map: &RegionMap, address: u64, previous: u64)
-        requires furnished { AreSoundHeaps self.now memory.old map.now }
-        requires there { address ≢ 0 → HasBytes
-            (stock_of self.now memory.old map.now).nodes.payloads address 0 96 }
-        ensures links { LinksBack address previous
-            (stock_of self.now memory.old map.now)
-            (stock_of self.now memory.new map.now) }
-        ensures keeps { KeepsRooms self.now self.now
-            memory.old memory.new map.now map.now }
-    {
-        if address != 0 {
-            let word = previous.to_le_bytes();
-            self.put_bytes(memory, map, address, PREVIOUS, &word);
-        }
-    }
-}
-
 /// Returns the last node's address after the node at an address is removed, given the node before it.
 fn last_without(last: u64, address: u64, previous: u64) -> u64
     ensures { result ≡ (if last == address then previous else last) }
 {
     if last == address { previous } else { last }
-}
-
-/// Returns the file that is remembered after the node at an address is removed, given the node after it. That takes the place
-/// of a remembered file. The place of another file may have changed.
-fn recent_without(recent: Option<RecentFile>, address: u64, next: u64) -> Option<RecentFile>
-    ensures { result ≡ remembered_without recent address next }
-{
-    let file = recent?;
-    if file.address != address || next == 0 {
-        return None;
-    }
-    Some(RecentFile {
-        address: next,
-        ..file
-    })
 }
 
 /// Returns the error of a reply for a refusal of a heap.

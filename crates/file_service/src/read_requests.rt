@@ -3,15 +3,14 @@ ghost use Rattle.std.specs.Prelude.{◌≡◌, ◌≤◌, length, IfOk, slice_ge
 ghost use Rattle.std.specs.Option.{option_map, unwrap_or};
 ghost use Rattle.own_model.specs.FileService.{File};
 ghost use Rattle.own_model.specs.FileText.FileRequest.{Read, Size};
-ghost use Rattle.file_service.specs.Files.{nodes_from};
-ghost use Rattle.file_service.specs.SessionHeaps.{stock_of, AreSoundHeaps};
+ghost use Rattle.session_nodes.specs.Order.{nodes_from};
+ghost use Rattle.session_nodes.specs.SessionHeaps.{stock_of, AreSoundHeaps};
 ghost use Rattle.file_service.specs.Session.{files_in, HasFiles, counted_reply, bytes_reply, IsTold};
 
-use crate::name_tree::PREVIOUS;
-use crate::node::{NEXT, Node};
-use crate::session::{FileRange, FileSession, RecentFile};
+use crate::session::{FileRange, FileSession};
 use dataspace_core::Memory;
 use region_map::RegionMap;
+use session_nodes::{NEXT, Node, PREVIOUS, RecentNode};
 use session_proto::FileError;
 
 /// The most bytes that one request reads.
@@ -98,7 +97,7 @@ impl FileSession {
         if address == 0 {
             return None;
         }
-        self.recent = Some(RecentFile { place, address });
+        self.recent = Some(RecentNode { place, address });
         Some(self.rooms.load_node(memory, map, address))
     }
 

@@ -12,16 +12,16 @@ ghost use Rattle.dataspace_core.specs.Store.{account_in, IsOpenIn};
 ghost use Rattle.sliced_heap.specs.Heap.{payer_of};
 ghost use Rattle.file_service.specs.SeparateBuffer.{lends_aside};
 ghost use Rattle.server_frame.specs.Session.{service_step};
-ghost use Rattle.file_service.specs.SessionHeaps.{stock_of, AreSoundHeaps, KeepsRooms};
-ghost use Rattle.file_service.specs.SessionBuffer.{buffer_key};
+ghost use Rattle.session_nodes.specs.SessionHeaps.{stock_of, AreSoundHeaps, KeepsRooms};
+ghost use Rattle.session_nodes.specs.SessionBuffer.{buffer_key};
 ghost use Rattle.file_service.specs.Session.{HasFiles, IsReady, IsAnswered, IsTold, Serves, done_reply, counted_reply, lent_reply, lent_effect, gone_effect, served_in, session_served};
 
 use crate::session::{FileRange, FileSession};
-use crate::session_heaps::SessionHeaps;
 use core_calls::{Quotas, Reply};
 use dataspace_core::Memory;
 use region_map::RegionMap;
 use server_frame::{Effect, Service};
+use session_nodes::SessionHeaps;
 use session_proto::{FileError, FileReply, FileRequest};
 use sliced_heap::SlicedHeap;
 use text_codec::decode_hex;
@@ -131,7 +131,7 @@ fn answer(
         Some(FileRequest::Clear(name)) => reply_done(session.clear(memory, map, name), reply),
         Some(FileRequest::Drop(name)) => reply_done(session.remove(memory, map, name), reply),
         Some(FileRequest::Name(place)) => answer_name(session, memory, map, place, reply),
-        Some(FileRequest::Stat) => session.rooms.answer_stat(memory, reply),
+        Some(FileRequest::Stat) => answer_stat(&session.rooms, memory, reply),
         Some(FileRequest::Buffer(bytes)) => {
             return reply_lent(session.lend(memory, map, bytes), reply);
         }
@@ -295,26 +295,24 @@ fn answer_name(
     }
 }
 
-impl SessionHeaps {
-    /// Writes the reply with use and limits of the session's account.
-    fn answer_stat(&self, memory: &Memory, reply: &mut Reply)
-        requires open { IsOpenIn memory.now (payer_of self.now.contents) }
-        ensures { reply.new ≡ record reply.old {
-          text = file_reply (model.FileReply.Quotas
-              (account_in memory.now (payer_of self.now.contents)));
-        } }
-    {
-        let account = self.contents.account();
-        let (ram_used, caps_used) = memory.used(account);
-        let (ram_limit, caps_limit) = memory.limits(account);
-        let quotas = Quotas {
-            ram_used,
-            ram_limit,
-            caps_used,
-            caps_limit,
-        };
-        FileReply::Quotas(quotas).write(reply);
-    }
+/// Writes the reply with use and limits of the session's account.
+fn answer_stat(rooms: &SessionHeaps, memory: &Memory, reply: &mut Reply)
+    requires open { IsOpenIn memory.now (payer_of rooms.now.contents) }
+    ensures { reply.new ≡ record reply.old {
+      text = file_reply (model.FileReply.Quotas
+          (account_in memory.now (payer_of rooms.now.contents)));
+    } }
+{
+    let account = rooms.account();
+    let (ram_used, caps_used) = memory.used(account);
+    let (ram_limit, caps_limit) = memory.limits(account);
+    let quotas = Quotas {
+        ram_used,
+        ram_limit,
+        caps_used,
+        caps_limit,
+    };
+    FileReply::Quotas(quotas).write(reply);
 }
 
 /// Writes the reply of a request that is done or refused.

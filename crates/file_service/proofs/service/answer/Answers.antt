@@ -2,10 +2,10 @@
 use Rattle.std.proofs.Common.{ap, refl, subst}
 use Rattle.session_proto.specs.File.{HasHex}
 use Rattle.server_frame.specs.declared.effect.Effect.TheVariants.{Nothing}
-use Rattle.file_service.specs.declared.session_heaps.SessionHeaps.{SessionHeaps}
+use Rattle.session_nodes.specs.declared.session_heaps.SessionHeaps.{SessionHeaps}
 use Rattle.file_service.proofs.BufferRequestLemmas.{buffer_answered, files_answered, read_as}
 use Rattle.file_service.proofs.RequestLemmas.{hex_is_short}
-use Rattle.file_service.proofs.ResultLemmas.{keeps_same}
+use Rattle.session_nodes.proofs.ResultLemmas.{keeps_same}
 use Rattle.file_service.proofs.ServeLemmas.{serves_same}
 use Rattle.file_service.proofs.service.answer.Goals as goal
 

@@ -1,9 +1,9 @@
 -- The walk from the remembered file, or from the first one, leads to the place.
 use Rattle.std.proofs.Common.{◌≤◌, ◌-◌, sym, ap, ◌∙◌, arith}
 use Rattle.std.proofs.lemmas.Option.{same_Some}
-use Rattle.file_service.specs.SessionHeaps.{stock_of}
-use Rattle.file_service.specs.SoundHeaps.{Stock}
-use Rattle.file_service.specs.declared.session.RecentFile.{RecentFile}
+use Rattle.session_nodes.specs.SessionHeaps.{stock_of}
+use Rattle.session_nodes.specs.SoundHeaps.{Stock}
+use Rattle.session_nodes.specs.declared.recent.RecentNode.{RecentNode}
 use Rattle.file_service.proofs.AddressLemmas.{back_found, back_way, first_found, first_way, recent_found, recent_way}
 use Rattle.file_service.proofs.session.FileSession.address_at.Goals as goal
 
@@ -37,7 +37,7 @@ pub returns-in-Some-2 : goal.returns-in-Some-2
 returns-in-Some-2 c =
     let s = c.args.self.now in
     let has : Stock = stock_of s.rooms c.args.memory.now c.args.map.now in
-    let same = ap (λ (r : RecentFile). r.place) (same_Some c.in-Some.recent c.in-Some-2.recent (sym c.in-Some.is ∙ c.in-Some-2.is)) in
+    let same = ap (λ (r : RecentNode). r.place) (same_Some c.in-Some.recent c.in-Some-2.recent (sym c.in-Some.is ∙ c.in-Some-2.is)) in
     let low : c.args.place ≤ c.in-Some-2.recent.place = omega (arith, same) in
     c.follow-in-Some-2.ensures ∙ back_found s.first s.last s.root has.nodes has.contents c.requires.files c.in-Some-2.recent c.in-Some-2.is c.args.place low
 

@@ -10,22 +10,24 @@ use Rattle.own_model.specs.FileText.FileRequest.{Create}
 use Rattle.own_model.specs.Growth.{heap_refusal}
 use Rattle.own_model.specs.OwnHeap.{chunk_with, offset_of}
 use Rattle.own_model.proofs.NatMapLemmas.{some_of, none_of}
-use Rattle.file_service.specs.Calls.{TakesNode}
-use Rattle.file_service.specs.Index.{previous_at}
-use Rattle.file_service.specs.SoundHeaps.{Stock}
-use Rattle.file_service.specs.SessionHeaps.{stock_of}
-use Rattle.file_service.specs.Node.{value_of, rank_of}
+use Rattle.session_nodes.specs.Calls.{TakesNode}
+use Rattle.session_nodes.specs.Index.{previous_at}
+use Rattle.session_nodes.specs.SoundHeaps.{Stock}
+use Rattle.session_nodes.specs.SessionHeaps.{stock_of}
+use Rattle.session_nodes.specs.Node.{value_of, rank_of}
 use Rattle.sliced_heap.specs.Chain.{is_listed}
 use Rattle.file_service.specs.Session.{files_in, Finds, served_in, done_reply}
 use Rattle.file_service.proofs.CreateLemmas.{Takes, takes_node}
-use Rattle.file_service.proofs.KeptLemmas.{blocks_are, files_are}
-use Rattle.file_service.proofs.NodeKeptLemmas.{indexed_kept, place_same}
+use Rattle.file_service.proofs.FileKeptLemmas.{files_are}
+use Rattle.session_nodes.proofs.KeptLemmas.{blocks_are}
+use Rattle.session_nodes.proofs.NodeKeptLemmas.{indexed_kept, place_same}
 use Rattle.file_service.proofs.SeekLemmas.{name_fits, none_ranked}
-use Rattle.file_service.proofs.PlaceLemmas.{furnished_has_places}
+use Rattle.session_nodes.proofs.PlaceLemmas.{furnished_has_places}
 use Rattle.file_service.proofs.SearchLemmas.{found_named}
-use Rattle.file_service.proofs.ServeLemmas.{serves_same, create_exists, create_done, was_ok, create_refused, furnished_after, keeps_after, keeps_both, serves_refused}
+use Rattle.session_nodes.proofs.AfterLemmas.{furnished_after, keeps_after, keeps_both}
+use Rattle.file_service.proofs.ServeLemmas.{serves_same, create_exists, create_done, was_ok, create_refused, serves_refused}
 use Rattle.session_proto.specs.FileReply.{model_error}
-use Rattle.file_service.proofs.ResultLemmas.{err_case, err_and, keeps_same}
+use Rattle.session_nodes.proofs.ResultLemmas.{err_case, err_and, keeps_same}
 use Rattle.file_service.proofs.session.FileSession.create.Goals as goal
 
 pub returns-then-is_some-clause-serves : goal.returns-then-is_some-clause-serves
@@ -43,9 +45,9 @@ append-requires-clause-fresh c =
     let was : Stock = stock_of c.args.self.now.rooms c.args.memory.now c.args.map.now in
     let taken : Stock = stock_of c.take_node.new.self c.take_node.new.memory c.take_node.new.map in
     let ok = was_ok c.take_node.result c.map_err.result c.in_ok-address.address _ c.map_err.ensures.cases c.map_err.ensures.variant c.in_ok-address.was in
-    let old : TakesNode c.in_ok-address.address (stock_of c.args.self.now.rooms c.find.new.memory c.args.map.now) taken =
-    subst (λ r. IfOk r (λ address. TakesNode address (stock_of c.args.self.now.rooms c.find.new.memory c.args.map.now) taken)) ok c.take_node.ensures.taken in
-    let t : TakesNode c.in_ok-address.address was taken = subst (λ m. TakesNode c.in_ok-address.address (stock_of c.args.self.now.rooms m c.args.map.now) taken) c.find.ensures.memory old in
+    let old : TakesNode node_size c.in_ok-address.address (stock_of c.args.self.now.rooms c.find.new.memory c.args.map.now) taken =
+    subst (λ r. IfOk r (λ address. TakesNode node_size address (stock_of c.args.self.now.rooms c.find.new.memory c.args.map.now) taken)) ok c.take_node.ensures.taken in
+    let t : TakesNode node_size c.in_ok-address.address was taken = subst (λ m. TakesNode node_size c.in_ok-address.address (stock_of c.args.self.now.rooms m c.args.map.now) taken) c.find.ensures.memory old in
     (takes_node c.args.self.now.first c.args.self.now.last c.requires.files.blocks c.in_ok-address.address (omega arith) was c.requires.files.stand
     (furnished_has_places c.args.self.now.rooms.nodes c.args.self.now.rooms.contents c.args.memory.now c.args.map.now c.requires.furnished) t.free taken
     (furnished_has_places c.take_node.new.self.nodes c.take_node.new.self.contents c.take_node.new.memory c.take_node.new.map c.take_node.ensures.keeps.stays.furnished) t).fresh
@@ -55,9 +57,9 @@ append-requires-clause-files c =
     let was : Stock = stock_of c.args.self.now.rooms c.args.memory.now c.args.map.now in
     let taken : Stock = stock_of c.take_node.new.self c.take_node.new.memory c.take_node.new.map in
     let ok = was_ok c.take_node.result c.map_err.result c.in_ok-address.address _ c.map_err.ensures.cases c.map_err.ensures.variant c.in_ok-address.was in
-    let old : TakesNode c.in_ok-address.address (stock_of c.args.self.now.rooms c.find.new.memory c.args.map.now) taken =
-    subst (λ r. IfOk r (λ address. TakesNode address (stock_of c.args.self.now.rooms c.find.new.memory c.args.map.now) taken)) ok c.take_node.ensures.taken in
-    let t : TakesNode c.in_ok-address.address was taken = subst (λ m. TakesNode c.in_ok-address.address (stock_of c.args.self.now.rooms m c.args.map.now) taken) c.find.ensures.memory old in
+    let old : TakesNode node_size c.in_ok-address.address (stock_of c.args.self.now.rooms c.find.new.memory c.args.map.now) taken =
+    subst (λ r. IfOk r (λ address. TakesNode node_size address (stock_of c.args.self.now.rooms c.find.new.memory c.args.map.now) taken)) ok c.take_node.ensures.taken in
+    let t : TakesNode node_size c.in_ok-address.address was taken = subst (λ m. TakesNode node_size c.in_ok-address.address (stock_of c.args.self.now.rooms m c.args.map.now) taken) c.find.ensures.memory old in
     let takes = takes_node c.args.self.now.first c.args.self.now.last c.requires.files.blocks c.in_ok-address.address (omega arith) was c.requires.files.stand
     (furnished_has_places c.args.self.now.rooms.nodes c.args.self.now.rooms.contents c.args.memory.now c.args.map.now c.requires.furnished) t.free taken
     (furnished_has_places c.take_node.new.self.nodes c.take_node.new.self.contents c.take_node.new.memory c.take_node.new.map c.take_node.ensures.keeps.stays.furnished) t in
@@ -73,9 +75,9 @@ append-requires-clause-new c b listed =
     let was : Stock = stock_of c.args.self.now.rooms c.args.memory.now c.args.map.now in
     let taken : Stock = stock_of c.take_node.new.self c.take_node.new.memory c.take_node.new.map in
     let ok = was_ok c.take_node.result c.map_err.result c.in_ok-address.address _ c.map_err.ensures.cases c.map_err.ensures.variant c.in_ok-address.was in
-    let old : TakesNode c.in_ok-address.address (stock_of c.args.self.now.rooms c.find.new.memory c.args.map.now) taken =
-    subst (λ r. IfOk r (λ address. TakesNode address (stock_of c.args.self.now.rooms c.find.new.memory c.args.map.now) taken)) ok c.take_node.ensures.taken in
-    let t : TakesNode c.in_ok-address.address was taken = subst (λ m. TakesNode c.in_ok-address.address (stock_of c.args.self.now.rooms m c.args.map.now) taken) c.find.ensures.memory old in
+    let old : TakesNode node_size c.in_ok-address.address (stock_of c.args.self.now.rooms c.find.new.memory c.args.map.now) taken =
+    subst (λ r. IfOk r (λ address. TakesNode node_size address (stock_of c.args.self.now.rooms c.find.new.memory c.args.map.now) taken)) ok c.take_node.ensures.taken in
+    let t : TakesNode node_size c.in_ok-address.address was taken = subst (λ m. TakesNode node_size c.in_ok-address.address (stock_of c.args.self.now.rooms m c.args.map.now) taken) c.find.ensures.memory old in
     let takes = takes_node c.args.self.now.first c.args.self.now.last c.requires.files.blocks c.in_ok-address.address (omega arith) was c.requires.files.stand
     (furnished_has_places c.args.self.now.rooms.nodes c.args.self.now.rooms.contents c.args.memory.now c.args.map.now c.requires.furnished) t.free taken
     (furnished_has_places c.take_node.new.self.nodes c.take_node.new.self.contents c.take_node.new.memory c.take_node.new.map c.take_node.ensures.keeps.stays.furnished) t in
@@ -94,9 +96,9 @@ returns-clause-serves c =
     let was : Stock = stock_of c.args.self.now.rooms c.args.memory.now c.args.map.now in
     let taken : Stock = stock_of c.take_node.new.self c.take_node.new.memory c.take_node.new.map in
     let ok = was_ok c.take_node.result c.map_err.result c.in_ok-address.address _ c.map_err.ensures.cases c.map_err.ensures.variant c.in_ok-address.was in
-    let old : TakesNode c.in_ok-address.address (stock_of c.args.self.now.rooms c.find.new.memory c.args.map.now) taken =
-    subst (λ r. IfOk r (λ address. TakesNode address (stock_of c.args.self.now.rooms c.find.new.memory c.args.map.now) taken)) ok c.take_node.ensures.taken in
-    let t : TakesNode c.in_ok-address.address was taken = subst (λ m. TakesNode c.in_ok-address.address (stock_of c.args.self.now.rooms m c.args.map.now) taken) c.find.ensures.memory old in
+    let old : TakesNode node_size c.in_ok-address.address (stock_of c.args.self.now.rooms c.find.new.memory c.args.map.now) taken =
+    subst (λ r. IfOk r (λ address. TakesNode node_size address (stock_of c.args.self.now.rooms c.find.new.memory c.args.map.now) taken)) ok c.take_node.ensures.taken in
+    let t : TakesNode node_size c.in_ok-address.address was taken = subst (λ m. TakesNode node_size c.in_ok-address.address (stock_of c.args.self.now.rooms m c.args.map.now) taken) c.find.ensures.memory old in
     let takes : Takes c.args.self.now.first c.args.self.now.last c.requires.files.blocks c.in_ok-address.address was taken =
     takes_node c.args.self.now.first c.args.self.now.last c.requires.files.blocks c.in_ok-address.address (omega arith) was c.requires.files.stand
     (furnished_has_places c.args.self.now.rooms.nodes c.args.self.now.rooms.contents c.args.memory.now c.args.map.now c.requires.furnished) t.free taken
@@ -144,8 +146,8 @@ returns-in_err-address-clause-serves c =
 pub returns-then-is_some-clause-keeps : goal.returns-then-is_some-clause-keeps
 returns-then-is_some-clause-keeps c = keeps_same c.requires.furnished refl refl c.find.ensures.memory refl
 
-pub take_node-requires : goal.take_node-requires
-take_node-requires c = record { furnished = furnished_after c.find.ensures.memory c.requires.furnished }
+pub take_node-requires-clause-furnished : goal.take_node-requires-clause-furnished
+take_node-requires-clause-furnished c = furnished_after c.find.ensures.memory c.requires.furnished
 
 pub returns-in_err-address-clause-keeps : goal.returns-in_err-address-clause-keeps
 returns-in_err-address-clause-keeps c = keeps_after c.find.ensures.memory c.take_node.ensures.keeps

@@ -2,9 +2,9 @@
 use Rattle.std.proofs.Common.{◌≡◌, ◌≢◌, Some, sym, ap, ◌∙◌, arith}
 use Rattle.std.specs.Option.{option_map}
 use Rattle.own_model.specs.FileService.{File}
-use Rattle.file_service.specs.Node.{FileNode}
-use Rattle.file_service.specs.SessionHeaps.{stock_of}
-use Rattle.file_service.specs.SoundHeaps.{Stock}
+use Rattle.session_nodes.specs.Node.{StoredNode}
+use Rattle.session_nodes.specs.SessionHeaps.{stock_of}
+use Rattle.session_nodes.specs.SoundHeaps.{Stock}
 use Rattle.file_service.proofs.AddressLemmas.{a_file, found_there, no_file, remembers}
 use Rattle.file_service.proofs.session.FileSession.file_at.Goals as goal
 
@@ -26,7 +26,7 @@ returns-clause-name c =
     let a = c.args in
     let has : Stock = stock_of a.self.now.rooms a.memory.now a.map.now in
     let some : c.address_at-address.result ≢ 0 = λ (e : c.address_at-address.result ≡ 0). absurd (omega (arith, e)) in
-    ap (λ (n : FileNode). Some n.name) c.load_node.ensures.value
+    ap (λ (n : StoredNode). Some n.name) c.load_node.ensures.value
     ∙ sym (ap (option_map (λ (file : File). file.name)) (a_file a.self.now.first a.self.now.last a.self.now.root has.nodes has.contents c.requires.files a.place c.address_at-address.result c.address_at-address.ensures some))
 
 pub returns-clause-kept : goal.returns-clause-kept

@@ -1,10 +1,10 @@
 -- The tree leads to the one node that can have the name.
 use Rattle.std.proofs.Common.{◌≡◌, ◌≢◌, ◌<◌, sym, subst, arith}
-use Rattle.file_service.specs.Calls.{HasBytes}
-use Rattle.file_service.specs.SoundHeaps.{Stock}
-use Rattle.file_service.specs.SessionHeaps.{stock_of}
-use Rattle.file_service.specs.Files.{node_at}
-use Rattle.file_service.specs.Node.{FileNode, value_of}
+use Rattle.session_nodes.specs.Calls.{HasBytes}
+use Rattle.session_nodes.specs.SoundHeaps.{Stock}
+use Rattle.session_nodes.specs.SessionHeaps.{stock_of}
+use Rattle.session_nodes.specs.Order.{node_at}
+use Rattle.session_nodes.specs.Node.{StoredNode, value_of}
 use Rattle.file_service.proofs.SeekLemmas.{eq_name, ne_name, none_long, none_found, none_other, found_listed, found_is}
 use Rattle.file_service.proofs.session.FileSession.find.Goals as goal
 
@@ -34,7 +34,7 @@ returns-then-ne-clause-none c =
     let value : value_of c.load_node-node.result ≡ node_at was.nodes c.seek-address.result =
     subst (λ m. value_of c.load_node-node.result ≡ node_at (stock_of c.args.self.now.rooms m c.args.map.now).nodes c.seek-address.result) c.seek-address.ensures.memory c.load_node-node.ensures.value in
     none_other c.args.self.now.first c.args.self.now.last c.args.self.now.root was.nodes was.contents c.requires.files c.args.name.now c.seek-address.result c.seek-address.ensures.found
-    (subst (λ (n : FileNode). n.name ≢ c.args.name.now) value (ne_name _ _ c.args.name.now _ c.as_slice.ensures.value c.ne.ensures c.if-ne.true))
+    (subst (λ (n : StoredNode). n.name ≢ c.args.name.now) value (ne_name _ _ c.args.name.now _ c.as_slice.ensures.value c.ne.ensures c.if-ne.true))
 
 pub returns-clause-some : goal.returns-clause-some
 returns-clause-some c =

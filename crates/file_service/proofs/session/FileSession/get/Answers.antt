@@ -14,19 +14,19 @@ use Rattle.dataspace_core.specs.Store.{space_at}
 use Rattle.server_frame.specs.SessionBuffer.{bytes_lent}
 use Rattle.server_frame.specs.Session.{holding_of}
 use Rattle.session_proto.specs.FileReply.{model_error}
-use Rattle.file_service.specs.Calls.{payload_in}
+use Rattle.session_nodes.specs.Calls.{payload_in}
 use Rattle.file_service.specs.Files.{file_at}
-use Rattle.file_service.specs.SoundHeaps.{Stock}
-use Rattle.file_service.specs.SessionHeaps.{stock_of, StaySoundHeaps}
-use Rattle.file_service.specs.SessionBuffer.{HasBuffer, buffer_key}
-use Rattle.file_service.specs.Node.{value_of}
+use Rattle.session_nodes.specs.SoundHeaps.{Stock}
+use Rattle.session_nodes.specs.SessionHeaps.{stock_of, StaySoundHeaps}
+use Rattle.session_nodes.specs.SessionBuffer.{HasBuffer, buffer_key}
+use Rattle.session_nodes.specs.Node.{value_of}
 use Rattle.file_service.specs.Session.{files_in, session_served, counted_reply, Answers, Finds, IsReady}
-use Rattle.file_service.proofs.FrontLemmas.{front_part}
+use Rattle.session_nodes.proofs.FrontLemmas.{front_part}
 use Rattle.file_service.proofs.SearchLemmas.{found_named, found_long, found_has, found_bytes}
-use Rattle.file_service.proofs.SourceLemmas.{buffer_exists}
+use Rattle.session_nodes.proofs.SourceLemmas.{buffer_exists}
 use Rattle.file_service.proofs.BufferRequestLemmas as request
-use Rattle.file_service.proofs.ResultLemmas.{keeps_same}
-use Rattle.file_service.proofs.ServeLemmas.{furnished_after}
+use Rattle.session_nodes.proofs.ResultLemmas.{keeps_same}
+use Rattle.session_nodes.proofs.AfterLemmas.{furnished_after}
 use Rattle.file_service.proofs.session.FileSession.get.Goals.{In_ok-found, In_ok-lent}
 use Rattle.file_service.proofs.session.FileSession.get.Goals as goal
 

@@ -6,11 +6,11 @@ use Rattle.own_model.specs.FileService.{error_of}
 use Rattle.own_model.specs.FileText.FileReply.{Refused}
 use Rattle.session_proto.specs.FileReply.{model_error}
 use Rattle.server_frame.specs.Session.{holding_of}
-use Rattle.file_service.specs.SessionBuffer.{TakesBuffer}
-use Rattle.file_service.specs.SessionHeaps.{stock_of}
+use Rattle.session_nodes.specs.SessionBuffer.{TakesBuffer}
+use Rattle.session_nodes.specs.SessionHeaps.{stock_of}
 use Rattle.file_service.specs.Session.{lent_reply}
 use Rattle.file_service.proofs.BufferRequestLemmas.{make_refused, make_done}
-use Rattle.file_service.proofs.ResultLemmas.{err_case, err_and}
+use Rattle.session_nodes.proofs.ResultLemmas.{err_case, err_and}
 use Rattle.file_service.proofs.ServeLemmas.{was_ok}
 use Rattle.file_service.proofs.session.FileSession.lend.Goals as goal
 

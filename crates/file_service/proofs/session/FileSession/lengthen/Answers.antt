@@ -13,17 +13,18 @@ use Rattle.own_model.specs.FileText.FileRequest.{Write}
 use Rattle.own_model.specs.Sliced.{sliced_size}
 use Rattle.session_proto.specs.FileReply.{model_error}
 use Rattle.core_calls.specs.declared.file_error.FileError.TheVariants.{OutOfRam}
-use Rattle.file_service.specs.Calls.{content_taken, content_written, HasBytes}
-use Rattle.file_service.specs.Index.{IsIndexed, previous_at}
-use Rattle.file_service.specs.SoundHeaps.{Stock}
-use Rattle.file_service.specs.SessionHeaps.{stock_of}
-use Rattle.file_service.specs.Node.{value_of}
+use Rattle.session_nodes.specs.Calls.{content_taken, content_written, HasBytes}
+use Rattle.session_nodes.specs.Index.{IsIndexed, previous_at}
+use Rattle.session_nodes.specs.SoundHeaps.{Stock}
+use Rattle.session_nodes.specs.SessionHeaps.{stock_of}
+use Rattle.session_nodes.specs.Node.{value_of}
 use Rattle.file_service.specs.Session.{IsFound, files_in, served_in, counted_reply}
-use Rattle.file_service.specs.Source.{bytes_from, HasSource}
-use Rattle.file_service.proofs.SourceLemmas.{source_kept, bytes_kept}
+use Rattle.session_nodes.specs.Source.{bytes_from, HasSource}
+use Rattle.session_nodes.proofs.SourceLemmas.{source_kept, bytes_kept}
 use Rattle.file_service.proofs.LengthenLemmas.{TakesLonger, sum_is, no_sum, not_new, source, target, room, made_has, made_own, made_found, made_served}
-use Rattle.file_service.proofs.ResultLemmas.{err_case, err_and}
-use Rattle.file_service.proofs.ServeLemmas.{keeps_both, serves_told, serves_refused, was_ok}
+use Rattle.session_nodes.proofs.ResultLemmas.{err_case, err_and}
+use Rattle.session_nodes.proofs.AfterLemmas.{keeps_both}
+use Rattle.file_service.proofs.ServeLemmas.{serves_told, serves_refused, was_ok}
 use Rattle.file_service.proofs.WriteLemmas.{past_limit, refused_short, longer_refused}
 use Rattle.file_service.proofs.session.FileSession.lengthen.Goals.{In_ok-content, After-copy_content}
 use Rattle.file_service.proofs.session.FileSession.lengthen.Goals as goal

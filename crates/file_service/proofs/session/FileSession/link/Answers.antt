@@ -2,12 +2,12 @@
 use Rattle.std.proofs.Common.{◌≡◌, ◌∙◌, ap, arith}
 use Rattle.trade_base.specs.Word.{word_bytes}
 use Rattle.own_model.specs.OwnState.{with_part}
-use Rattle.file_service.specs.Calls.{payload_in, node_stored}
-use Rattle.file_service.specs.SoundHeaps.{Stock}
-use Rattle.file_service.specs.SessionHeaps.{stock_of}
+use Rattle.session_nodes.specs.Calls.{payload_in, node_stored}
+use Rattle.session_nodes.specs.SoundHeaps.{Stock}
+use Rattle.session_nodes.specs.SessionHeaps.{stock_of}
 use Rattle.file_service.proofs.AppendLemmas.{stored_links}
-use Rattle.file_service.proofs.LinkBackLemmas.{word_is}
-use Rattle.file_service.proofs.NextLemmas.{node_next, there_next, place_next}
+use Rattle.session_nodes.proofs.LinkBackLemmas.{word_is}
+use Rattle.session_nodes.proofs.NextLemmas.{node_next, there_next, place_next}
 use Rattle.file_service.proofs.session.FileSession.link.Goals as goal
 
 pub returns-clause-links : goal.returns-clause-links

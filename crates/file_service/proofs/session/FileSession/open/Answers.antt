@@ -6,9 +6,10 @@ use Rattle.own_model.specs.OwnHeap.{OwnHeap}
 use Rattle.own_model.specs.Services.ServiceState.{Filing}
 use Rattle.heap_core.specs.Heap.{heap_in}
 use Rattle.sliced_heap.specs.Sliced.{sliced_of}
-use Rattle.file_service.specs.Files.{StandAt, file_at, link_in, nodes_from}
-use Rattle.file_service.proofs.LinkLemmas.{along_line}
-use Rattle.file_service.proofs.NodeKeptLemmas.{indexed_by, named_none}
+use Rattle.session_nodes.specs.Order.{StandAt, link_in, nodes_from}
+use Rattle.file_service.specs.Files.{file_at}
+use Rattle.session_nodes.proofs.LinkLemmas.{along_line}
+use Rattle.session_nodes.proofs.NodeKeptLemmas.{indexed_by, named_none}
 use Rattle.file_service.proofs.session.FileSession.open.Goals as goal
 
 pub returns-clause-first : goal.returns-clause-first

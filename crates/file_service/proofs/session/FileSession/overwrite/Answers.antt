@@ -1,9 +1,9 @@
 -- The file is written over where it gets no longer.
 use Rattle.std.proofs.Common.{length, arith}
-use Rattle.file_service.specs.SoundHeaps.{Stock}
-use Rattle.file_service.specs.SessionHeaps.{stock_of}
-use Rattle.file_service.specs.Node.{value_of}
-use Rattle.file_service.specs.Source.{bytes_from}
+use Rattle.session_nodes.specs.SoundHeaps.{Stock}
+use Rattle.session_nodes.specs.SessionHeaps.{stock_of}
+use Rattle.session_nodes.specs.Node.{value_of}
+use Rattle.session_nodes.specs.Source.{bytes_from}
 use Rattle.file_service.proofs.SearchLemmas.{found_has}
 use Rattle.file_service.proofs.ServeLemmas.{serves_told}
 use Rattle.file_service.proofs.WriteLemmas.{nothing_told, over_served}

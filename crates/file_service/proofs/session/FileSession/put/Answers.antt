@@ -14,16 +14,17 @@ use Rattle.server_frame.specs.SessionBuffer.{bytes_lent}
 use Rattle.server_frame.specs.Session.{holding_of}
 use Rattle.session_proto.specs.FileReply.{model_error}
 use Rattle.file_service.specs.Files.{file_at}
-use Rattle.file_service.specs.SoundHeaps.{Stock}
-use Rattle.file_service.specs.SessionHeaps.{stock_of}
-use Rattle.file_service.specs.SessionBuffer.{HasBuffer, buffer_key}
-use Rattle.file_service.specs.Node.{value_of}
+use Rattle.session_nodes.specs.SoundHeaps.{Stock}
+use Rattle.session_nodes.specs.SessionHeaps.{stock_of}
+use Rattle.session_nodes.specs.SessionBuffer.{HasBuffer, buffer_key}
+use Rattle.session_nodes.specs.Node.{value_of}
 use Rattle.file_service.specs.Session.{files_in, session_served, counted_reply, Answers, Finds, IsReady}
 use Rattle.file_service.proofs.SearchLemmas.{found_named, found_long}
-use Rattle.file_service.proofs.ServeLemmas.{found_name, found_after, furnished_after, files_after, keeps_after}
-use Rattle.file_service.proofs.SourceLemmas.{buffer_exists}
+use Rattle.session_nodes.proofs.AfterLemmas.{furnished_after, keeps_after}
+use Rattle.file_service.proofs.ServeLemmas.{found_name, found_after, files_after}
+use Rattle.session_nodes.proofs.SourceLemmas.{buffer_exists}
 use Rattle.file_service.proofs.BufferRequestLemmas as request
-use Rattle.file_service.proofs.ResultLemmas.{keeps_same}
+use Rattle.session_nodes.proofs.ResultLemmas.{keeps_same}
 use Rattle.file_service.proofs.session.FileSession.put.Goals.{In_ok-found, In_ok-lent}
 use Rattle.file_service.proofs.session.FileSession.put.Goals as goal
 

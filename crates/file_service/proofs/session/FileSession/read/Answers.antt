@@ -3,16 +3,17 @@ use Rattle.std.proofs.Common.{◌≡◌, ◌∙◌, ◌+◌, length, take, drop,
 use Rattle.std.proofs.lemmas.List.{length-take-le}
 use Rattle.std.specs.Prelude.{IfSome, slice_range}
 use Rattle.std.specs.Result.{result_ok}
-use Rattle.file_service.specs.Calls.{payload_in, HasBytes}
+use Rattle.session_nodes.specs.Calls.{payload_in, HasBytes}
 use Rattle.file_service.specs.Files.{file_at}
-use Rattle.file_service.specs.Index.{previous_at}
-use Rattle.file_service.specs.SoundHeaps.{Stock}
-use Rattle.file_service.specs.SessionHeaps.{stock_of}
-use Rattle.file_service.specs.Node.{value_of}
+use Rattle.session_nodes.specs.Index.{previous_at}
+use Rattle.session_nodes.specs.SoundHeaps.{Stock}
+use Rattle.session_nodes.specs.SessionHeaps.{stock_of}
+use Rattle.session_nodes.specs.Node.{value_of}
 use Rattle.file_service.specs.Session.{Finds}
-use Rattle.file_service.proofs.FrontLemmas.{front_part, front_read}
+use Rattle.session_nodes.proofs.FrontLemmas.{front_part, front_read}
 use Rattle.file_service.proofs.SearchLemmas.{found_named, found_long, found_has, found_bytes}
-use Rattle.file_service.proofs.ServeLemmas.{read_gap, read_long, read_found, furnished_after}
+use Rattle.session_nodes.proofs.AfterLemmas.{furnished_after}
+use Rattle.file_service.proofs.ServeLemmas.{read_gap, read_long, read_found}
 use Rattle.file_service.proofs.session.FileSession.read.Goals as goal
 
 pub returns-then-file-size-clause-told : goal.returns-then-file-size-clause-told

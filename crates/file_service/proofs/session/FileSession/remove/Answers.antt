@@ -5,18 +5,19 @@ use Rattle.std.specs.Result.{result_ok}
 use Rattle.own_model.specs.FileText.FileReply.{Done}
 use Rattle.own_model.specs.FileText.FileRequest.{Drop}
 use Rattle.sliced_heap.specs.Chain.{is_listed}
-use Rattle.file_service.specs.SoundHeaps.{Stock}
-use Rattle.file_service.specs.SessionHeaps.{stock_of}
-use Rattle.file_service.specs.Files.{nodes_from}
-use Rattle.file_service.specs.Index.{IsAmong, IsNamed, remembered_without}
-use Rattle.file_service.specs.Node.{value_of}
+use Rattle.session_nodes.specs.SoundHeaps.{Stock}
+use Rattle.session_nodes.specs.SessionHeaps.{stock_of}
+use Rattle.session_nodes.specs.Order.{nodes_from}
+use Rattle.session_nodes.specs.Index.{IsAmong, IsNamed, remembered_without}
+use Rattle.session_nodes.specs.Node.{value_of}
 use Rattle.file_service.specs.Session.{Finds, IsListed, KeepsOwn, LinksTo, Serves, served_in}
 use Rattle.file_service.specs.declared.session.FileSession.{FileSession}
 use Rattle.file_service.proofs.DropLemmas.{is_unlisted, previous_there, linked_there, given_there, serves_empty, serves_full}
-use Rattle.file_service.proofs.KeptLemmas.{blocks_are}
+use Rattle.session_nodes.proofs.KeptLemmas.{blocks_are}
 use Rattle.file_service.proofs.SearchLemmas.{in_blocks}
-use Rattle.file_service.proofs.ServeLemmas.{keeps_both, furnished_after, files_after, keeps_after}
-use Rattle.file_service.proofs.ResultLemmas.{keeps_same}
+use Rattle.session_nodes.proofs.AfterLemmas.{keeps_both, furnished_after, keeps_after}
+use Rattle.file_service.proofs.ServeLemmas.{files_after}
+use Rattle.session_nodes.proofs.ResultLemmas.{keeps_same}
 use Rattle.file_service.proofs.session.FileSession.remove.Goals as goal
 
 pub unlist-previous-requires-clause-listed : goal.unlist-previous-requires-clause-listed

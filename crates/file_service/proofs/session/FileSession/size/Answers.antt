@@ -3,10 +3,10 @@ use Rattle.std.proofs.Common.{◌≡◌, ◌∙◌, Some, ap, subst}
 use Rattle.std.specs.Prelude.{IfSome}
 use Rattle.std.specs.Result.{result_ok}
 use Rattle.file_service.specs.Files.{file_at}
-use Rattle.file_service.specs.Index.{previous_at}
-use Rattle.file_service.specs.SoundHeaps.{Stock}
-use Rattle.file_service.specs.SessionHeaps.{stock_of}
-use Rattle.file_service.specs.Node.{value_of}
+use Rattle.session_nodes.specs.Index.{previous_at}
+use Rattle.session_nodes.specs.SoundHeaps.{Stock}
+use Rattle.session_nodes.specs.SessionHeaps.{stock_of}
+use Rattle.session_nodes.specs.Node.{value_of}
 use Rattle.file_service.specs.Session.{Finds}
 use Rattle.file_service.proofs.SearchLemmas.{found_named, found_long}
 use Rattle.file_service.proofs.ServeLemmas.{size_found}

@@ -1,13 +1,13 @@
 -- The node leaves the tree, and the one behind it is linked back to the one before it.
 use Rattle.std.proofs.Common.{subst}
-use Rattle.file_service.specs.SoundHeaps.{Stock}
-use Rattle.file_service.specs.SessionHeaps.{stock_of}
-use Rattle.file_service.specs.Index.{Leaves}
-use Rattle.file_service.specs.NameLaws.{tails_then}
-use Rattle.file_service.specs.Node.{value_of, rank_of}
-use Rattle.file_service.proofs.TailLemmas.{tail_there}
+use Rattle.session_nodes.specs.SoundHeaps.{Stock}
+use Rattle.session_nodes.specs.SessionHeaps.{stock_of}
+use Rattle.session_nodes.specs.Index.{Leaves}
+use Rattle.session_nodes.specs.NameLaws.{tails_then}
+use Rattle.session_nodes.specs.Node.{value_of, rank_of}
+use Rattle.session_nodes.proofs.TailLemmas.{tail_there}
 use Rattle.file_service.proofs.UnlistLemmas.{listed_there, unlisted_by}
-use Rattle.file_service.proofs.ServeLemmas.{keeps_both}
+use Rattle.session_nodes.proofs.AfterLemmas.{keeps_both}
 use Rattle.file_service.proofs.session.FileSession.unlist.Goals as goal
 
 pub load_word-previous-requires-clause-there : goal.load_word-previous-requires-clause-there

@@ -6,14 +6,15 @@ use Rattle.own_model.specs.FileText.FileError.{Gap}
 use Rattle.own_model.specs.FileText.FileReply.{Refused}
 use Rattle.own_model.specs.FileText.FileRequest.{Write}
 use Rattle.file_service.specs.Files.{file_at}
-use Rattle.file_service.specs.Index.{previous_at}
-use Rattle.file_service.specs.SoundHeaps.{Stock}
-use Rattle.file_service.specs.SessionHeaps.{stock_of}
-use Rattle.file_service.specs.Node.{value_of}
+use Rattle.session_nodes.specs.Index.{previous_at}
+use Rattle.session_nodes.specs.SoundHeaps.{Stock}
+use Rattle.session_nodes.specs.SessionHeaps.{stock_of}
+use Rattle.session_nodes.specs.Node.{value_of}
 use Rattle.file_service.specs.Session.{served_in, Finds, Serves, counted_reply}
 use Rattle.file_service.proofs.SearchLemmas.{found_named, found_long}
-use Rattle.file_service.proofs.ServeLemmas.{serves_same, write_gap, found_name, found_after, furnished_after, files_after, keeps_after}
-use Rattle.file_service.proofs.ResultLemmas.{keeps_same}
+use Rattle.session_nodes.proofs.AfterLemmas.{furnished_after, keeps_after}
+use Rattle.file_service.proofs.ServeLemmas.{serves_same, write_gap, found_name, found_after, files_after}
+use Rattle.session_nodes.proofs.ResultLemmas.{keeps_same}
 use Rattle.file_service.proofs.session.FileSession.write.Goals.{In_ok-found}
 use Rattle.file_service.proofs.session.FileSession.write.Goals as goal
 

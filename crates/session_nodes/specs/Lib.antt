@@ -1,0 +1,12 @@
+pub mod Links
+pub mod SoundHeaps
+pub mod SessionHeaps
+pub mod SessionBuffer
+pub mod Source
+pub mod Node
+pub mod Calls
+pub mod Found
+pub mod Order
+pub mod Index
+pub mod NameLaws
+pub mod SeparateBuffer
