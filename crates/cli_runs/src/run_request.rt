@@ -1,16 +1,15 @@
 //! A scenario's run on a machine, over files and the standard streams.
 ghost use Rattle.std.specs.Prelude.{◌≡◌, ◌==◌, if◌then◌else◌};
 
-use crate::accounts::accounts_document;
+use crate::accounts::print_accounts;
 use crate::run_end::RunEnd;
-use crate::view::{RunView, view};
+use crate::view::{AccountsForm, RunView, view};
 use cli_base::{
     Machine, MachineChoice, Origin, OutputStream, REFUSED, ReadFailure, STANDARD_INPUT, Settings,
     Spot, Warnings, made_or_status, read_whole, report_boot_fault, report_error, unfolded,
     warned_status, writer,
 };
 use cli_engine::Input;
-use cli_options::ReportOptions;
 use init_core::StartList;
 use line_names::RoundMark;
 use run_scenario::{ScenarioInput, near_component};
@@ -48,12 +47,12 @@ pub(crate) const NONE_EARLIER: Counts = Counts {
 impl<'a> RunRequest<'a> {
     /// Returns a run that isn't restricted to one component.
     pub(crate) fn whole(
-        asked: &ReportOptions<'a>,
+        scenario: &'a str,
         settings: Settings<'a>,
         viewing: RunView<'a>,
     ) -> RunRequest<'a> {
         RunRequest {
-            scenario: asked.scenario,
+            scenario,
             settings,
             viewing,
             name: None,
@@ -219,8 +218,8 @@ fn played(
     let mut reader = Input::new(origin);
     let stderr = OutputStream::Complained(rt.stderr());
     let mut complaints = writer(rt, stderr, Lines::Complaints, coloring.err);
-    if let RunView::Accounts { json: true } = viewing {
-        return accounts_document(rt, play, &mut reader, &mut complaints);
+    if let RunView::Accounts(AccountsForm::Rows(form)) = viewing {
+        return print_accounts(rt, play, form, &mut reader, &mut complaints);
     }
     let stdout = OutputStream::Printed(io::writer(rt));
     let mut replies = writer(rt, stdout, Lines::Replies, coloring.out);

@@ -16,12 +16,27 @@ pub(crate) enum RunView<'a> {
         json: bool,
     },
     /// The accounts after the last line.
-    Accounts {
-        /// Whether the accounts are printed as a list of JSON.
-        json: bool,
-    },
+    Accounts(AccountsForm),
     /// The replies to the component of this name, in the whole run and alone.
     Alone(&'a [u8]),
+}
+
+/// The form in which accounts are printed.
+#[derive(Clone, Copy)]
+pub(crate) enum AccountsForm {
+    /// A line of the account list for each account.
+    Lines,
+    /// Rows, printed after the run.
+    Rows(RowsForm),
+}
+
+/// The form in which the rows of an account list are printed.
+#[derive(Clone, Copy)]
+pub(crate) enum RowsForm {
+    /// A table.
+    Table,
+    /// A list of JSON.
+    Json,
 }
 
 impl<'a> RunView<'a> {
@@ -54,9 +69,7 @@ pub(crate) fn view(
             let format = JsonRows { alloc };
             trace(alloc, play, format, reader, writer, complaints)
         }
-        RunView::Accounts { .. } => {
-            Ok(accounts(alloc, play, reader, writer, complaints)?.ending)
-        }
+        RunView::Accounts(_) => { Ok(accounts(alloc, play, reader, writer, complaints)?.ending) }
         RunView::Alone(name) => {
             let compared = alone(alloc, play, name, reader, writer, complaints)?;
             Ok(if compared.lines == 0 || compared.difference.is_some() {
