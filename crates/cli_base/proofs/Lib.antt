@@ -1,2 +1,3 @@
 mod MadeLemmas
 mod StatusLemmas
+mod VerdictLemmas

@@ -1,6 +1,11 @@
 //! The check of a start list against a policy: each line of the policy that the list breaks, with its place.
-ghost use Rattle.std.specs.Prelude.{◌≡◌};
-ghost use Rattle.cli_base.specs.PolicyVerdict.{verdict_status};
+ghost use Rattle.std.specs.Prelude.{◌≡◌, ◌++◌, ℕ, List, map, IfOk, IfSome, MatchOption, OnOk};
+ghost use Rattle.list_policy.specs.Components.{fault_at};
+ghost use Rattle.list_policy.specs.Demand.{AreBreaches};
+ghost use Rattle.list_policy.specs.Line.{line_at};
+ghost use Rattle.list_policy.specs.Verdict.{AreBrokenAt, IsVerdict, breach_place, fault_place};
+ghost use Rattle.list_policy.specs.declared.breach.Breach.{Breach};
+ghost use Rattle.cli_base.specs.PolicyVerdict.{IsNoPolicy, note_place, verdict_places, verdict_status};
 
 use crate::files::read_list;
 use crate::reports::Spot;
@@ -61,10 +66,13 @@ pub fn check_policy(
     rt: &HostRuntime,
     list: &StartList,
     path: &str,
-) -> Result<PolicyVerdict, AllocError> {
+) -> Result<PolicyVerdict, AllocError>
+    ensures { IfOk result (λ verdict. IfSome (verdict_places verdict)
+        (λ places. (text : List ℕ) × IsVerdict list.now text places)) }
+{
     let alloc = rt.alloc();
     match read_list(rt, path) {
-        Ok(bytes) => standing_by(alloc, list, path, &bytes),
+        Ok(bytes) => verdict_of(alloc, list, path, &bytes),
         Err(why) => {
             let why = why.about(path);
             Ok(PolicyVerdict::ReadFailure(format!(in alloc; "{why}")?))
@@ -73,57 +81,117 @@ pub fn check_policy(
 }
 
 // Checks a start list against the bytes of a policy, which must be UTF-8 and at most 65536.
-fn standing_by(
+#[tactic(auto, using(crate::proofs::VerdictLemmas::too_long, crate::proofs::VerdictLemmas::not_text))]
+fn verdict_of(
     alloc: Global,
     list: &StartList,
     path: &str,
     bytes: &[u8],
-) -> Result<PolicyVerdict, AllocError> {
+) -> Result<PolicyVerdict, AllocError>
+    ensures { IfOk result (λ verdict. MatchOption (verdict_places verdict) (IsNoPolicy bytes.now)
+        (IsVerdict list.now bytes.now)) }
+{
     if LONGEST_POLICY < bytes.len() {
         return Ok(PolicyVerdict::ReadFailure(format!(in alloc;
             "{path} has more than {LONGEST_POLICY} bytes"
         )?));
     }
     match str::from_utf8(bytes) {
-        Ok(text) => standing_to(alloc, list, text),
+        Ok(_) => text_verdict(alloc, list, bytes),
         Err(_) => Ok(PolicyVerdict::ReadFailure(format!(in alloc; "{path} is not UTF-8")?)),
     }
 }
 
 // Checks a start list against the text of a policy.
-fn standing_to(alloc: Global, list: &StartList, text: &str) -> Result<PolicyVerdict, AllocError> {
-    let policy = Policy::read(alloc, list, text.as_bytes())?;
-    if policy.faults().is_empty() {
-        held(alloc, list, &policy)
-    } else {
-        faulty(alloc, policy.faults())
+#[tactic(auto, using(list_policy::proofs::VerdictLemmas::held_is, list_policy::proofs::VerdictLemmas::faulty_is))]
+fn text_verdict(alloc: Global, list: &StartList, text: &[u8]) -> Result<PolicyVerdict, AllocError>
+    ensures { IfOk result (λ verdict. MatchOption (verdict_places verdict) (IsNoPolicy text.now)
+        (IsVerdict list.now text.now)) }
+{
+    let policy = Policy::read(alloc, list, text)?;
+    let faults = policy.faults();
+    if faults.is_empty() {
+        let broken = broken_lines(alloc, list, policy.lines())?;
+        return Ok(PolicyVerdict::Held(broken));
     }
-}
-
-// Returns the faults of a policy's lines.
-fn faulty(alloc: Global, faults: &[PolicyFault<'_>]) -> Result<PolicyVerdict, AllocError> {
-    let mut notes = Vec::new(alloc);
-    for fault in faults {
-        let flaw = &fault.flaw;
-        notes.push(PolicyDiagnostic {
-            line: fault.line,
-            column: fault.column,
-            text: format!(in alloc; "{flaw}")?,
-        })?;
-    }
+    let notes = fault_notes(alloc, faults)?;
     Ok(PolicyVerdict::Faulty(notes))
 }
 
-// Returns the lines of a policy that a start list breaks.
-fn held(alloc: Global, list: &StartList, policy: &Policy) -> Result<PolicyVerdict, AllocError> {
-    let mut broken = Vec::new(alloc);
-    for line in policy.lines() {
-        let breaches = line.breaches(alloc, list)?;
-        for breach in breaches.as_slice() {
-            broken.push(broken_by(alloc, list, line, breach)?)?;
-        }
+// Returns the faults of a policy's lines.
+fn fault_notes(
+    alloc: Global,
+    faults: &[PolicyFault<'_>],
+) -> Result<Vec<PolicyDiagnostic>, AllocError>
+    ensures { IfOk result (λ notes.
+        map note_place notes.items ≡ map fault_place (map fault_at faults.now)) }
+{
+    let mut notes = Vec::new(alloc);
+    for place in 0..faults.len() {
+        notes.push(fault_note(alloc, &faults[place])?)?;
     }
-    Ok(PolicyVerdict::Held(broken))
+    Ok(notes)
+}
+
+// Returns the diagnostic of a fault.
+fn fault_note(alloc: Global, fault: &PolicyFault<'_>) -> Result<PolicyDiagnostic, AllocError>
+    ensures { IfOk result (λ note. note_place note ≡ fault_place (fault_at fault.now)) }
+{
+    let flaw = &fault.flaw;
+    let text = format!(in alloc; "{flaw}")?;
+    Ok(PolicyDiagnostic {
+        line: fault.line,
+        column: fault.column,
+        text,
+    })
+}
+
+// Returns the diagnostics of all breaches of lines by a start list, line by line.
+fn broken_lines(
+    alloc: Global,
+    list: &StartList,
+    lines: &[PolicyLine],
+) -> Result<Vec<PolicyDiagnostic>, AllocError>
+    ensures { IfOk result (λ broken.
+        AreBrokenAt list.now (map line_at lines.now) (map note_place broken.items)) }
+{
+    let mut broken = Vec::new(alloc);
+    for place in 0..lines.len() {
+        add_broken(alloc, &mut broken, list, &lines[place])?;
+    }
+    Ok(broken)
+}
+
+// Adds the diagnostics of all breaches of a line.
+fn add_broken(
+    alloc: Global,
+    broken: &mut Vec<PolicyDiagnostic>,
+    list: &StartList,
+    line: &PolicyLine,
+) -> Result<(), AllocError>
+    ensures { OnOk result ((found : List Breach) × AreBreaches list.now (line_at line.now) found
+        × (map note_place broken.new.items
+        ≡ map note_place broken.old.items ++ map (breach_place (line_at line.now)) found)) }
+{
+    let breaches = line.breaches(alloc, list)?;
+    add_notes(alloc, broken, list, line, breaches.as_slice())
+}
+
+// Adds the diagnostics of these breaches of a line.
+fn add_notes(
+    alloc: Global,
+    broken: &mut Vec<PolicyDiagnostic>,
+    list: &StartList,
+    line: &PolicyLine,
+    breaches: &[Breach],
+) -> Result<(), AllocError>
+    ensures { OnOk result (map note_place broken.new.items
+        ≡ map note_place broken.old.items ++ map (breach_place (line_at line.now)) breaches.now) }
+{
+    for place in 0..breaches.len() {
+        broken.push(broken_by(alloc, list, line, &breaches[place])?)?;
+    }
+    Ok(())
 }
 
 // Returns the diagnostic of a breach of a line.
@@ -132,11 +200,14 @@ fn broken_by(
     list: &StartList,
     line: &PolicyLine,
     breach: &Breach,
-) -> Result<PolicyDiagnostic, AllocError> {
-    let told = BreachText::of(alloc, list, line, breach)?;
+) -> Result<PolicyDiagnostic, AllocError>
+    ensures { IfOk result (λ note. note_place note ≡ breach_place (line_at line.now) breach.now) }
+{
+    let message = BreachText::of(alloc, list, line, breach)?;
+    let text = format!(in alloc; "{message}")?;
     Ok(PolicyDiagnostic {
         line: line.number,
         column: line.column,
-        text: format!(in alloc; "{told}")?,
+        text,
     })
 }

@@ -1,2 +1,3 @@
 pub mod BreachLemmas
 pub mod ReadingLemmas
+pub mod VerdictLemmas

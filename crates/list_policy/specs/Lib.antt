@@ -6,3 +6,4 @@ pub mod Reading
 pub mod Demand
 pub mod Status
 pub mod Claims
+pub mod Verdict
