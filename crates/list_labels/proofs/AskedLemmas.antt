@@ -14,7 +14,8 @@ use Rattle.own_model.specs.SessionArgs.{is_quotable}
 use Rattle.own_model.specs.Routes.{as_asked, label_with}
 use Rattle.own_model.specs.Listed.{Listed, ListedEntry, ListedRule, asks_for, end_of, init_entry, most_lists, route_within, rules_for, way_by, way_to}
 use Rattle.list_labels.specs.GivenLabels.{IsGiven, leads_to}
-use Rattle.list_labels.specs.Asked.{AskedLabel, agrees, agrees_within, asked_by, asked_of, asked_of_rule, asked_within, asks_nothing, behind, fits, is_given, is_known, is_open, is_tail, is_whole, known, known_within, rule_agrees, same_as, text_of}
+use Rattle.list_labels.specs.Asked.{agrees, agrees_within, asked_by, asked_of, asked_of_rule, asked_within, asks_nothing, behind, is_given, is_known, is_open, is_tail, is_whole, known, known_within, rule_agrees, same_as, text_of}
+use Rattle.list_labels.specs.LabelRanges.{AskedLabel, IsInRange, fits}
 use Rattle.list_labels.proofs.KeyLemmas.{begins_from, ends_from, same_tests}
 
 -- ---- tests
@@ -163,7 +164,7 @@ end_within end (Some asked) holds = holds
 
 -- ---- labels that can be given
 
-given_is : (label : List ℕ) → IsGiven label → is_given label ≡ true
+pub given_is : (label : List ℕ) → IsGiven label → is_given label ≡ true
 given_is label given =
     let short : length label ≤ 64 = given.short in
     and_from _ _ (grind (arith, nat_tests)) given.plain
@@ -174,7 +175,7 @@ is_given_then label is =
     let short : nat_le (length label) 64 ≡ true = both.0 in
     record { short = grind (arith, nat_tests); plain = both.1 }
 
-given_parts : (front rest : List ℕ) → IsGiven (front ++ rest) → (is_given front ≡ true) × (is_given rest ≡ true)
+pub given_parts : (front rest : List ℕ) → IsGiven (front ++ rest) → (is_given front ≡ true) × (is_given rest ≡ true)
 given_parts front rest given =
     let long : length (front ++ rest) ≤ 64 = given.short in
     let both = and_parts (list_all is_quotable front) (list_all is_quotable rest) (sym (list_all-append is_quotable front rest) ∙ given.plain) in (
@@ -473,13 +474,15 @@ within_both label front end [] fronts ends = tt
 within_both label front end (one ∷ asked) fronts ends =
     ((λ is. (fronts.0 is, ends.0 is)), within_both label front end asked fronts.1 ends.1)
 
--- what a label that no rule knows by itself has: of two rules' texts that go together it begins with the one and ends with the other,
--- and every rule matches it exactly where it is open to these
-pub record IsBetween (list : Listed) (client : ℕ) (service label : List ℕ) (asked : List AskedLabel) (first last : AskedLabel) : Type 0 where
+-- what a label of a range that no rule knows by itself has: of two texts that go together, of rules or of the range, it begins with the
+-- one and ends with the other, these are as the range asks, and every rule matches the label exactly where it is open to these
+pub record IsBetween (range : AskedLabel) (list : Listed) (client : ℕ) (service label : List ℕ) (asked : List AskedLabel) (first last : AskedLabel) : Type 0 where
   pub first_at : IsAt first asked
   pub last_at : IsAt last asked
   pub fronts : starts_with nat_eq first.front last.front ≡ true
   pub ends : ends_with nat_eq last.end first.end ≡ true
+  pub opens : starts_with nat_eq first.front range.front ≡ true
+  pub stops : ends_with nat_eq last.end range.end ≡ true
   pub begins : starts_with nat_eq label first.front ≡ true
   pub closes : ends_with nat_eq label last.end ≡ true
   pub agreeing : agrees list client service first.front label last.end ≡ true
@@ -488,20 +491,18 @@ fits_parts : (label : List ℕ) (one : AskedLabel) → fits label one ≡ true
     → (starts_with nat_eq label one.front ≡ true) × (ends_with nat_eq label one.end ≡ true)
 fits_parts label one fit = and_parts (starts_with nat_eq label one.front) (ends_with nat_eq label one.end) fit
 
-fits_nothing : (label : List ℕ) → fits label (record { front = []; end = [] }) ≡ true
-fits_nothing label = and_from _ _ (begins_from label [] label refl) (ends_from label label [] (sym (append-nil label)))
-
-between_of : (list : Listed) (client : ℕ) (service label : List ℕ) (others : List AskedLabel)
-    → HasLongest label (λ a. length a.front) (record { front = []; end = [] } ∷ others)
-    → HasLongest label (λ a. length a.end) (record { front = []; end = [] } ∷ others)
+between_of : (range : AskedLabel) (list : Listed) (client : ℕ) (service label : List ℕ) (others : List AskedLabel) → fits label range ≡ true
+    → HasLongest label (λ a. length a.front) (range ∷ others)
+    → HasLongest label (λ a. length a.end) (range ∷ others)
     → ((front end rest head : List ℕ) → label ≡ front ++ rest → label ≡ head ++ end → Within label (length front) (length end) others
     → agrees list client service front label end ≡ true)
-    → (first : AskedLabel) × (last : AskedLabel) × IsBetween list client service label (record { front = []; end = [] } ∷ others) first last
-between_of list client service label others front end each =
+    → (first : AskedLabel) × (last : AskedLabel) × IsBetween range list client service label (range ∷ others) first last
+between_of range list client service label others inside front end each =
     let begins = fits_parts label front.0 front.1 in
     let ends = fits_parts label end.0 end.1 in
-    let front_short = upto_at label (λ a. length a.front) (length front.0.front) end.0 (record { front = []; end = [] } ∷ others) end.2.0 front.3 end.2.1 (end.2.2 end.0) end.1 in
-    let end_short = upto_at label (λ a. length a.end) (length end.0.end) front.0 (record { front = []; end = [] } ∷ others) front.2.0 end.3 front.2.1 (front.2.2 front.0) front.1 in (
+    let both = fits_parts label range inside in
+    let front_short = upto_at label (λ a. length a.front) (length front.0.front) end.0 (range ∷ others) end.2.0 front.3 end.2.1 (end.2.2 end.0) end.1 in
+    let end_short = upto_at label (λ a. length a.end) (length end.0.end) front.0 (range ∷ others) front.2.0 end.3 front.2.1 (front.2.2 front.0) front.1 in (
       front.0,
       end.0,
       record {
@@ -509,6 +510,8 @@ between_of list client service label others front end each =
         last_at = end.2;
         fronts = fronts_order label front.0.front end.0.front begins.0 ends.0 front_short;
         ends = ends_order label end.0.end front.0.end ends.1 begins.1 end_short;
+        opens = fronts_order label front.0.front range.front begins.0 both.0 (front.3.0 inside);
+        stops = ends_order label end.0.end range.end ends.1 both.1 (end.3.0 inside);
         begins = begins.0;
         closes = ends.1;
         agreeing = each front.0.front end.0.end (drop (length front.0.front) label) (take (length label - length end.0.end) label)
@@ -517,27 +520,27 @@ between_of list client service label others front end each =
       },
     )
 
-between_all : (list : Listed) (client : ℕ) (service label : List ℕ) (others : List AskedLabel)
+between_all : (range : AskedLabel) (list : Listed) (client : ℕ) (service label : List ℕ) (others : List AskedLabel) → fits label range ≡ true
     → ((front end rest head : List ℕ) → label ≡ front ++ rest → label ≡ head ++ end → Within label (length front) (length end) others
     → agrees list client service front label end ≡ true)
-    → (first : AskedLabel) × (last : AskedLabel) × IsBetween list client service label (record { front = []; end = [] } ∷ others) first last
-between_all list client service label others each =
-    let all : List AskedLabel = record { front = []; end = [] } ∷ others in
-    between_of list client service label others
-    (the_longest label (λ a. length a.front) (record { front = []; end = [] }) others (fits_nothing label) (longest label (λ a. length a.front) all))
-    (the_longest label (λ a. length a.end) (record { front = []; end = [] }) others (fits_nothing label) (longest label (λ a. length a.end) all))
+    → (first : AskedLabel) × (last : AskedLabel) × IsBetween range list client service label (range ∷ others) first last
+between_all range list client service label others inside each =
+    between_of range list client service label others inside
+    (the_longest label (λ a. length a.front) range others inside (longest label (λ a. length a.front) (range ∷ others)))
+    (the_longest label (λ a. length a.end) range others inside (longest label (λ a. length a.end) (range ∷ others)))
     each
 
-pub between : (list : Listed) (client : ℕ) (service label : List ℕ) (asked : List AskedLabel) → asked ≡ asked_of list client service
-    → IsGiven label → known list client label ≡ false
-    → (first : AskedLabel) × (last : AskedLabel) × IsBetween list client service label asked first last
+pub between : (range : AskedLabel) (list : Listed) (client : ℕ) (service label : List ℕ) (asked : List AskedLabel) → asked ≡ asked_of range list client service
+    → IsInRange range label → known list client label ≡ false
+    → (first : AskedLabel) × (last : AskedLabel) × IsBetween range list client service label asked first last
 unfolding asked_of known agrees
-between list client service label asked is given lost =
-    subst (λ a. (first : AskedLabel) × (last : AskedLabel) × IsBetween list client service label a first last) (sym is)
-    (between_all list client service label
+between range list client service label asked is given lost =
+    subst (λ a. (first : AskedLabel) × (last : AskedLabel) × IsBetween range list client service label a first last) (sym is)
+    (between_all range list client service label
     (unwrap_or (option_map (λ entry. asked_within most_lists list entry service []) (slice_get list.entries client)) [])
+    given.inside
     (λ front end rest head begins ends within.
-    entry_agreeing list service label front end rest head (slice_get list.entries client) given lost begins ends within))
+    entry_agreeing list service label front end rest head (slice_get list.entries client) given.given lost begins ends within))
 
 -- ---- as the code goes from list to list
 
@@ -646,3 +649,21 @@ known_lost list client label found is =
 pub read_is : (text label : List ℕ) (b : Bool) → Some label ≡ (if b then Some text else None) → (label ≡ text) × (b ≡ true)
 read_is text label true is = (cc, refl)
 read_is text label false is = cc
+
+pub read_none : (text : List ℕ) (b : Bool) → None ≡ (if b then Some text else None) → b ≡ false
+read_none text true read = cc
+read_none text false read = refl
+
+-- a text that is read as a label
+pub read_given : (text label : List ℕ) → Some label ≡ (if is_given text then Some text else None) → IsGiven label
+read_given text label read =
+    let is = read_is text label (is_given text) read in
+    subst IsGiven (sym is.0) (is_given_then text is.1)
+
+pub read_within : (text label : List ℕ) → Some label ≡ (if is_given text then Some text else None) → length label ≤ 64
+read_within text label read = let given = read_given text label read in given.short
+
+pub read_begins : (text start label : List ℕ) → Some label ≡ (if is_given text then Some text else None) → text ≡ start
+    → starts_with nat_eq label start ≡ true
+read_begins text start label read is =
+    begins_from label start [] ((read_is text label (is_given text) read).0 ∙ (is ∙ sym (append-nil start)))

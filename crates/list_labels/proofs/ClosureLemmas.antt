@@ -1,22 +1,24 @@
 -- What is kept of each label, one byte after another.
-use Rattle.std.proofs.Common.{◌≡◌, ◌≢◌, ℕ, ◌<◌, ◌≤◌, zero, suc, ◌+◌, true, ◌&&◌, List, [], ◌∷◌, ◌++◌, length, get_or, refl, sym, subst, ap, ◌∙◌, arith, ◌⊎◌, inl, inr}
+use Rattle.std.proofs.Common.{◌≡◌, ◌≢◌, ℕ, ◌<◌, ◌≤◌, zero, suc, ◌+◌, Bool, true, false, ◌&&◌, List, [], ◌∷◌, ◌++◌, length, drop, get_or, nat_eq, refl, sym, subst, ap, ◌∙◌, arith, ◌⊎◌, inl, inr}
 use Rattle.std.specs.Prelude.{All, Any}
-use Rattle.std.specs.List.{list_all, list_any}
+use Rattle.std.specs.List.{list_all, list_any, starts_with}
 use Rattle.std.proofs.lemmas.Slice.Eq.{bytes_eq-Decides}
-use Rattle.std.proofs.lemmas.List.{append_assoc, length-append, get_or_default}
+use Rattle.std.proofs.lemmas.List.{append_assoc, append-nil, drop_all, length-append, get_or_default}
 use Rattle.std.proofs.lemmas.Bool.Decides.{nat_tests}
 use Rattle.std.proofs.lemmas.List.Elements.{All-contains, All-push}
 use Rattle.std.proofs.lemmas.List.Folds.{Any-from_list_any, list_all-append}
 use Rattle.std.proofs.lemmas.List.Quantifiers.{Any-push}
 use Rattle.std.proofs.Math.ListN.{get_or-append}
-use Rattle.std.proofs.lemmas.Bool.{and_from, and_parts}
+use Rattle.std.proofs.lemmas.Bool.{and_from, and_parts, both_ways}
 use Rattle.own_model.specs.Listed.{Listed}
 use Rattle.own_model.specs.SessionArgs.{is_quotable}
 use Rattle.list_labels.specs.GivenLabels.{IsGiven, leads_to}
 use Rattle.list_labels.specs.DecidingRules.{decision_of}
 use Rattle.list_labels.specs.Keys.{key_of}
 use Rattle.list_labels.specs.Closure.{AreKept, HasKey, IsGrown, IsKept, IsLengthened, IsLengthenedAt, Keeps, KeptLabel, Represents, has_key}
-use Rattle.list_labels.proofs.KeyLemmas.{key_alike, trail_alike}
+use Rattle.list_labels.specs.Asked.{is_given}
+use Rattle.list_labels.proofs.AskedLemmas.{begins_by, fronts_order, given_is}
+use Rattle.list_labels.proofs.KeyLemmas.{begins_from, key_alike, trail_alike}
 
 -- ---- more of them
 
@@ -40,10 +42,10 @@ grown_push kept one =
 
 -- ---- one label
 
-pub keeps_known : (list : Listed) (client : ℕ) (service label key : List ℕ) (kept : List KeptLabel)
-    → All (IsKept list client service (length label)) kept → key ≡ key_of list client service label
-    → list_any (has_key key) kept ≡ true → Keeps list client service label kept kept
-keeps_known list client service label key kept sound keyed known =
+pub keeps_known : (start : List ℕ) (list : Listed) (client : ℕ) (service label key : List ℕ) (kept : List KeptLabel)
+    → All (IsKept start list client service (length label)) kept → key ≡ key_of list client service label
+    → list_any (has_key key) kept ≡ true → Keeps start list client service label kept kept
+keeps_known start list client service label key kept sound keyed known =
     let any = Any-from_list_any (has_key key) kept known in
     record {
       grown = grown_same kept;
@@ -51,17 +53,18 @@ keeps_known list client service label key kept sound keyed known =
       there = (any.0, any.1, any.2, any.3, sym ((bytes_eq-Decides key any.1.key).0 any.4) ∙ keyed);
     }
 
-pub keeps_new : (list : Listed) (client : ℕ) (service label : List ℕ) (one : KeptLabel) (kept : List KeptLabel)
-    → All (IsKept list client service (length label)) kept → IsGiven label
+pub keeps_new : (start : List ℕ) (list : Listed) (client : ℕ) (service label : List ℕ) (one : KeptLabel) (kept : List KeptLabel)
+    → All (IsKept start list client service (length label)) kept → IsGiven label → starts_with nat_eq label start ≡ true
     → one.label ≡ label → one.key ≡ key_of list client service label → one.child ≡ leads_to list client service label
-    → Keeps list client service label kept (kept ++ one ∷ [])
-keeps_new list client service label one kept sound given is keyed leads =
+    → Keeps start list client service label kept (kept ++ one ∷ [])
+keeps_new start list client service label one kept sound given begins is keyed leads =
     let short : length one.label ≤ length label = omega (arith, ap length is) in
     record {
       grown = grown_push kept one;
-      sound = All-push (IsKept list client service (length label)) kept one sound
+      sound = All-push (IsKept start list client service (length label)) kept one sound
           (record {
             given = rw is given;
+            begins = rw is begins;
             short = short;
             keyed = rw is keyed;
             leads = rw is leads;
@@ -98,11 +101,11 @@ split_last b (c ∷ bs) = let rest = split_last c bs in (b ∷ rest.0, rest.1, a
 -- ---- labels of one more byte
 
 -- one of the same key stands for a label, where none is longer than that
-stands : (list : Listed) (client : ℕ) (service label : List ℕ) (most : ℕ) (kept : List KeptLabel)
-    → All (IsKept list client service most) kept → most ≤ length label → Any (HasKey list client service label) kept
+stands : (start : List ℕ) (list : Listed) (client : ℕ) (service label : List ℕ) (most : ℕ) (kept : List KeptLabel)
+    → All (IsKept start list client service most) kept → most ≤ length label → Any (HasKey list client service label) kept
     → Any (Represents list client service label) kept
-stands list client service label most kept sound long any =
-    let one = All-contains (IsKept list client service most) kept any.1 sound (any.0, any.2, any.3) in
+stands start list client service label most kept sound long any =
+    let one = All-contains (IsKept start list client service most) kept any.1 sound (any.0, any.2, any.3) in
     let short : length any.1.label ≤ most = one.short in (
       any.0,
       any.1,
@@ -139,21 +142,40 @@ any_on : (list : Listed) (client : ℕ) (service front label : List ℕ) (byte :
 any_on list client service front label byte one kept first is any =
     (any.0, any.1, any.2, any.3, stands_on list client service front label byte one any.1 first is any.4)
 
+-- a label that begins with a text does with a byte after it, too
+pub begun_more : (start label : List ℕ) (byte : ℕ) → starts_with nat_eq label start ≡ true → starts_with nat_eq (label ++ byte ∷ []) start ≡ true
+begun_more start label byte begins =
+    begins_from (label ++ byte ∷ []) start (drop (length start) label ++ byte ∷ [])
+    (ap (λ l. l ++ byte ∷ []) (begins_by label start begins) ∙ append_assoc start (drop (length start) label) (byte ∷ []))
+
+-- so does a label without its last byte that is long enough
+begun_less : (start label front : List ℕ) (byte : ℕ) → label ≡ front ++ byte ∷ [] → starts_with nat_eq label start ≡ true
+    → length start ≤ length front → starts_with nat_eq front start ≡ true
+begun_less start label front byte is begins long =
+    fronts_order label front start (begins_from label front (byte ∷ []) is) begins long
+
+-- a label of no more bytes than that with which it begins is just that
+just_begun : (start label : List ℕ) → starts_with nat_eq label start ≡ true → length label ≤ length start → label ≡ start
+just_begun start label begins short =
+    begins_by label start begins
+    ∙ (ap (λ d. start ++ d) (drop_all (length start) label short) ∙ append-nil start)
+
 -- one of the labels that stood for shorter ones, with a byte behind it
-lengthened : (list : Listed) (client : ℕ) (service : List ℕ) (most byte : ℕ) (old new : List KeptLabel) (k : ℕ) (one : KeptLabel)
-    → AreKept list client service most old → IsGrown old new → All (IsKept list client service (most + 1)) new
+lengthened : (start : List ℕ) (list : Listed) (client : ℕ) (service : List ℕ) (most byte : ℕ) (old new : List KeptLabel) (k : ℕ) (one : KeptLabel)
+    → AreKept start list client service most old → IsGrown old new → All (IsKept start list client service (most + 1)) new
     → IsLengthenedAt list client service most old k new → k < length old → get_or old k one ≡ one → is_quotable byte ≡ true → most < 64
     → (length one.label < most) ⊎ (length one.label ≡ most)
     → Any (Represents list client service (one.label ++ byte ∷ [])) new
-lengthened list client service most byte old new k one kept grown sound longer within is plain short (inl less) =
-    let kept_one = All-contains (IsKept list client service most) old one kept.sound (k, within, is) in
+lengthened start list client service most byte old new k one kept grown sound longer within is plain short (inl less) =
+    let kept_one = All-contains (IsKept start list client service most) old one kept.sound (k, within, is) in
     any_grown (Represents list client service (one.label ++ byte ∷ [])) old new grown
     (kept.covers (one.label ++ byte ∷ []) (given_more one.label byte kept_one.given (omega arith) plain)
+    (begun_more start one.label byte kept_one.begins)
     (omega (arith, length-append one.label (byte ∷ []))))
-lengthened list client service most byte old new k one kept grown sound longer within is plain short (inr same) =
+lengthened start list client service most byte old new k one kept grown sound longer within is plain short (inr same) =
     let range = quotable_within byte plain in
     let made = longer one (ap (λ (o : KeptLabel). length o.label) is ∙ same) byte range.0 range.1 plain in
-    stands list client service (one.label ++ byte ∷ []) (most + 1) new sound (omega (arith, length-append one.label (byte ∷ [])))
+    stands start list client service (one.label ++ byte ∷ []) (most + 1) new sound (omega (arith, length-append one.label (byte ∷ [])))
     (subst (λ (o : KeptLabel). Any (HasKey list client service (o.label ++ byte ∷ [])) new) is made)
 
 pub below_or_at : (n most : ℕ) → n ≤ most → (n < most) ⊎ (n ≡ most)
@@ -162,81 +184,95 @@ below_or_at zero (suc most) within = inl (omega arith)
 below_or_at (suc n) zero within = absurd (omega arith)
 below_or_at (suc n) (suc most) within = elim (below_or_at n most (omega arith)) [ inl less ↦ inl (omega arith) | inr same ↦ inr (ap suc same) ]
 
-covers_at : (list : Listed) (client : ℕ) (service : List ℕ) (most : ℕ) (old new : List KeptLabel) (label front : List ℕ) (byte : ℕ)
-    → AreKept list client service most old → IsGrown old new → All (IsKept list client service (most + 1)) new
+covers_at : (start : List ℕ) (list : Listed) (client : ℕ) (service : List ℕ) (most : ℕ) (old new : List KeptLabel) (label front : List ℕ) (byte : ℕ)
+    → AreKept start list client service most old → IsGrown old new → All (IsKept start list client service (most + 1)) new
     → ((k : ℕ) → k < length old → IsLengthenedAt list client service most old k new) → most < 64
-    → IsGiven label → label ≡ front ++ byte ∷ [] → length label ≡ most + 1
+    → IsGiven label → starts_with nat_eq label start ≡ true → label ≡ front ++ byte ∷ [] → length label ≡ most + 1
     → Any (Represents list client service label) new
-covers_at list client service most old new label front byte kept grown sound longer short given is long =
+covers_at start list client service most old new label front byte kept grown sound longer short given begins is long =
     let less = given_less front byte (subst IsGiven is given) in
     let ends : length label ≡ length front + 1 = ap length is ∙ length-append front (byte ∷ []) in
-    let any = kept.covers front less.0 (omega arith) in
-    let one = All-contains (IsKept list client service most) old any.1 kept.sound (any.0, any.2, any.3) in
+    let least : length start ≤ most = kept.long in
+    let any = kept.covers front less.0 (begun_less start label front byte is begins (omega arith)) (omega arith) in
+    let one = All-contains (IsKept start list client service most) old any.1 kept.sound (any.0, any.2, any.3) in
     any_on list client service front label byte any.1 new any.4 is
-    (lengthened list client service most byte old new any.0 any.1 kept grown sound (longer any.0 any.2) any.2 any.3 less.1 short
+    (lengthened start list client service most byte old new any.0 any.1 kept grown sound (longer any.0 any.2) any.2 any.3 less.1 short
     (below_or_at (length any.1.label) most one.short))
 
-covers_case : (list : Listed) (client : ℕ) (service : List ℕ) (most : ℕ) (old new : List KeptLabel)
-    → AreKept list client service most old → IsGrown old new → All (IsKept list client service (most + 1)) new
+covers_case : (start : List ℕ) (list : Listed) (client : ℕ) (service : List ℕ) (most : ℕ) (old new : List KeptLabel)
+    → AreKept start list client service most old → IsGrown old new → All (IsKept start list client service (most + 1)) new
     → ((k : ℕ) → k < length old → IsLengthenedAt list client service most old k new) → most < 64
-    → (label : List ℕ) → IsGiven label → (length label < most + 1) ⊎ (length label ≡ most + 1) → Any (Represents list client service label) new
-covers_case list client service most old new kept grown sound longer short label given (inl less) =
-    any_grown (Represents list client service label) old new grown (kept.covers label given (omega arith))
-covers_case list client service most old new kept grown sound longer short [] given (inr long) = absurd (omega arith)
-covers_case list client service most old new kept grown sound longer short (b ∷ bs) given (inr long) =
+    → (label : List ℕ) → IsGiven label → starts_with nat_eq label start ≡ true → (length label < most + 1) ⊎ (length label ≡ most + 1) → Any (Represents list client service label) new
+covers_case start list client service most old new kept grown sound longer short label given begins (inl less) =
+    any_grown (Represents list client service label) old new grown (kept.covers label given begins (omega arith))
+covers_case start list client service most old new kept grown sound longer short [] given begins (inr long) = absurd (omega arith)
+covers_case start list client service most old new kept grown sound longer short (b ∷ bs) given begins (inr long) =
     let last = split_last b bs in
-    covers_at list client service most old new (b ∷ bs) last.0 last.1 kept grown sound longer short given last.2 long
+    covers_at start list client service most old new (b ∷ bs) last.0 last.1 kept grown sound longer short given begins last.2 long
 
-pub longer_kept : (list : Listed) (client : ℕ) (service : List ℕ) (most : ℕ) (old new : List KeptLabel)
-    → AreKept list client service most old → IsGrown old new → All (IsKept list client service (most + 1)) new
+pub longer_kept : (start : List ℕ) (list : Listed) (client : ℕ) (service : List ℕ) (most : ℕ) (old new : List KeptLabel)
+    → AreKept start list client service most old → IsGrown old new → All (IsKept start list client service (most + 1)) new
     → ((k : ℕ) → k < length old → IsLengthenedAt list client service most old k new) → most < 64
-    → AreKept list client service (most + 1) new
-longer_kept list client service most old new kept grown sound longer short =
+    → AreKept start list client service (most + 1) new
+longer_kept start list client service most old new kept grown sound longer short =
+    let least : length start ≤ most = kept.long in
     record {
+      long = omega arith;
       sound = sound;
-      covers = λ label given within.
-          covers_case list client service most old new kept grown sound longer short label given (below_or_at (length label) (most + 1) within);
+      covers = λ label given begins within.
+          covers_case start list client service most old new kept grown sound longer short label given begins (below_or_at (length label) (most + 1) within);
     }
 
-covers_empty : (list : Listed) (client : ℕ) (service label : List ℕ) (kept : List KeptLabel)
-    → All (IsKept list client service 0) kept → Any (HasKey list client service []) kept → length label ≤ 0
+covers_start : (start : List ℕ) (list : Listed) (client : ℕ) (service label : List ℕ) (kept : List KeptLabel)
+    → All (IsKept start list client service (length start)) kept → Any (HasKey list client service start) kept → label ≡ start
     → Any (Represents list client service label) kept
-covers_empty list client service [] kept sound there within = stands list client service [] 0 kept sound (omega arith) there
-covers_empty list client service (b ∷ label) kept sound there within = absurd (omega arith)
+covers_start start list client service label kept sound there is =
+    subst (λ l. Any (Represents list client service l) kept) (sym is)
+    (stands start list client service start (length start) kept sound (omega arith) there)
 
-pub first_kept : (list : Listed) (client : ℕ) (service : List ℕ) (kept : List KeptLabel)
-    → Keeps list client service [] [] kept → AreKept list client service 0 kept
-first_kept list client service kept keeps =
+pub first_kept : (start : List ℕ) (list : Listed) (client : ℕ) (service : List ℕ) (kept : List KeptLabel)
+    → Keeps start list client service start [] kept → AreKept start list client service (length start) kept
+first_kept start list client service kept keeps =
     record {
+      long = omega arith;
       sound = keeps.sound;
-      covers = λ label given within. covers_empty list client service label kept keeps.sound keeps.there within;
+      covers = λ label given begins within.
+          covers_start start list client service label kept keeps.sound keeps.there (just_begun start label begins within);
     }
 
 -- ---- what calls need, and what they do one after another
 
-pub given_empty : (label : List ℕ) → label ≡ [] → IsGiven label
-given_empty [] is = record { short = omega arith; plain = refl }
-given_empty (b ∷ label) is = cc
+-- a front that no label has
+pub none_begun : (start : List ℕ) (list : Listed) (client : ℕ) (service text : List ℕ) (kept : List KeptLabel) → text ≡ start
+    → is_given text ≡ false → kept ≡ [] → AreKept start list client service (length start) kept
+none_begun start list client service text kept is lost none =
+    record {
+      long = omega arith;
+      sound = λ k d within. absurd (omega (arith, ap length none));
+      covers = λ label given begins within.
+          let there : is_given text ≡ true = ap is_given (is ∙ sym (just_begun start label begins within)) ∙ given_is label given in
+          absurd (both_ways (is_given text) lost there);
+    }
 
-pub kept_none : (list : Listed) (client : ℕ) (service : List ℕ) (most : ℕ) (kept : List KeptLabel) → kept ≡ []
-    → All (IsKept list client service most) kept
-kept_none list client service most kept is = λ k d within. absurd (omega (arith, ap length is))
+pub kept_none : (start : List ℕ) (list : Listed) (client : ℕ) (service : List ℕ) (most : ℕ) (kept : List KeptLabel) → kept ≡ []
+    → All (IsKept start list client service most) kept
+kept_none start list client service most kept is = λ k d within. absurd (omega (arith, ap length is))
 
-pub first_of : (list : Listed) (client : ℕ) (service label : List ℕ) (old kept : List KeptLabel) → label ≡ [] → old ≡ []
-    → Keeps list client service label old kept → AreKept list client service 0 kept
-first_of list client service label old kept empty none keeps =
-    first_kept list client service kept
-    (subst (λ o. Keeps list client service [] o kept) none (subst (λ l. Keeps list client service l old kept) empty keeps))
+pub first_of : (start : List ℕ) (list : Listed) (client : ℕ) (service label : List ℕ) (old kept : List KeptLabel) → label ≡ start → old ≡ []
+    → Keeps start list client service label old kept → AreKept start list client service (length start) kept
+first_of start list client service label old kept same none keeps =
+    first_kept start list client service kept
+    (subst (λ o. Keeps start list client service start o kept) none (subst (λ l. Keeps start list client service l old kept) same keeps))
 
-wider : (list : Listed) (client : ℕ) (service : List ℕ) (most more : ℕ) (one : KeptLabel) → most ≤ more → IsKept list client service most one
-    → IsKept list client service more one
-wider list client service most more one less kept =
+wider : (start : List ℕ) (list : Listed) (client : ℕ) (service : List ℕ) (most more : ℕ) (one : KeptLabel) → most ≤ more → IsKept start list client service most one
+    → IsKept start list client service more one
+wider start list client service most more one less kept =
     let short : length one.label ≤ most = kept.short in
-    record { given = kept.given; short = omega arith; keyed = kept.keyed; leads = kept.leads }
+    record { given = kept.given; begins = kept.begins; short = omega arith; keyed = kept.keyed; leads = kept.leads }
 
-pub all_wider : (list : Listed) (client : ℕ) (service : List ℕ) (most more : ℕ) (kept : List KeptLabel) → most ≤ more
-    → All (IsKept list client service most) kept → All (IsKept list client service more) kept
-all_wider list client service most more kept less sound = λ k d within. wider list client service most more (get_or kept k d) less (sound k d within)
+pub all_wider : (start : List ℕ) (list : Listed) (client : ℕ) (service : List ℕ) (most more : ℕ) (kept : List KeptLabel) → most ≤ more
+    → All (IsKept start list client service most) kept → All (IsKept start list client service more) kept
+all_wider start list client service most more kept less sound = λ k d within. wider start list client service most more (get_or kept k d) less (sound k d within)
 
 pub lengthened_grown : (list : Listed) (client : ℕ) (service label : List ℕ) (from until : ℕ) (old new : List KeptLabel)
     → IsLengthened list client service label from until old → IsGrown old new → IsLengthened list client service label from until new
@@ -333,15 +369,22 @@ pub passed_at : (list : Listed) (client : ℕ) (service label : List ℕ) (most 
 passed_at list client service label most place old new one within is same other =
     λ d long. absurd (other (ap length same ∙ (ap (λ (o : KeptLabel). length o.label) (sym (get_or_default old place d one within ∙ is)) ∙ long)))
 
-pub given_at : (list : Listed) (client : ℕ) (service label : List ℕ) (most place : ℕ) (kept : List KeptLabel) (one : KeptLabel)
-    → All (IsKept list client service most) kept → place < length kept → get_or kept place one ≡ one → label ≡ one.label → IsGiven label
-given_at list client service label most place kept one sound within is same =
-    let found = All-contains (IsKept list client service most) kept one sound (place, within, is) in
+pub given_at : (start : List ℕ) (list : Listed) (client : ℕ) (service label : List ℕ) (most place : ℕ) (kept : List KeptLabel) (one : KeptLabel)
+    → All (IsKept start list client service most) kept → place < length kept → get_or kept place one ≡ one → label ≡ one.label → IsGiven label
+given_at start list client service label most place kept one sound within is same =
+    let found = All-contains (IsKept start list client service most) kept one sound (place, within, is) in
     subst IsGiven (sym same) found.given
 
-pub keyed_at : (list : Listed) (client : ℕ) (service label key : List ℕ) (most place : ℕ) (kept : List KeptLabel) (one : KeptLabel)
-    → All (IsKept list client service most) kept → place < length kept → get_or kept place one ≡ one → label ≡ one.label → key ≡ one.key
+pub begun_at : (start : List ℕ) (list : Listed) (client : ℕ) (service label : List ℕ) (most place : ℕ) (kept : List KeptLabel) (one : KeptLabel)
+    → All (IsKept start list client service most) kept → place < length kept → get_or kept place one ≡ one → label ≡ one.label
+    → starts_with nat_eq label start ≡ true
+begun_at start list client service label most place kept one sound within is same =
+    let found = All-contains (IsKept start list client service most) kept one sound (place, within, is) in
+    ap (λ l. starts_with nat_eq l start) same ∙ found.begins
+
+pub keyed_at : (start : List ℕ) (list : Listed) (client : ℕ) (service label key : List ℕ) (most place : ℕ) (kept : List KeptLabel) (one : KeptLabel)
+    → All (IsKept start list client service most) kept → place < length kept → get_or kept place one ≡ one → label ≡ one.label → key ≡ one.key
     → key ≡ key_of list client service label
-keyed_at list client service label key most place kept one sound within is same keyed =
-    let found = All-contains (IsKept list client service most) kept one sound (place, within, is) in
+keyed_at start list client service label key most place kept one sound within is same keyed =
+    let found = All-contains (IsKept start list client service most) kept one sound (place, within, is) in
     keyed ∙ (found.keyed ∙ ap (λ t. key_of list client service t) (sym same))

@@ -9,7 +9,8 @@ use Rattle.std.proofs.lemmas.List.Folds.{Any-from_list_any}
 use Rattle.std.proofs.lemmas.List.Quantifiers.{Any-push}
 use Rattle.std.proofs.lemmas.Slice.Eq.{bytes_eq-Decides}
 use Rattle.std.proofs.lemmas.Bool.{and_parts, and_from}
-use Rattle.list_labels.specs.Asked.{AskedLabel, is_first_for, is_last_for, joins}
+use Rattle.list_labels.specs.Asked.{is_first_for, is_last_for, joins}
+use Rattle.list_labels.specs.LabelRanges.{AskedLabel}
 use Rattle.list_labels.proofs.AskedLemmas.{begins_by, ends_by}
 use Rattle.list_labels.proofs.ClosureLemmas.{below_or_at}
 use Rattle.list_labels.proofs.KeyLemmas.{begins_from, ends_from}
@@ -69,10 +70,11 @@ end_then a b c first second =
     (ends_by a b first ∙ (ap (λ x. front ++ x) (ends_by b c second) ∙ sym (append_assoc front more c)))
 
 -- those that serve for two that go together do so, too
-pub serving_join : (first last one other : AskedLabel) → is_first_for first one ≡ true → is_last_for last other ≡ true
+pub serving_join : (range first last one other : AskedLabel) → is_first_for first one ≡ true → is_last_for last other ≡ true
     → starts_with nat_eq first.front last.front ≡ true → ends_with nat_eq last.end first.end ≡ true
-    → (one.front ≡ first.front) × (other.end ≡ last.end) × (joins one other ≡ true)
-serving_join first last one other is_first is_last fronts ends =
+    → starts_with nat_eq first.front range.front ≡ true → ends_with nat_eq last.end range.end ≡ true
+    → (one.front ≡ first.front) × (other.end ≡ last.end) × (joins range one other ≡ true)
+serving_join range first last one other is_first is_last fronts ends opens stops =
     let f = and_parts (bytes_eq one.front first.front) (ends_with nat_eq first.end one.end) is_first in
     let l = and_parts (bytes_eq other.end last.end) (starts_with nat_eq last.front other.front) is_last in
     let front : one.front ≡ first.front = (bytes_eq-Decides one.front first.front).0 f.0 in
@@ -80,5 +82,7 @@ serving_join first last one other is_first is_last fronts ends =
       front,
       end,
       and_from _ _ (subst (λ t. starts_with nat_eq t other.front ≡ true) (sym front) (front_then first.front last.front other.front fronts l.1))
-          (subst (λ t. ends_with nat_eq t one.end ≡ true) (sym end) (end_then last.end first.end one.end ends f.1)),
+          (and_from _ _ (subst (λ t. ends_with nat_eq t one.end ≡ true) (sym end) (end_then last.end first.end one.end ends f.1))
+          (and_from _ _ (subst (λ t. starts_with nat_eq t range.front ≡ true) (sym front) opens)
+          (subst (λ t. ends_with nat_eq t range.end ≡ true) (sym end) stops))),
     )

@@ -6,7 +6,8 @@ use Rattle.std.specs.Str.{bytes_eq}
 use Rattle.own_model.specs.SessionArgs.{is_quotable}
 use Rattle.own_model.specs.Routes.{as_asked}
 use Rattle.own_model.specs.Listed.{Listed, ListedEntry, ListedRule, asks_for, init_entry, most_lists, rules_for}
-use Rattle.list_labels.specs.GivenLabels.{IsGiven, leads_to}
+use Rattle.list_labels.specs.GivenLabels.{leads_to}
+use Rattle.list_labels.specs.LabelRanges.{AskedLabel, IsInRange}
 use Rattle.list_labels.specs.Closure.{IsGrown, KeptLabel}
 use Rattle.list_labels.specs.DecidingRules.{same_child, decision_of}
 use Rattle.list_labels.specs.Representatives.{GoesAlike}
@@ -18,15 +19,6 @@ behind name text = name ++ codes " -> " ++ text
 -- a text is a label that can be given
 abbrev pub is_given : List ℕ → Bool
 is_given text = nat_le (length text) 64 && list_all is_quotable text
-
--- how a label has to begin and to end
-pub record AskedLabel : Type 0 where
-  pub front : List ℕ
-  pub end : List ℕ
-
--- a label begins and ends so
-abbrev pub fits : List ℕ → AskedLabel → Bool
-fits label asked = starts_with nat_eq label asked.front && ends_with nat_eq label asked.end
 
 -- the text that is asked, or the empty one
 abbrev pub text_of : Option (List ℕ) → List ℕ
@@ -59,10 +51,10 @@ asked_within (suc lists) list entry service before =
     asked_by service (length before) (rules_for list entry)
     ++ unwrap_or (option_map (λ init. asked_within lists list init service (behind entry.name before)) (init_entry list entry.home)) []
 
--- the same after an empty condition
-unfoldable pub asked_of : Listed → ℕ → List ℕ → List AskedLabel
-asked_of list client service =
-    record { front = []; end = [] }
+-- the same after the condition of a range
+unfoldable pub asked_of : AskedLabel → Listed → ℕ → List ℕ → List AskedLabel
+asked_of range list client service =
+    range
     ∷ unwrap_or (option_map (λ entry. asked_within most_lists list entry service []) (slice_get list.entries client)) []
 
 -- ---- which rules match
@@ -124,47 +116,54 @@ known list client label =
 abbrev pub IsHeld : Listed → ℕ → List ℕ → List KeptLabel → List ℕ → Type 0
 IsHeld list client service kept label = Any (GoesAlike list client service label) kept
 
--- a kept label is given, and its target and its rules are kept with it
-pub record IsFollowed (list : Listed) (client : ℕ) (service : List ℕ) (kept : KeptLabel) : Type 0 where
-  pub given : IsGiven kept.label
+-- a kept label is of a range, and its target and its rules are kept with it
+pub record IsFollowed (range : AskedLabel) (list : Listed) (client : ℕ) (service : List ℕ) (kept : KeptLabel) : Type 0 where
+  pub asked : IsInRange range kept.label
   pub leads : kept.child ≡ leads_to list client service kept.label
   pub decided : kept.key ≡ decision_of list client service kept.label
 
 -- the kept labels have their targets and rules, after those that were kept
-pub record Adds (list : Listed) (client : ℕ) (service : List ℕ) (old new : List KeptLabel) : Type 0 where
-  pub told : All (IsFollowed list client service) new
+pub record Adds (range : AskedLabel) (list : Listed) (client : ℕ) (service : List ℕ) (old new : List KeptLabel) : Type 0 where
+  pub told : All (IsFollowed range list client service) new
   pub grown : IsGrown old new
 
 -- each end of a text whose rest is an end of the names before the label, with a front before it
-abbrev pub AreJoined : Listed → ℕ → List ℕ → List ℕ → List ℕ → List ℕ → List KeptLabel → Type 0
-AreJoined list client service before front end kept =
-    (cut rest : List ℕ) → end ≡ cut ++ rest → ends_with nat_eq before cut ≡ true → IsGiven (front ++ rest)
+abbrev pub AreJoined : AskedLabel → Listed → ℕ → List ℕ → List ℕ → List ℕ → List ℕ → List KeptLabel → Type 0
+AreJoined range list client service before front end kept =
+    (cut rest : List ℕ) → end ≡ cut ++ rest → ends_with nat_eq before cut ≡ true → IsInRange range (front ++ rest)
     → IsHeld list client service kept (front ++ rest)
 
--- a label that represents all those between two texts, with something between them
-pub record IsFilled (list : Listed) (client : ℕ) (service front end label : List ℕ) : Type 0 where
-  pub given : IsGiven label
+-- a label of a range that represents all those between two texts, with something between them
+pub record IsFilled (range : AskedLabel) (list : Listed) (client : ℕ) (service front end label : List ℕ) : Type 0 where
+  pub asked : IsInRange range label
   pub some : 0 < length label
   pub short : length label ≤ length front + 1 + length end
   pub agrees : agrees list client service front label end ≡ true
 
--- two conditions go together: one label can match both
-abbrev pub joins : AskedLabel → AskedLabel → Bool
-joins first last = starts_with nat_eq first.front last.front && ends_with nat_eq last.end first.end
+-- two conditions go together: one label can match both, and each label that begins as the first and ends as the last is of a range
+abbrev pub joins : AskedLabel → AskedLabel → AskedLabel → Bool
+joins range first last =
+    starts_with nat_eq first.front last.front
+    && (ends_with nat_eq last.end first.end && (starts_with nat_eq first.front range.front && ends_with nat_eq last.end range.end))
 
 -- labels that begin as one asks and end as another does: joined, and with something between
-pub record AreOffered (list : Listed) (client : ℕ) (service front end : List ℕ) (kept : List KeptLabel) : Type 0 where
-  pub joined : AreJoined list client service front front end kept
-  pub filled : length front + length end < 64 → (label : List ℕ) × IsFilled list client service front end label × IsHeld list client service kept label
+pub record AreOffered (range : AskedLabel) (list : Listed) (client : ℕ) (service front end : List ℕ) (kept : List KeptLabel) : Type 0 where
+  pub joined : AreJoined range list client service front front end kept
+  pub filled : length front + length end < 64 → (label : List ℕ) × IsFilled range list client service front end label × IsHeld list client service kept label
 
-abbrev pub IsOffered : Listed → ℕ → List ℕ → List KeptLabel → AskedLabel → AskedLabel → Type 0
-IsOffered list client service kept first last =
-    joins first last ≡ true → AreOffered list client service first.front last.end kept
+abbrev pub IsOffered : AskedLabel → Listed → ℕ → List ℕ → List KeptLabel → AskedLabel → AskedLabel → Type 0
+IsOffered range list client service kept first last =
+    joins range first last ≡ true → AreOffered range list client service first.front last.end kept
 
 -- the same for the end after so many bytes
-abbrev pub IsCut : Listed → ℕ → List ℕ → List ℕ → List ℕ → List ℕ → ℕ → List KeptLabel → Type 0
-IsCut list client service before front end cut kept =
-    ends_with nat_eq before (take cut end) ≡ true → IsGiven (front ++ drop cut end) → IsHeld list client service kept (front ++ drop cut end)
+abbrev pub IsCut : AskedLabel → Listed → ℕ → List ℕ → List ℕ → List ℕ → List ℕ → ℕ → List KeptLabel → Type 0
+IsCut range list client service before front end cut kept =
+    ends_with nat_eq before (take cut end) ≡ true → IsInRange range (front ++ drop cut end) → IsHeld list client service kept (front ++ drop cut end)
+
+-- a label with the end of a range after it is kept, if it is of the range
+abbrev pub IsEnded : AskedLabel → Listed → ℕ → List ℕ → List KeptLabel → KeptLabel → Type 0
+IsEnded range list client service kept stem =
+    IsInRange range (stem.label ++ range.end) → IsHeld list client service kept (stem.label ++ range.end)
 
 -- ---- labels that are kept already
 

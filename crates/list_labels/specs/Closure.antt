@@ -1,5 +1,6 @@
--- Labels that represent all others: for each kind of label, by its key, one that is no longer.
-use Rattle.std.specs.Prelude.{◌≡◌, ℕ, ◌<◌, ◌≤◌, Bool, true, List, [], ◌∷◌, ◌++◌, length, slice_index_or, Option, All, Any}
+-- Labels that represent all others with a front: for each kind of label, by its key, one that is no longer.
+use Rattle.std.specs.Prelude.{◌≡◌, ℕ, ◌<◌, ◌≤◌, Bool, true, List, [], ◌∷◌, ◌++◌, length, nat_eq, slice_index_or, Option, All, Any}
+use Rattle.std.specs.List.{starts_with}
 use Rattle.std.specs.Str.{bytes_eq}
 use Rattle.own_model.specs.Listed.{Listed}
 use Rattle.own_model.specs.SessionArgs.{is_quotable}
@@ -13,9 +14,10 @@ pub record KeptLabel : Type 0 where
   pub key : List ℕ
   pub child : Option ℕ
 
--- a label is given and has at most so many bytes, and its key and its target are kept with it
-pub record IsKept (list : Listed) (client : ℕ) (service : List ℕ) (most : ℕ) (kept : KeptLabel) : Type 0 where
+-- a label is given, begins with a front and has at most so many bytes, and its key and its target are kept with it
+pub record IsKept (front : List ℕ) (list : Listed) (client : ℕ) (service : List ℕ) (most : ℕ) (kept : KeptLabel) : Type 0 where
   pub given : IsGiven kept.label
+  pub begins : starts_with nat_eq kept.label front ≡ true
   pub short : length kept.label ≤ most
   pub keyed : kept.key ≡ key_of list client service kept.label
   pub leads : kept.child ≡ leads_to list client service kept.label
@@ -26,10 +28,12 @@ pub record Represents (list : Listed) (client : ℕ) (service label : List ℕ) 
   pub alike : (rest : List ℕ) → leads_to list client service (kept.label ++ rest) ≡ leads_to list client service (label ++ rest)
   pub decided : (rest : List ℕ) → decision_of list client service (kept.label ++ rest) ≡ decision_of list client service (label ++ rest)
 
--- the kept labels represent all given ones of at most so many bytes
-pub record AreKept (list : Listed) (client : ℕ) (service : List ℕ) (most : ℕ) (kept : List KeptLabel) : Type 0 where
-  pub sound : All (IsKept list client service most) kept
-  pub covers : (label : List ℕ) → IsGiven label → length label ≤ most → Any (Represents list client service label) kept
+-- the kept labels represent all given ones of at most so many bytes that begin with a front, and begin with the front
+pub record AreKept (front : List ℕ) (list : Listed) (client : ℕ) (service : List ℕ) (most : ℕ) (kept : List KeptLabel) : Type 0 where
+  pub long : length front ≤ most
+  pub sound : All (IsKept front list client service most) kept
+  pub covers : (label : List ℕ) → IsGiven label → starts_with nat_eq label front ≡ true → length label ≤ most
+      → Any (Represents list client service label) kept
 
 -- some are kept after those that were kept
 pub record IsGrown (old new : List KeptLabel) : Type 0 where
@@ -50,9 +54,9 @@ IsLengthened list client service label from until kept =
     (byte : ℕ) → from ≤ byte → byte < until → is_quotable byte ≡ true → Any (HasKey list client service (label ++ byte ∷ [])) kept
 
 -- what is kept of a label, and of those before
-pub record Keeps (list : Listed) (client : ℕ) (service label : List ℕ) (old new : List KeptLabel) : Type 0 where
+pub record Keeps (front : List ℕ) (list : Listed) (client : ℕ) (service label : List ℕ) (old new : List KeptLabel) : Type 0 where
   pub grown : IsGrown old new
-  pub sound : All (IsKept list client service (length label)) new
+  pub sound : All (IsKept front list client service (length label)) new
   pub there : Any (HasKey list client service label) new
 
 -- each label that is one byte longer than the label at a place, if that label has so many bytes

@@ -1,4 +1,5 @@
 pub mod GivenLabels
+pub mod LabelRanges
 pub mod RouteSteps
 pub mod DecidingRules
 pub mod Keys

@@ -1,8 +1,9 @@
--- Labels that represent all labels that a client can give.
+-- Labels that represent all labels that a client can give, or all of these in a range.
 use Rattle.std.specs.Prelude.{◌≡◌, ℕ, ◌≤◌, List, length, All, Any}
 use Rattle.own_model.specs.Listed.{Listed}
 use Rattle.list_labels.specs.DecidingRules.{decision_of}
 use Rattle.list_labels.specs.GivenLabels.{IsGiven, leads_to}
+use Rattle.list_labels.specs.LabelRanges.{AskedLabel, IsInRange}
 use Rattle.list_labels.specs.Closure.{KeptLabel}
 
 -- a kept label is given, and is routed to the entry that is kept with it
@@ -20,3 +21,13 @@ pub record GoesAlike (list : Listed) (client : ℕ) (service label : List ℕ) (
 pub record RepresentAll (list : Listed) (client : ℕ) (service : List ℕ) (kept : List KeptLabel) : Type 0 where
   pub told : All (IsTold list client service) kept
   pub covers : (label : List ℕ) → IsGiven label → Any (GoesAlike list client service label) kept
+
+-- a kept label is of a range, and is routed to the entry that is kept with it
+pub record IsToldIn (range : AskedLabel) (list : Listed) (client : ℕ) (service : List ℕ) (kept : KeptLabel) : Type 0 where
+  pub asked : IsInRange range kept.label
+  pub leads : kept.child ≡ leads_to list client service kept.label
+
+-- the kept labels represent all given ones of a range, and are of the range
+pub record RepresentRange (range : AskedLabel) (list : Listed) (client : ℕ) (service : List ℕ) (kept : List KeptLabel) : Type 0 where
+  pub told : All (IsToldIn range list client service) kept
+  pub covers : (label : List ℕ) → IsInRange range label → Any (GoesAlike list client service label) kept

@@ -1,5 +1,6 @@
-//! Representatives of all labels: for each key the first label that is found, from the shortest on.
-ghost use Rattle.std.specs.Prelude.{◌≡◌, ◌≤◌, ◌<◌, ◌+◌, ◌++◌, ◌∷◌, [], true, length, All, Any, IfOk, OnOk};
+//! Representatives of all labels with a front: for each key the first label that is found, from the shortest on.
+ghost use Rattle.std.specs.Prelude.{◌≡◌, ◌≤◌, ◌<◌, ◌+◌, ◌++◌, ◌∷◌, [], true, length, nat_eq, All, Any, IfOk, OnOk};
+ghost use Rattle.std.specs.List.{starts_with};
 ghost use Rattle.own_model.specs.SessionArgs.{is_quotable};
 ghost use Rattle.list_labels.specs.GivenLabels.{IsGiven};
 ghost use Rattle.list_labels.specs.Keys.{key_of};
@@ -8,39 +9,43 @@ ghost use Rattle.list_labels.specs.Closure.{AreKept, HasKey, IsGrown, IsKept, Is
 use crate::key::key_of;
 use crate::keyed_labels::{KeyedLabel, KeyedLabels};
 use crate::label::{ClientLabel, LONGEST_GIVEN};
+use crate::label_search::LabelSearch;
 use crate::longer::longer_key;
-use crate::session_requests::SessionRequests;
 use list_routes::route;
 use std::alloc::{AllocError, Global};
 use text_codec::is_quotable;
 
-/// Returns labels that represent all labels that a client can give, one for each key. Fails if the host is out of memory.
-pub(crate) fn labels(
-    alloc: Global,
-    wishes: SessionRequests<'_>,
-) -> Result<Vec<KeyedLabel>, AllocError>
-    requires client { wishes.client < length wishes.list.now.entries }
-    ensures { IfOk result (λ kept.
-        AreKept wishes.entry.list.now wishes.entry.client wishes.entry.service.now 64 kept.items) }
+/// Returns labels that represent all labels that a client can give and that begin with the front of a range, one for each key.
+/// Fails if the host is out of memory.
+pub(crate) fn labels(alloc: Global, search: LabelSearch<'_>) -> Result<Vec<KeyedLabel>, AllocError>
+    requires client { search.requests.client < length search.requests.list.now.entries }
+    ensures { IfOk result (λ kept. AreKept search.entry.range.now.front
+        search.entry.requests.list.now search.entry.requests.client
+        search.entry.requests.service.now 64 kept.items) }
 {
-    let mut kept = first(alloc, wishes)?;
-    for size in 0..LONGEST_GIVEN {
-        lengthen(alloc, &mut kept, wishes, size)?;
+    let mut kept = first(alloc, search)?;
+    let range = search.range;
+    for size in range.front.as_bytes().len()..LONGEST_GIVEN {
+        lengthen(alloc, &mut kept, search, size)?;
     }
     Ok(kept.into_labels())
 }
 
-// The empty label alone.
-#[tactic(auto, using(crate::proofs::ClosureLemmas::given_empty, crate::proofs::ClosureLemmas::kept_none, crate::proofs::ClosureLemmas::first_of))]
-fn first(alloc: Global, wishes: SessionRequests<'_>) -> Result<KeyedLabels, AllocError>
-    requires client { wishes.client < length wishes.list.now.entries }
-    ensures { IfOk result (λ kept.
-        AreKept wishes.entry.list.now wishes.entry.client wishes.entry.service.now 0 kept) }
+// The front alone, if a client can give it.
+#[tactic(auto, using(crate::proofs::AskedLemmas::read_within, crate::proofs::AskedLemmas::read_given, crate::proofs::AskedLemmas::read_begins, crate::proofs::ClosureLemmas::kept_none))]
+fn first(alloc: Global, search: LabelSearch<'_>) -> Result<KeyedLabels, AllocError>
+    requires client { search.requests.client < length search.requests.list.now.entries }
+    ensures { IfOk result (λ kept. AreKept search.entry.range.now.front
+        search.entry.requests.list.now search.entry.requests.client
+        search.entry.requests.service.now (length search.entry.range.now.front) kept) }
 {
     let mut kept = KeyedLabels::new(alloc);
-    let label = ClientLabel::empty();
-    let key = key_of(alloc, wishes, &label)?;
-    keep(alloc, &mut kept, wishes, label, key)?;
+    let range = search.range;
+    let Some(label) = ClientLabel::read(range.front.as_bytes()) else {
+        return Ok(kept);
+    };
+    let key = key_of(alloc, search.requests, &label)?;
+    keep(alloc, &mut kept, search, label, key)?;
     Ok(kept)
 }
 
@@ -49,47 +54,49 @@ fn first(alloc: Global, wishes: SessionRequests<'_>) -> Result<KeyedLabels, Allo
 fn lengthen(
     alloc: Global,
     kept: &mut KeyedLabels,
-    wishes: SessionRequests<'_>,
+    search: LabelSearch<'_>,
     size: usize,
 ) -> Result<(), AllocError>
-    requires client { wishes.client < length wishes.list.now.entries }
+    requires client { search.requests.client < length search.requests.list.now.entries }
     requires short { size < 64 }
-    requires kept { AreKept wishes.list.now wishes.client wishes.service.now size kept.old }
-    ensures { OnOk result (AreKept wishes.entry.list.now wishes.entry.client
-        wishes.entry.service.now (size + 1) kept.new) }
+    requires kept { AreKept search.range.now.front search.requests.list.now search.requests.client
+        search.requests.service.now size kept.old }
+    ensures { OnOk result (AreKept search.entry.range.now.front search.entry.requests.list.now
+        search.entry.requests.client search.entry.requests.service.now (size + 1) kept.new) }
 {
     for place in 0..kept.len() {
-        lengthen_at(alloc, kept, wishes, size, place)?;
+        lengthen_at(alloc, kept, search, size, place)?;
     }
     Ok(())
 }
 
 // Keeps labels that represent the label at a place with a byte added, if that label has so many bytes.
-#[tactic(auto, using(crate::proofs::ClosureLemmas::given_at, crate::proofs::ClosureLemmas::keyed_at, crate::proofs::ClosureLemmas::done_at, crate::proofs::ClosureLemmas::passed_at, crate::proofs::ClosureLemmas::grown_same))]
+#[tactic(auto, using(crate::proofs::ClosureLemmas::given_at, crate::proofs::ClosureLemmas::begun_at, crate::proofs::ClosureLemmas::keyed_at, crate::proofs::ClosureLemmas::done_at, crate::proofs::ClosureLemmas::passed_at, crate::proofs::ClosureLemmas::grown_same))]
 fn lengthen_at(
     alloc: Global,
     kept: &mut KeyedLabels,
-    wishes: SessionRequests<'_>,
+    search: LabelSearch<'_>,
     size: usize,
     place: usize,
 ) -> Result<(), AllocError>
-    requires client { wishes.client < length wishes.list.now.entries }
+    requires client { search.requests.client < length search.requests.list.now.entries }
     requires short { size < 64 }
     requires within { place < length kept.old }
-    requires sound { All (IsKept wishes.list.now wishes.client wishes.service.now (size + 1))
-        kept.old }
-    ensures sound { OnOk result (All (IsKept wishes.entry.list.now wishes.entry.client
-        wishes.entry.service.now (size + 1)) kept.new) }
+    requires sound { All (IsKept search.range.now.front search.requests.list.now
+        search.requests.client search.requests.service.now (size + 1)) kept.old }
+    ensures sound { OnOk result (All (IsKept search.entry.range.now.front
+        search.entry.requests.list.now search.entry.requests.client
+        search.entry.requests.service.now (size + 1)) kept.new) }
     ensures grown { OnOk result (IsGrown kept.old kept.new) }
-    ensures longer { OnOk result (IsLengthenedAt wishes.entry.list.now wishes.entry.client
-        wishes.entry.service.now size kept.old place kept.new) }
+    ensures longer { OnOk result (IsLengthenedAt search.entry.requests.list.now search.entry.requests.client
+        search.entry.requests.service.now size kept.old place kept.new) }
 {
     let one = &kept.as_slice()[place];
     let label = one.label.copy();
     if label.as_bytes().len() == size {
         let key = Vec::from_slice(alloc, one.key.as_slice())?;
         let stem = LabelStem {
-            wishes,
+            search,
             label: &label,
             key: key.as_slice(),
         };
@@ -101,13 +108,14 @@ fn lengthen_at(
 // A label of a client's requests, with its key, to which bytes are added.
 #[derive(Clone, Copy)]
 struct LabelStem<'a> {
-    wishes: SessionRequests<'a>,
+    search: LabelSearch<'a>,
     label: &'a ClientLabel,
     key: &'a [usize],
-    ghost client: { wishes.client < length wishes.list.now.entries },
+    ghost client: { search.requests.client < length search.requests.list.now.entries },
     ghost given: { IsGiven label.now },
+    ghost begins: { starts_with nat_eq label.now search.range.now.front ≡ true },
     ghost short: { length label.now < 64 },
-    ghost keyed: { key.now ≡ key_of wishes.list.now wishes.client wishes.service.now label.now },
+    ghost keyed: { key.now ≡ key_of search.requests.list.now search.requests.client search.requests.service.now label.now },
 }
 
 // Keeps labels that represent a label with a byte added: a small letter first, and a space last.
@@ -117,13 +125,16 @@ fn lengthen_one(
     kept: &mut KeyedLabels,
     stem: LabelStem<'_>,
 ) -> Result<(), AllocError>
-    requires sound { All (IsKept stem.wishes.list.now stem.wishes.client stem.wishes.service.now
-        (length stem.label.now + 1)) kept.old }
-    ensures sound { OnOk result (All (IsKept stem.entry.wishes.list.now stem.entry.wishes.client
-        stem.entry.wishes.service.now (length stem.entry.label.now + 1)) kept.new) }
+    requires sound { All (IsKept stem.search.range.now.front stem.search.requests.list.now
+        stem.search.requests.client stem.search.requests.service.now (length stem.label.now + 1))
+        kept.old }
+    ensures sound { OnOk result (All (IsKept stem.entry.search.range.now.front
+        stem.entry.search.requests.list.now stem.entry.search.requests.client
+        stem.entry.search.requests.service.now (length stem.entry.label.now + 1)) kept.new) }
     ensures grown { OnOk result (IsGrown kept.old kept.new) }
-    ensures longer { OnOk result (IsLengthened stem.entry.wishes.list.now stem.entry.wishes.client
-        stem.entry.wishes.service.now stem.entry.label.now 32 127 kept.new) }
+    ensures longer { OnOk result (IsLengthened stem.entry.search.requests.list.now
+        stem.entry.search.requests.client stem.entry.search.requests.service.now
+        stem.entry.label.now 32 127 kept.new) }
 {
     keep_range(alloc, kept, stem, b'a', 127)?;
     keep_range(alloc, kept, stem, b'!', b'a')?;
@@ -139,13 +150,16 @@ fn keep_range(
     from: u8,
     until: u8,
 ) -> Result<(), AllocError>
-    requires sound { All (IsKept stem.wishes.list.now stem.wishes.client stem.wishes.service.now
-        (length stem.label.now + 1)) kept.old }
-    ensures sound { OnOk result (All (IsKept stem.entry.wishes.list.now stem.entry.wishes.client
-        stem.entry.wishes.service.now (length stem.entry.label.now + 1)) kept.new) }
+    requires sound { All (IsKept stem.search.range.now.front stem.search.requests.list.now
+        stem.search.requests.client stem.search.requests.service.now (length stem.label.now + 1))
+        kept.old }
+    ensures sound { OnOk result (All (IsKept stem.entry.search.range.now.front
+        stem.entry.search.requests.list.now stem.entry.search.requests.client
+        stem.entry.search.requests.service.now (length stem.entry.label.now + 1)) kept.new) }
     ensures grown { OnOk result (IsGrown kept.old kept.new) }
-    ensures longer { OnOk result (IsLengthened stem.entry.wishes.list.now stem.entry.wishes.client
-        stem.entry.wishes.service.now stem.entry.label.now from until kept.new) }
+    ensures longer { OnOk result (IsLengthened stem.entry.search.requests.list.now
+        stem.entry.search.requests.client stem.entry.search.requests.service.now
+        stem.entry.label.now from until kept.new) }
 {
     for byte in from..until {
         keep_with(alloc, kept, stem, byte)?;
@@ -160,19 +174,21 @@ fn keep_with(
     stem: LabelStem<'_>,
     byte: u8,
 ) -> Result<(), AllocError>
-    requires sound { All (IsKept stem.wishes.list.now stem.wishes.client stem.wishes.service.now
-        (length stem.label.now + 1)) kept.old }
-    ensures sound { OnOk result (All (IsKept stem.entry.wishes.list.now stem.entry.wishes.client
-        stem.entry.wishes.service.now (length stem.entry.label.now + 1)) kept.new) }
+    requires sound { All (IsKept stem.search.range.now.front stem.search.requests.list.now
+        stem.search.requests.client stem.search.requests.service.now (length stem.label.now + 1))
+        kept.old }
+    ensures sound { OnOk result (All (IsKept stem.entry.search.range.now.front
+        stem.entry.search.requests.list.now stem.entry.search.requests.client
+        stem.entry.search.requests.service.now (length stem.entry.label.now + 1)) kept.new) }
     ensures grown { OnOk result (IsGrown kept.old kept.new) }
-    ensures here { OnOk result (is_quotable byte ≡ true → Any (HasKey stem.entry.wishes.list.now
-        stem.entry.wishes.client stem.entry.wishes.service.now
+    ensures here { OnOk result (is_quotable byte ≡ true → Any (HasKey stem.entry.search.requests.list.now
+        stem.entry.search.requests.client stem.entry.search.requests.service.now
         (stem.entry.label.now ++ byte ∷ [])) kept.new) }
 {
     if is_quotable(byte) {
         let longer = stem.label.with(byte);
-        let key = longer_key(alloc, stem.wishes, stem.key, stem.label, &longer)?;
-        keep(alloc, kept, stem.wishes, longer, key)
+        let key = longer_key(alloc, stem.search.requests, stem.key, stem.label, &longer)?;
+        keep(alloc, kept, stem.search, longer, key)
     } else {
         Ok(())
     }
@@ -183,21 +199,28 @@ fn keep_with(
 fn keep(
     alloc: Global,
     kept: &mut KeyedLabels,
-    wishes: SessionRequests<'_>,
+    search: LabelSearch<'_>,
     label: ClientLabel,
     key: Vec<usize>,
 ) -> Result<(), AllocError>
-    requires client { wishes.client < length wishes.list.now.entries }
+    requires client { search.requests.client < length search.requests.list.now.entries }
     requires given { IsGiven label }
-    requires key { key.items ≡ key_of wishes.list.now wishes.client wishes.service.now label }
-    requires sound { All (IsKept wishes.list.now wishes.client wishes.service.now (length label))
-        kept.old }
-    ensures { OnOk result (Keeps wishes.entry.list.now wishes.entry.client wishes.entry.service.now
-        label kept.old kept.new) }
+    requires begins { starts_with nat_eq label search.range.now.front ≡ true }
+    requires key { key.items ≡ key_of search.requests.list.now search.requests.client
+        search.requests.service.now label }
+    requires sound { All (IsKept search.range.now.front search.requests.list.now
+        search.requests.client search.requests.service.now (length label)) kept.old }
+    ensures { OnOk result (Keeps search.entry.range.now.front search.entry.requests.list.now
+        search.entry.requests.client search.entry.requests.service.now label kept.old kept.new) }
 {
     if kept.has(key.as_slice()) {
         return Ok(());
     }
-    let child = route(wishes.list, wishes.client, wishes.service, label.as_bytes());
+    let child = route(
+        search.requests.list,
+        search.requests.client,
+        search.requests.service,
+        label.as_bytes(),
+    );
     kept.push(alloc, KeyedLabel { label, key, child })
 }

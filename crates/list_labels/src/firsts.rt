@@ -1,7 +1,8 @@
 //! The conditions that suffice: for each label, one of their fronts and one of their ends are the longest that the label has.
 ghost use Rattle.std.specs.Prelude.{◌≡◌, Bool, true, nat_eq, Any, IfOk, OnOk};
 ghost use Rattle.std.specs.List.{list_any};
-ghost use Rattle.list_labels.specs.Asked.{AskedLabel, Serve, is_first_for, is_last_for};
+ghost use Rattle.list_labels.specs.Asked.{Serve, is_first_for, is_last_for};
+ghost use Rattle.list_labels.specs.LabelRanges.{AskedLabel};
 
 use crate::label_condition::LabelCondition;
 use std::alloc::{AllocError, Global};

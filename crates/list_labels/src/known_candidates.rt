@@ -2,15 +2,15 @@
 ghost use Rattle.std.specs.Prelude.{◌≡◌, ◌+◌, ◌*◌, ◌≤◌, ◌<◌, true, List, ℕ, length, All, OnOk};
 ghost use Rattle.std.specs.List.{list_any};
 ghost use Rattle.std.specs.Option.{option_copied};
-ghost use Rattle.list_labels.specs.GivenLabels.{IsGiven};
+ghost use Rattle.list_labels.specs.LabelRanges.{IsInRange};
 ghost use Rattle.list_labels.specs.Asked.{Adds, IsFollowed, IsHeld, is_known, is_tail, is_whole, known, known_within};
 
 use crate::key::{MOST_LISTS, client_entry};
 use crate::keyed_labels::KeyedLabel;
 use crate::label::behind;
 use crate::label_condition::text_behind;
+use crate::label_search::LabelSearch;
 use crate::offers::{TextOverlap, offer, offer_joined};
-use crate::session_requests::SessionRequests;
 use list_parser::{ListEntry, Rule};
 use std::alloc::{AllocError, Global};
 
@@ -18,20 +18,21 @@ use std::alloc::{AllocError, Global};
 pub(crate) fn offer_known(
     alloc: Global,
     kept: &mut Vec<KeyedLabel>,
-    wishes: SessionRequests<'_>,
+    search: LabelSearch<'_>,
 ) -> Result<(), AllocError>
-    requires client { wishes.client < length wishes.list.now.entries }
-    requires told { All (IsFollowed wishes.list.now wishes.client wishes.service.now)
-        kept.old.items }
-    ensures adds { OnOk result (Adds wishes.entry.list.now wishes.entry.client
-        wishes.entry.service.now kept.old.items kept.new.items) }
-    ensures held { OnOk result ((label : List ℕ) → IsGiven label
-        → known wishes.entry.list.now wishes.entry.client label ≡ true
-        → IsHeld wishes.entry.list.now wishes.entry.client wishes.entry.service.now
-        kept.new.items label) }
+    requires client { search.requests.client < length search.requests.list.now.entries }
+    requires told { All (IsFollowed search.range.now search.requests.list.now search.requests.client
+        search.requests.service.now) kept.old.items }
+    ensures adds { OnOk result (Adds search.entry.range.now search.entry.requests.list.now
+        search.entry.requests.client search.entry.requests.service.now kept.old.items
+        kept.new.items) }
+    ensures held { OnOk result ((label : List ℕ) → IsInRange search.entry.range.now label → known
+        search.entry.requests.list.now search.entry.requests.client label ≡ true → IsHeld
+        search.entry.requests.list.now search.entry.requests.client
+        search.entry.requests.service.now kept.new.items label) }
 {
-    match client_entry(wishes) {
-        Some(entry) => offer_known_within(alloc, kept, wishes, MOST_LISTS, entry, &[]),
+    match client_entry(search.requests) {
+        Some(entry) => offer_known_within(alloc, kept, search, MOST_LISTS, entry, &[]),
         None => Ok(()),
     }
 }
@@ -40,30 +41,37 @@ pub(crate) fn offer_known(
 fn offer_known_within(
     alloc: Global,
     kept: &mut Vec<KeyedLabel>,
-    wishes: SessionRequests<'_>,
+    search: LabelSearch<'_>,
     lists: usize,
     entry: &ListEntry,
     before: &[u8],
 ) -> Result<(), AllocError>
-    requires client { wishes.client < length wishes.list.now.entries }
-    requires told { All (IsFollowed wishes.list.now wishes.client wishes.service.now)
-        kept.old.items }
+    requires client { search.requests.client < length search.requests.list.now.entries }
+    requires told { All (IsFollowed search.range.now search.requests.list.now search.requests.client
+        search.requests.service.now) kept.old.items }
     requires before { length before.now + lists * 36 ≤ 208 }
-    ensures adds { OnOk result (Adds wishes.entry.list.now wishes.entry.client
-        wishes.entry.service.now kept.old.items kept.new.items) }
-    ensures held { OnOk result ((label : List ℕ) → IsGiven label
-        → known_within lists wishes.entry.list.now entry.now before.now label ≡ true
-        → IsHeld wishes.entry.list.now wishes.entry.client wishes.entry.service.now
-        kept.new.items label) }
+    ensures adds { OnOk result (Adds search.entry.range.now search.entry.requests.list.now
+        search.entry.requests.client search.entry.requests.service.now kept.old.items
+        kept.new.items) }
+    ensures held { OnOk result ((label : List ℕ) → IsInRange search.entry.range.now label →
+        known_within lists search.entry.requests.list.now entry.now before.now label ≡ true → IsHeld
+        search.entry.requests.list.now search.entry.requests.client
+        search.entry.requests.service.now kept.new.items label) }
 {
     if lists == 0 {
         return Ok(());
     }
-    offer_known_by(alloc, kept, wishes, wishes.list.rules_of(entry), before)?;
-    match wishes.list.init_entry(entry.home()) {
+    offer_known_by(
+        alloc,
+        kept,
+        search,
+        search.requests.list.rules_of(entry),
+        before,
+    )?;
+    match search.requests.list.init_entry(entry.home()) {
         Some(init) => {
             let outer = behind(entry.name(), before);
-            offer_known_within(alloc, kept, wishes, lists - 1, init, outer.as_slice())
+            offer_known_within(alloc, kept, search, lists - 1, init, outer.as_slice())
         }
         None => Ok(()),
     }
@@ -73,22 +81,22 @@ fn offer_known_within(
 fn offer_known_by(
     alloc: Global,
     kept: &mut Vec<KeyedLabel>,
-    wishes: SessionRequests<'_>,
+    search: LabelSearch<'_>,
     rules: &[Rule],
     before: &[u8],
 ) -> Result<(), AllocError>
-    requires client { wishes.client < length wishes.list.now.entries }
-    requires told { All (IsFollowed wishes.list.now wishes.client wishes.service.now)
-        kept.old.items }
-    ensures adds { OnOk result (Adds wishes.entry.list.now wishes.entry.client
-        wishes.entry.service.now kept.old.items kept.new.items) }
-    ensures held { OnOk result ((label : List ℕ) → IsGiven label
-        → list_any (is_known before.now label) rules.now ≡ true
-        → IsHeld wishes.entry.list.now wishes.entry.client wishes.entry.service.now
-        kept.new.items label) }
+    requires client { search.requests.client < length search.requests.list.now.entries }
+    requires told { All (IsFollowed search.range.now search.requests.list.now search.requests.client
+        search.requests.service.now) kept.old.items }
+    ensures adds { OnOk result (Adds search.entry.range.now search.entry.requests.list.now
+        search.entry.requests.client search.entry.requests.service.now kept.old.items
+        kept.new.items) }
+    ensures held { OnOk result ((label : List ℕ) → IsInRange search.entry.range.now label → list_any
+        (is_known before.now label) rules.now ≡ true → IsHeld search.entry.requests.list.now
+        search.entry.requests.client search.entry.requests.service.now kept.new.items label) }
 {
     for place in 0..rules.len() {
-        offer_known_of(alloc, kept, wishes, &rules[place], before)?;
+        offer_known_of(alloc, kept, search, &rules[place], before)?;
     }
     Ok(())
 }
@@ -97,46 +105,46 @@ fn offer_known_by(
 fn offer_known_of(
     alloc: Global,
     kept: &mut Vec<KeyedLabel>,
-    wishes: SessionRequests<'_>,
+    search: LabelSearch<'_>,
     rule: &Rule,
     before: &[u8],
 ) -> Result<(), AllocError>
-    requires client { wishes.client < length wishes.list.now.entries }
-    requires told { All (IsFollowed wishes.list.now wishes.client wishes.service.now)
-        kept.old.items }
-    ensures adds { OnOk result (Adds wishes.entry.list.now wishes.entry.client
-        wishes.entry.service.now kept.old.items kept.new.items) }
-    ensures held { OnOk result ((label : List ℕ) → IsGiven label
-        → is_known before.now label rule.now ≡ true
-        → IsHeld wishes.entry.list.now wishes.entry.client wishes.entry.service.now
-        kept.new.items label) }
+    requires client { search.requests.client < length search.requests.list.now.entries }
+    requires told { All (IsFollowed search.range.now search.requests.list.now search.requests.client
+        search.requests.service.now) kept.old.items }
+    ensures adds { OnOk result (Adds search.entry.range.now search.entry.requests.list.now
+        search.entry.requests.client search.entry.requests.service.now kept.old.items
+        kept.new.items) }
+    ensures held { OnOk result ((label : List ℕ) → IsInRange search.entry.range.now label → is_known
+        before.now label rule.now ≡ true → IsHeld search.entry.requests.list.now
+        search.entry.requests.client search.entry.requests.service.now kept.new.items label) }
 {
-    offer_whole(alloc, kept, wishes, rule.label(), before)?;
-    offer_tails(alloc, kept, wishes, rule.label_suffix(), before)
+    offer_whole(alloc, kept, search, rule.label(), before)?;
+    offer_tails(alloc, kept, search, rule.label_suffix(), before)
 }
 
 // The same for a whole label that is asked.
 fn offer_whole(
     alloc: Global,
     kept: &mut Vec<KeyedLabel>,
-    wishes: SessionRequests<'_>,
+    search: LabelSearch<'_>,
     asked: Option<&str>,
     before: &[u8],
 ) -> Result<(), AllocError>
-    requires client { wishes.client < length wishes.list.now.entries }
-    requires told { All (IsFollowed wishes.list.now wishes.client wishes.service.now)
-        kept.old.items }
-    ensures adds { OnOk result (Adds wishes.entry.list.now wishes.entry.client
-        wishes.entry.service.now kept.old.items kept.new.items) }
-    ensures held { OnOk result ((label : List ℕ) → IsGiven label
-        → is_whole before.now label (option_copied asked.entry) ≡ true
-        → IsHeld wishes.entry.list.now wishes.entry.client wishes.entry.service.now
-        kept.new.items label) }
+    requires client { search.requests.client < length search.requests.list.now.entries }
+    requires told { All (IsFollowed search.range.now search.requests.list.now search.requests.client
+        search.requests.service.now) kept.old.items }
+    ensures adds { OnOk result (Adds search.entry.range.now search.entry.requests.list.now
+        search.entry.requests.client search.entry.requests.service.now kept.old.items
+        kept.new.items) }
+    ensures held { OnOk result ((label : List ℕ) → IsInRange search.entry.range.now label → is_whole
+        before.now label (option_copied asked.entry) ≡ true → IsHeld search.entry.requests.list.now
+        search.entry.requests.client search.entry.requests.service.now kept.new.items label) }
 {
     match asked {
         Some(asked) => {
             let rest = text_behind(asked.as_bytes(), before.len());
-            offer(alloc, kept, wishes, rest)
+            offer(alloc, kept, search, rest)
         }
         None => Ok(()),
     }
@@ -146,19 +154,19 @@ fn offer_whole(
 fn offer_tails(
     alloc: Global,
     kept: &mut Vec<KeyedLabel>,
-    wishes: SessionRequests<'_>,
+    search: LabelSearch<'_>,
     asked: Option<&str>,
     before: &[u8],
 ) -> Result<(), AllocError>
-    requires client { wishes.client < length wishes.list.now.entries }
-    requires told { All (IsFollowed wishes.list.now wishes.client wishes.service.now)
-        kept.old.items }
-    ensures adds { OnOk result (Adds wishes.entry.list.now wishes.entry.client
-        wishes.entry.service.now kept.old.items kept.new.items) }
-    ensures held { OnOk result ((label : List ℕ) → IsGiven label
-        → is_tail before.now label (option_copied asked.entry) ≡ true
-        → IsHeld wishes.entry.list.now wishes.entry.client wishes.entry.service.now
-        kept.new.items label) }
+    requires client { search.requests.client < length search.requests.list.now.entries }
+    requires told { All (IsFollowed search.range.now search.requests.list.now search.requests.client
+        search.requests.service.now) kept.old.items }
+    ensures adds { OnOk result (Adds search.entry.range.now search.entry.requests.list.now
+        search.entry.requests.client search.entry.requests.service.now kept.old.items
+        kept.new.items) }
+    ensures held { OnOk result ((label : List ℕ) → IsInRange search.entry.range.now label → is_tail
+        before.now label (option_copied asked.entry) ≡ true → IsHeld search.entry.requests.list.now
+        search.entry.requests.client search.entry.requests.service.now kept.new.items label) }
 {
     match asked {
         Some(asked) => {
@@ -167,7 +175,7 @@ fn offer_tails(
                 front: &[],
                 end: asked.as_bytes(),
             };
-            offer_joined(alloc, kept, wishes, overlap)
+            offer_joined(alloc, kept, search, overlap)
         }
         None => Ok(()),
     }

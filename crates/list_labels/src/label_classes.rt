@@ -177,7 +177,7 @@ fn add_texts(
     let Some(wishes) = wishes else {
         return Ok(());
     };
-    let asked = asked_of(alloc, wishes)?;
+    let asked = asked_of(alloc, wishes, &LabelCondition::none())?;
     for one in asked.as_slice() {
         add_both(fronts, ends, one)?;
     }

@@ -13,13 +13,13 @@ use std::marker::Model;
 
 /// A condition on a label: the text with which it has to begin, and the text with which it has to end.
 #[derive(Drop)]
-pub(crate) struct LabelCondition {
+pub struct LabelCondition {
     pub(crate) front: ClientLabel,
     pub(crate) end: ClientLabel,
 }
 
 impl Model for LabelCondition {
-    ghost use Rattle.list_labels.specs.Asked.{AskedLabel};
+    ghost use Rattle.list_labels.specs.LabelRanges.{AskedLabel};
 
     ghost Value = { AskedLabel };
 
@@ -30,6 +30,45 @@ impl Model for LabelCondition {
 }
 
 impl LabelCondition {
+    ghost use Rattle.list_labels.specs.LabelRanges.{fits};
+
+    /// Returns the condition that every label matches.
+    pub fn none() -> LabelCondition
+        ensures { result ≡ record { front = []; end = [] } }
+    {
+        LabelCondition {
+            front: ClientLabel::empty(),
+            end: ClientLabel::empty(),
+        }
+    }
+
+    /// Returns the condition that a label begins with a text.
+    pub fn beginning(front: &ClientLabel) -> LabelCondition
+        ensures { result ≡ record { front = front.now; end = [] } }
+    {
+        LabelCondition {
+            front: front.copy(),
+            end: ClientLabel::empty(),
+        }
+    }
+
+    /// Returns the condition that a label ends with a text.
+    pub fn ending(end: &ClientLabel) -> LabelCondition
+        ensures { result ≡ record { front = []; end = end.now } }
+    {
+        LabelCondition {
+            front: ClientLabel::empty(),
+            end: end.copy(),
+        }
+    }
+
+    /// Returns whether the bytes of a label match the condition.
+    pub fn matches(&self, label: &[u8]) -> bool
+        ensures { result ≡ fits label.now self.now }
+    {
+        label.starts_with(self.front.as_bytes()) && label.ends_with(self.end.as_bytes())
+    }
+
     /// Returns a copy of the condition, with the same texts.
     pub(crate) fn copy(&self) -> LabelCondition
         ensures { result ≡ self.now }
@@ -41,21 +80,19 @@ impl LabelCondition {
     }
 }
 
-/// Returns the conditions of the rules that match a label by how it begins and ends, after an empty condition. Fails if the host
-/// is out of memory.
+/// Returns the conditions of the rules that match a label by how it begins and ends, after the condition of the range. Fails if the
+/// host is out of memory.
 #[tactic(auto, unfolding(crate::specs::Asked::asked_of))]
 pub(crate) fn asked_of(
     alloc: Global,
     wishes: SessionRequests<'_>,
+    range: &LabelCondition,
 ) -> Result<Vec<LabelCondition>, AllocError>
     ensures { IfOk result (λ asked. asked.items
-        ≡ asked_of wishes.entry.list.now wishes.entry.client wishes.entry.service.now) }
+        ≡ asked_of range.now wishes.entry.list.now wishes.entry.client wishes.entry.service.now) }
 {
     let mut asked = Vec::new(alloc);
-    asked.push(LabelCondition {
-        front: ClientLabel::empty(),
-        end: ClientLabel::empty(),
-    })?;
+    asked.push(range.copy())?;
     if let Some(entry) = wishes.list.entries().get(wishes.client) {
         add_asked(
             &mut asked,

@@ -1,38 +1,48 @@
 //! Labels that are kept unless a kept label represents them.
 ghost use Rattle.std.specs.Prelude.{◌≡◌, ◌≤◌, ◌<◌, ◌++◌, length, All, IfNone, IfSome, OnOk};
 ghost use Rattle.std.specs.List.{list_any};
-ghost use Rattle.list_labels.specs.GivenLabels.{IsGiven};
+ghost use Rattle.list_labels.specs.LabelRanges.{IsInRange};
 ghost use Rattle.list_labels.specs.Asked.{Adds, AreJoined, IsCut, IsFollowed, IsHeld, goes_as_short};
 
 use crate::keyed_labels::KeyedLabel;
 use crate::label::{ClientLabel, LONGEST_GIVEN};
+use crate::label_search::LabelSearch;
 use crate::rules::{rules_for, same_child};
-use crate::session_requests::SessionRequests;
 use arrayvec::ArrayVec;
 use list_routes::route;
 use std::alloc::{AllocError, Global};
 
-/// Keeps a label that a client can give, unless a kept label that is no longer is routed there by the same rules. Fails if the
-/// host is out of memory.
+/// Keeps a label of the range that a client can give, unless a kept label that is no longer is routed there by the same rules.
+/// Fails if the host is out of memory.
 pub(crate) fn offer(
     alloc: Global,
     kept: &mut Vec<KeyedLabel>,
-    wishes: SessionRequests<'_>,
+    search: LabelSearch<'_>,
     text: &[u8],
 ) -> Result<(), AllocError>
-    requires client { wishes.client < length wishes.list.now.entries }
-    requires told { All (IsFollowed wishes.list.now wishes.client wishes.service.now)
-        kept.old.items }
-    ensures adds { OnOk result (Adds wishes.entry.list.now wishes.entry.client
-        wishes.entry.service.now kept.old.items kept.new.items) }
-    ensures held { OnOk result (IsGiven text.now → IsHeld wishes.entry.list.now wishes.entry.client
-        wishes.entry.service.now kept.new.items text.now) }
+    requires client { search.requests.client < length search.requests.list.now.entries }
+    requires told { All (IsFollowed search.range.now search.requests.list.now search.requests.client
+        search.requests.service.now) kept.old.items }
+    ensures adds { OnOk result (Adds search.entry.range.now search.entry.requests.list.now
+        search.entry.requests.client search.entry.requests.service.now kept.old.items
+        kept.new.items) }
+    ensures held { OnOk result (IsInRange search.entry.range.now text.now → IsHeld
+        search.entry.requests.list.now search.entry.requests.client
+        search.entry.requests.service.now kept.new.items text.now) }
 {
+    if !search.range.matches(text) {
+        return Ok(());
+    }
     let Some(label) = ClientLabel::read(text) else {
         return Ok(());
     };
-    let child = route(wishes.list, wishes.client, wishes.service, label.as_bytes());
-    let key = rules_for(alloc, wishes, &label)?;
+    let child = route(
+        search.requests.list,
+        search.requests.client,
+        search.requests.service,
+        label.as_bytes(),
+    );
+    let key = rules_for(alloc, search.requests, &label)?;
     if is_held(kept, child, key.as_slice(), label.as_bytes().len()) {
         return Ok(());
     }
@@ -72,70 +82,73 @@ pub(crate) struct TextOverlap<'a> {
 pub(crate) fn offer_joined(
     alloc: Global,
     kept: &mut Vec<KeyedLabel>,
-    wishes: SessionRequests<'_>,
+    search: LabelSearch<'_>,
     overlap: TextOverlap<'_>,
 ) -> Result<(), AllocError>
-    requires client { wishes.client < length wishes.list.now.entries }
-    requires told { All (IsFollowed wishes.list.now wishes.client wishes.service.now)
-        kept.old.items }
-    ensures adds { OnOk result (Adds wishes.entry.list.now wishes.entry.client
-        wishes.entry.service.now kept.old.items kept.new.items) }
-    ensures joined { OnOk result (AreJoined wishes.entry.list.now wishes.entry.client
-        wishes.entry.service.now overlap.entry.before.now overlap.entry.front.now
-        overlap.entry.end.now kept.new.items) }
+    requires client { search.requests.client < length search.requests.list.now.entries }
+    requires told { All (IsFollowed search.range.now search.requests.list.now search.requests.client
+        search.requests.service.now) kept.old.items }
+    ensures adds { OnOk result (Adds search.entry.range.now search.entry.requests.list.now
+        search.entry.requests.client search.entry.requests.service.now kept.old.items
+        kept.new.items) }
+    ensures joined { OnOk result (AreJoined search.entry.range.now search.entry.requests.list.now
+        search.entry.requests.client search.entry.requests.service.now overlap.entry.before.now
+        overlap.entry.front.now overlap.entry.end.now kept.new.items) }
 {
     let end = overlap.end;
     for cut in 0..end.len() {
-        offer_cut(alloc, kept, wishes, overlap, cut)?;
+        offer_cut(alloc, kept, search, overlap, cut)?;
     }
-    offer_cut(alloc, kept, wishes, overlap, end.len())
+    offer_cut(alloc, kept, search, overlap, end.len())
 }
 
 // The same for the end after so many bytes.
 fn offer_cut(
     alloc: Global,
     kept: &mut Vec<KeyedLabel>,
-    wishes: SessionRequests<'_>,
+    search: LabelSearch<'_>,
     overlap: TextOverlap<'_>,
     cut: usize,
 ) -> Result<(), AllocError>
-    requires client { wishes.client < length wishes.list.now.entries }
-    requires told { All (IsFollowed wishes.list.now wishes.client wishes.service.now)
-        kept.old.items }
+    requires client { search.requests.client < length search.requests.list.now.entries }
+    requires told { All (IsFollowed search.range.now search.requests.list.now search.requests.client
+        search.requests.service.now) kept.old.items }
     requires cut { cut ≤ length overlap.end.now }
-    ensures adds { OnOk result (Adds wishes.entry.list.now wishes.entry.client
-        wishes.entry.service.now kept.old.items kept.new.items) }
-    ensures held { OnOk result (IsCut wishes.entry.list.now wishes.entry.client
-        wishes.entry.service.now overlap.entry.before.now overlap.entry.front.now
-        overlap.entry.end.now cut kept.new.items) }
+    ensures adds { OnOk result (Adds search.entry.range.now search.entry.requests.list.now
+        search.entry.requests.client search.entry.requests.service.now kept.old.items
+        kept.new.items) }
+    ensures held { OnOk result (IsCut search.entry.range.now search.entry.requests.list.now
+        search.entry.requests.client search.entry.requests.service.now overlap.entry.before.now
+        overlap.entry.front.now overlap.entry.end.now cut kept.new.items) }
 {
     let end = overlap.end;
     if overlap.before.ends_with(&end[..cut]) {
-        offer_both(alloc, kept, wishes, overlap.front, &end[cut..])
+        offer_both(alloc, kept, search, overlap.front, &end[cut..])
     } else {
         Ok(())
     }
 }
 
-// Keeps a label of two parts, if it can be given.
-fn offer_both(
+/// Keeps a label of two parts, if it is of the range and a client can give it. Fails if the host is out of memory.
+pub(crate) fn offer_both(
     alloc: Global,
     kept: &mut Vec<KeyedLabel>,
-    wishes: SessionRequests<'_>,
+    search: LabelSearch<'_>,
     front: &[u8],
     rest: &[u8],
 ) -> Result<(), AllocError>
-    requires client { wishes.client < length wishes.list.now.entries }
-    requires told { All (IsFollowed wishes.list.now wishes.client wishes.service.now)
-        kept.old.items }
-    ensures adds { OnOk result (Adds wishes.entry.list.now wishes.entry.client
-        wishes.entry.service.now kept.old.items kept.new.items) }
-    ensures held { OnOk result (IsGiven (front.now ++ rest.now)
-        → IsHeld wishes.entry.list.now wishes.entry.client wishes.entry.service.now
-        kept.new.items (front.now ++ rest.now)) }
+    requires client { search.requests.client < length search.requests.list.now.entries }
+    requires told { All (IsFollowed search.range.now search.requests.list.now search.requests.client
+        search.requests.service.now) kept.old.items }
+    ensures adds { OnOk result (Adds search.entry.range.now search.entry.requests.list.now
+        search.entry.requests.client search.entry.requests.service.now kept.old.items
+        kept.new.items) }
+    ensures held { OnOk result (IsInRange search.entry.range.now (front.now ++ rest.now) → IsHeld
+        search.entry.requests.list.now search.entry.requests.client
+        search.entry.requests.service.now kept.new.items (front.now ++ rest.now)) }
 {
     match joined(front, rest) {
-        Some(text) => offer(alloc, kept, wishes, text.as_slice()),
+        Some(text) => offer(alloc, kept, search, text.as_slice()),
         None => Ok(()),
     }
 }

@@ -5,7 +5,7 @@ use Rattle.std.specs.List.{starts_with}
 use Rattle.std.proofs.lemmas.List.{length-append}
 use Rattle.list_labels.specs.Closure.{HasKey, IsKept}
 use Rattle.list_labels.specs.GivenLabels.{IsGiven}
-use Rattle.list_labels.proofs.ClosureLemmas.{given_more}
+use Rattle.list_labels.proofs.ClosureLemmas.{begun_more, given_more}
 use Rattle.list_labels.proofs.KeyLemmas.{ok_map}
 use Rattle.list_labels.proofs.LongerLemmas.{begins_more}
 use Rattle.list_labels.proofs.closure.keep_with.Goals as goal
@@ -23,14 +23,14 @@ pub keep-requires-clause-sound : goal.keep-requires-clause-sound
 keep-requires-clause-sound c =
     let long : length c.with-longer.result ≡ length c.args.stem.label.now + 1
     = omega (arith, ap length c.with-longer.ensures, length-append c.args.stem.label.now (c.args.byte ∷ [])) in
-    subst (λ n. All (IsKept c.args.stem.wishes.list.now c.args.stem.wishes.client c.args.stem.wishes.service.now n) c.args.kept.now) (sym long) c.requires.sound
+    subst (λ n. All (IsKept c.args.stem.search.range.now.front c.args.stem.search.requests.list.now c.args.stem.search.requests.client c.args.stem.search.requests.service.now n) c.args.kept.now) (sym long) c.requires.sound
 
 pub returns-in_ok-key-clause-sound : goal.returns-in_ok-key-clause-sound
 returns-in_ok-key-clause-sound c =
     let long : length c.with-longer.result ≡ length c.args.stem.label.now + 1
     = omega (arith, ap length c.with-longer.ensures, length-append c.args.stem.label.now (c.args.byte ∷ [])) in
     ok_map _ _ c.keep.result
-    (λ keeps. subst (λ n. All (IsKept c.args.stem.wishes.list.now c.args.stem.wishes.client c.args.stem.wishes.service.now n) c.keep.new.kept) long keeps.sound)
+    (λ keeps. subst (λ n. All (IsKept c.args.stem.search.range.now.front c.args.stem.search.requests.list.now c.args.stem.search.requests.client c.args.stem.search.requests.service.now n) c.keep.new.kept) long keeps.sound)
     c.keep.ensures
 
 pub returns-in_ok-key-clause-grown : goal.returns-in_ok-key-clause-grown
@@ -39,5 +39,10 @@ returns-in_ok-key-clause-grown c = ok_map _ _ c.keep.result (λ keeps. keeps.gro
 pub returns-in_ok-key-clause-here : goal.returns-in_ok-key-clause-here
 returns-in_ok-key-clause-here c =
     ok_map _ _ c.keep.result
-    (λ keeps plain. subst (λ l. Any (HasKey c.args.stem.wishes.list.now c.args.stem.wishes.client c.args.stem.wishes.service.now l) c.keep.new.kept) c.with-longer.ensures keeps.there)
+    (λ keeps plain. subst (λ l. Any (HasKey c.args.stem.search.requests.list.now c.args.stem.search.requests.client c.args.stem.search.requests.service.now l) c.keep.new.kept) c.with-longer.ensures keeps.there)
     c.keep.ensures
+
+pub keep-requires-clause-begins : goal.keep-requires-clause-begins
+keep-requires-clause-begins c =
+    ap (λ l. starts_with nat_eq l c.args.stem.search.range.now.front) c.with-longer.ensures
+    ∙ begun_more c.args.stem.search.range.now.front c.args.stem.label.now c.args.byte c.args.stem.begins

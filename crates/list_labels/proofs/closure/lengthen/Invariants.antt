@@ -5,8 +5,8 @@ use Rattle.list_labels.proofs.closure.lengthen.Given as goal
 
 abbrev pub invariant-loop-place : goal.invariant-loop-place
 invariant-loop-place l = record {
-  sound : All (IsKept l.wishes.list.now l.wishes.client l.wishes.service.now (l.size + 1)) l.kept;
+  sound : All (IsKept l.search.range.now.front l.search.requests.list.now l.search.requests.client l.search.requests.service.now (l.size + 1)) l.kept;
   grown : IsGrown l.initial.kept l.kept;
   longer : (k : ℕ) → k < l.place
-      → IsLengthenedAt l.wishes.list.now l.wishes.client l.wishes.service.now l.size l.initial.kept k l.kept;
+      → IsLengthenedAt l.search.requests.list.now l.search.requests.client l.search.requests.service.now l.size l.initial.kept k l.kept;
 }

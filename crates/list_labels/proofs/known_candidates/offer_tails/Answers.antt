@@ -8,6 +8,6 @@ use Rattle.list_labels.proofs.known_candidates.offer_tails.Goals as goal
 pub returns-in-Some-clause-held : goal.returns-in-Some-clause-held
 returns-in-Some-clause-held c =
     ok_map _ _ c.offer_joined.result
-    (λ joined label given tail. tail_held_of c.args.wishes.list.now c.args.wishes.client c.args.wishes.service.now c.args.before.now (option_copied c.args.asked) c.as_bytes.result.now label
+    (λ joined label given tail. tail_held_of c.args.search.range.now c.args.search.requests.list.now c.args.search.requests.client c.args.search.requests.service.now c.args.before.now (option_copied c.args.asked) c.as_bytes.result.now label
     c.offer_joined.new.kept.items (ap option_copied c.in-Some.is ∙ ap Some (sym c.as_bytes.ensures.value)) joined given tail)
     c.offer_joined.ensures.joined
