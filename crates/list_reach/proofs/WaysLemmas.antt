@@ -9,7 +9,9 @@ use Rattle.own_model.specs.Listed.{Listed}
 use Rattle.list_reach.specs.Reach.{AllRouted, IsShortest, NoneRouted, SomeNotRouted}
 use Rattle.list_labels.specs.Closure.{KeptLabel}
 use Rattle.list_reach.specs.ClientReach.{AreRoutes, IsBest, IsLeast, is_child, is_shorter, leads}
-use Rattle.list_labels.specs.Representatives.{IsTold, RepresentAll}
+use Rattle.list_labels.specs.LabelRanges.{AskedLabel}
+use Rattle.list_labels.specs.Representatives.{IsTold, IsToldIn, RepresentAll, RepresentRange}
+use Rattle.list_reach.specs.RangeReach.{IsShortestInRange, NoneRoutedInRange}
 
 -- ---- from labels that stand for all others
 
@@ -194,6 +196,33 @@ shortest_leads list client service kept server place one best is ways =
       leads = sym told.leads ∙ is_child_true server one.child leading;
       least = λ other given leads_there.
           let any = ways.covers other given in
+          let there : is_child server any.1.child ≡ true = is_child_of server any.1.child (any.4.alike ∙ leads_there) in
+          least_at kept server place one any.1 any.0 best is any.2 any.3 there (length other) any.4.short;
+    }
+
+-- ---- the same of the labels of a range
+
+pub range_never : (range : AskedLabel) (list : Listed) (client : ℕ) (service : List ℕ) (kept : List KeptLabel) (server : ℕ)
+    → IsBest kept server (length kept) None → RepresentRange range list client service kept → NoneRoutedInRange range list client service server
+range_never range list client service kept server none stand label asked leading =
+    let any = stand.covers label asked in
+    let lost : leads server (get_or kept any.0 any.1) ≡ false = none any.0 any.1 any.2 in
+    let found : is_child server any.1.child ≡ true = is_child_of server any.1.child (any.4.alike ∙ leading) in
+    let same : leads server (get_or kept any.0 any.1) ≡ true = ap (λ (o : KeptLabel). leads server o) any.3 ∙ found in
+    cc
+
+pub range_shortest : (range : AskedLabel) (list : Listed) (client : ℕ) (service : List ℕ) (kept : List KeptLabel) (server place : ℕ) (one : KeptLabel)
+    → IsBest kept server (length kept) (Some place) → get_or kept place one ≡ one → RepresentRange range list client service kept
+    → IsShortestInRange range list client service server one.label
+range_shortest range list client service kept server place one best is stand =
+    let within : place < length kept = best.within in
+    let told = All-contains (IsToldIn range list client service) kept one stand.told (place, within, is) in
+    let leading : leads server one ≡ true = sym (ap (λ (o : KeptLabel). leads server o) is) ∙ best.leading one in
+    record {
+      asked = told.asked;
+      leads = sym told.leads ∙ is_child_true server one.child leading;
+      least = λ other asked leads_there.
+          let any = stand.covers other asked in
           let there : is_child server any.1.child ≡ true = is_child_of server any.1.child (any.4.alike ∙ leads_there) in
           least_at kept server place one any.1 any.0 best is any.2 any.3 there (length other) any.4.short;
     }

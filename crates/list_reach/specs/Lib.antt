@@ -1,5 +1,6 @@
 pub mod Reach
 pub mod ClientReach
+pub mod RangeReach
 pub mod Table
 pub mod Rows
 pub mod RouteQuery

@@ -1,10 +1,16 @@
 //! To which servers a client's requests for a service are routed, for every label that the client can give.
-ghost use Rattle.std.specs.Prelude.{◌≡◌, ◌<◌, ◌+◌, ℕ, List, length, slice_index_or, IfOk, IfSome};
+ghost use Rattle.std.specs.Prelude.{◌≡◌, ◌<◌, ◌+◌, ℕ, List, length, slice_index_or, IfOk, IfSome, MatchOption};
 ghost use Rattle.std.specs.List.{list_all};
 ghost use Rattle.own_model.specs.Listed.{Listed};
+ghost use Rattle.list_labels.specs.LabelRanges.{AskedLabel};
+ghost use Rattle.list_labels.specs.Representatives.{RepresentRange};
 ghost use Rattle.list_reach.specs.ClientReach.{AreRoutes, IsBest, DescribesReach, is_shorter, leads};
+ghost use Rattle.list_reach.specs.RangeReach.{IsShortestInRange, NoneRoutedInRange};
 
-use list_labels::{ClientLabel, KeyedLabel, SessionRequests, representatives_of};
+use list_labels::{
+    ClientLabel, KeyedLabel, LabelCondition, SessionRequests, representatives_in,
+    representatives_of,
+};
 use std::alloc::{AllocError, Global};
 use std::marker::Model;
 
@@ -60,6 +66,41 @@ impl ClientReach {
                 Reach::By(one.label.copy())
             }
         }
+    }
+}
+
+/// Returns a shortest label of those that match a condition and with which the requests are routed to the component of a number, or
+/// none if there is none. Fails if the host is out of memory.
+pub fn shortest_in_range(
+    alloc: Global,
+    wishes: SessionRequests<'_>,
+    range: &LabelCondition,
+    server: usize,
+) -> Result<Option<ClientLabel>, AllocError>
+    requires client { wishes.client < length wishes.list.now.entries }
+    ensures { IfOk result (λ found. MatchOption found
+        (NoneRoutedInRange range.now wishes.entry.list.now wishes.entry.client
+        wishes.entry.service.now server)
+        (IsShortestInRange range.now wishes.entry.list.now wishes.entry.client
+        wishes.entry.service.now server)) }
+{
+    let kept = representatives_in(alloc, wishes, range)?;
+    Ok(shortest_of(kept.as_slice(), server))
+}
+
+// A shortest label that is routed to a server, if one is.
+fn shortest_of(kept: &[KeyedLabel], server: usize) -> Option<ClientLabel>
+    ensures { (range : AskedLabel) (list : Listed) (client : ℕ) (service : List ℕ)
+        → RepresentRange range list client service kept.now → MatchOption result
+        (NoneRoutedInRange range list client service server)
+        (IsShortestInRange range list client service server) }
+{
+    match shortest(kept, server) {
+        Some(place) => {
+            let one = &kept[place];
+            Some(one.label.copy())
+        }
+        None => None,
     }
 }
 

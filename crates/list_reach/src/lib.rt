@@ -17,7 +17,7 @@ mod script_decisions;
 mod texts;
 mod theorems;
 
-pub use client_reach::{ClientReach, Reach};
+pub use client_reach::{ClientReach, Reach, shortest_in_range};
 pub use comparison::{RouteComparison, WitnessedSet};
 pub use component_numbers::{ComponentKind, Unnamed, numbers};
 pub use paths::{pieces, selects, trimmed};
