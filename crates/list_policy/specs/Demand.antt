@@ -6,7 +6,9 @@ use Rattle.std.specs.Str.{bytes_eq}
 use Rattle.own_model.specs.Listed.{Binary, Listed, ListedEntry, reserve_of}
 use Rattle.own_model.specs.Listed.Binary.{Script, Server, Init}
 use Rattle.list_labels.specs.GivenLabels.{IsGiven, leads_to}
+use Rattle.list_labels.specs.LabelRanges.{AskedLabel}
 use Rattle.list_reach.specs.Reach.{NoneRouted}
+use Rattle.list_reach.specs.RangeReach.{IsShortestInRange, NoneRoutedInRange}
 use Rattle.list_reach.specs.Paths.{runs_script, runs_server}
 use Rattle.list_reach.specs.ClientReach.{is_child}
 use Rattle.list_policy.specs.declared.breach.Breach.{Breach}
@@ -15,7 +17,7 @@ use Rattle.list_policy.specs.declared.breach.ReachBreach.{ReachBreach}
 use Rattle.list_policy.specs.Line.{LineAt}
 use Rattle.list_policy.specs.declared.demand.BudgetLimit.{BudgetLimit}
 use Rattle.list_policy.specs.declared.demand.LabelRange.{LabelRange}
-use Rattle.list_policy.specs.declared.demand.LabelRange.TheVariants.{All as AllLabels, Exactly}
+use Rattle.list_policy.specs.declared.demand.LabelRange.TheVariants.{All as AllLabels, Exactly, Prefix, Suffix}
 use Rattle.list_policy.specs.declared.demand.Demand.{Demand}
 use Rattle.list_policy.specs.declared.demand.Demand.TheVariants.{Deny, Allow, Only, Isolate, AtMost}
 
@@ -26,21 +28,34 @@ leads_there list client service label server = is_child server (leads_to list cl
 abbrev pub named_label : LabelRange → Option (List ℕ)
 named_label AllLabels = None
 named_label (Exactly label) = Some label
+named_label (Prefix text) = None
+named_label (Suffix text) = None
+
+-- the labels that begin with a text, and those that end with it
+abbrev pub beginning : List ℕ → AskedLabel
+beginning text = record { front = text; end = [] }
+
+abbrev pub ending : List ℕ → AskedLabel
+ending text = record { front = []; end = text }
 
 -- a given label of a client's requests for a service is routed to a server
 pub record IsRoutedThere (list : Listed) (client : ℕ) (service : List ℕ) (server : ℕ) (label : List ℕ) : Type 0 where
   pub given : IsGiven label
   pub leads : leads_to list client service label ≡ Some server
 
--- a label of a range is
+-- a label of a range is; of the labels that begin or end with a text one of the shortest
 abbrev pub IsRoutedIn : Listed → ℕ → List ℕ → ℕ → LabelRange → List ℕ → Type 0
 IsRoutedIn list client service server AllLabels label = IsRoutedThere list client service server label
 IsRoutedIn list client service server (Exactly one) label = (label ≡ one) × (leads_to list client service label ≡ Some server)
+IsRoutedIn list client service server (Prefix text) label = IsShortestInRange (beginning text) list client service server label
+IsRoutedIn list client service server (Suffix text) label = IsShortestInRange (ending text) list client service server label
 
 -- no label of a range is
 abbrev pub NoneRoutedIn : Listed → ℕ → List ℕ → ℕ → LabelRange → Type 0
 NoneRoutedIn list client service server AllLabels = NoneRouted list client service server
 NoneRoutedIn list client service server (Exactly one) = leads_to list client service one ≢ Some server
+NoneRoutedIn list client service server (Prefix text) = NoneRoutedInRange (beginning text) list client service server
+NoneRoutedIn list client service server (Suffix text) = NoneRoutedInRange (ending text) list client service server
 
 -- a client's requests for a server's service are as demanded
 abbrev pub IsKept : Listed → Demand → ℕ → List ℕ → ℕ → Type 0

@@ -8,12 +8,15 @@ use Rattle.list_reach.specs.Paths.{PathFault, fault_of, trimmed}
 use Rattle.list_policy.specs.Cuts.{before_end, front, rest, text_at}
 use Rattle.list_policy.specs.declared.demand.BudgetLimit.{BudgetLimit}
 use Rattle.list_policy.specs.declared.demand.LabelRange.{LabelRange}
-use Rattle.list_policy.specs.declared.demand.LabelRange.TheVariants.{All as AllLabels, Exactly}
+use Rattle.list_policy.specs.declared.demand.LabelRange.TheVariants.{All as AllLabels, Exactly, Prefix, Suffix}
 use Rattle.list_policy.specs.declared.demand.Demand.{Demand}
 use Rattle.list_policy.specs.declared.demand.Demand.TheVariants.{Deny, Allow, Only, Isolate, AtMost}
 use Rattle.list_policy.specs.declared.fault.PolicyFlaw.{PolicyFlaw}
 use Rattle.list_policy.specs.declared.fault.PolicyFlaw.TheVariants as flaw
+use Rattle.list_policy.specs.declared.statement.LabelWord.{LabelWord}
+use Rattle.list_policy.specs.declared.statement.LabelWord.TheVariants as word
 use Rattle.list_policy.specs.declared.statement.PathText.{PathText}
+use Rattle.list_policy.specs.declared.statement.RangeWords.{RangeWords}
 use Rattle.list_policy.specs.declared.statement.Statement.{Statement}
 use Rattle.list_policy.specs.declared.statement.StatementTarget.{StatementTarget}
 use Rattle.list_policy.specs.declared.statement.Verb.{Verb}
@@ -86,13 +89,37 @@ pub record TargetAt : Type 0 where
 abbrev pub target_at : StatementTarget → TargetAt
 target_at target = record { paths = target.paths.now; range = target.range }
 
--- `TO`, or `TO with label "LABEL"`
+-- the paths before `with label`, `with prefix` or `with suffix`, and the last word
+pub record RangeWordsAt : Type 0 where
+  pub paths : List ℕ
+  pub word : LabelWord
+
+abbrev pub range_words_at : RangeWords → RangeWordsAt
+range_words_at words = record { paths = words.paths.now; word = words.word }
+
+abbrev pub words_by : Option (List ℕ) → Option (List ℕ) → Option (List ℕ) → Option RangeWordsAt
+words_by (Some paths) prefix suffix = Some (record { paths = paths; word = word.Label })
+words_by None (Some paths) suffix = Some (record { paths = paths; word = word.Prefix })
+words_by None None (Some paths) = Some (record { paths = paths; word = word.Suffix })
+words_by None None None = None
+
+abbrev pub range_words : List ℕ → Option RangeWordsAt
+range_words to =
+    words_by (before_end (codes " with label") to) (before_end (codes " with prefix") to) (before_end (codes " with suffix") to)
+
+-- the labels that a word and a label after it denote
+abbrev pub range_of : LabelWord → List ℕ → LabelRange
+range_of word.Label label = Exactly label
+range_of word.Prefix label = Prefix label
+range_of word.Suffix label = Suffix label
+
+-- `TO`, `TO with label "LABEL"`, `TO with prefix "LABEL"` or `TO with suffix "LABEL"`
 abbrev pub target_of : List ℕ → Option (List ℕ) → Result TargetAt FlawAt
 target_of to None = Ok (record { paths = to; range = AllLabels })
 target_of to (Some quoted) = do
-  paths ← value_or SaysTooMuch (before_end (codes " with label") to)
+  words ← value_or SaysTooMuch (range_words to)
   label ← label_of quoted
-  Ok (record { paths = paths; range = Exactly label })
+  Ok (record { paths = words.paths; range = range_of words.word label })
 
 -- ---- forms
 

@@ -4,14 +4,15 @@ ghost use Rattle.std.specs.Option.{option_to_list};
 ghost use Rattle.own_model.specs.Listed.{Listed};
 ghost use Rattle.list_reach.specs.Reach.{NoneRouted};
 ghost use Rattle.list_reach.specs.ClientReach.{DescribesReach};
+ghost use Rattle.list_reach.specs.RangeReach.{IsShortestInRange, NoneRoutedInRange};
 ghost use Rattle.list_policy.specs.Demand.{AreBreaches, FindsAt, FindsBudget, FindsFor, FindsReach, IsBroken, IsKept, IsRoutedIn, IsRoutedThere, NoneRoutedIn, leads_there, named_label, service_at};
 ghost use Rattle.list_policy.specs.Line.{line_at};
 
 use crate::budget::excess_at;
 use crate::demand::{BudgetLimit, Demand, LabelRange, PolicyLine, concerns};
-use list_labels::{ClientLabel, SessionRequests};
+use list_labels::{ClientLabel, LabelCondition, SessionRequests};
 use list_parser::{Binary, StartList};
-use list_reach::{ClientReach, Reach};
+use list_reach::{ClientReach, Reach, shortest_in_range};
 use list_routes::route;
 use std::alloc::{AllocError, Global};
 
@@ -178,7 +179,7 @@ fn named_label(range: &LabelRange) -> Option<ClientLabel>
 {
     match range {
         LabelRange::Exactly(label) => Some(label.copy()),
-        LabelRange::All => None,
+        LabelRange::All | LabelRange::Prefix(_) | LabelRange::Suffix(_) => None,
     }
 }
 
@@ -225,7 +226,40 @@ fn label_in(
                 Ok(None)
             }
         }
+        LabelRange::Prefix(front) => {
+            label_matching(
+                alloc,
+                list,
+                client,
+                server,
+                &LabelCondition::beginning(front),
+            )
+        }
+        LabelRange::Suffix(end) => {
+            label_matching(alloc, list, client, server, &LabelCondition::ending(end))
+        }
     }
+}
+
+// A shortest label that matches a condition and is routed from a client to a server, if there is one.
+fn label_matching(
+    alloc: Global,
+    list: &StartList,
+    client: usize,
+    server: usize,
+    range: &LabelCondition,
+) -> Result<Option<ClientLabel>, AllocError>
+    requires client { client < length list.now.entries }
+    ensures { IfOk result (λ found. MatchOption found
+        (NoneRoutedInRange range.now list.now client (service_at list.now server) server)
+        (IsShortestInRange range.now list.now client (service_at list.now server) server)) }
+{
+    let wishes = SessionRequests {
+        list,
+        client,
+        service: service_at(list, server).as_bytes(),
+    };
+    shortest_in_range(alloc, wishes, range, server)
 }
 
 // A label that is routed from a client to a server, if there is one.

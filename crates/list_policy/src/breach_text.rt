@@ -4,7 +4,7 @@ ghost use Rattle.std.specs.Option.{option_map};
 ghost use Rattle.list_policy.specs.Claims.{claim_at, claim_by, claim_of, claim_text, claims, path_at, verb_of};
 
 use crate::breach::{Breach, ReachBreach, leads_there, service_at};
-use crate::demand::{BudgetLimit, Demand, PolicyLine};
+use crate::demand::{BudgetLimit, Demand, LabelRange, PolicyLine};
 use list_labels::ClientLabel;
 use list_parser::{ListEntry, Path, StartList};
 use list_reach::{RoutePath, RouteSummary};
@@ -17,6 +17,7 @@ use std::fmt;
 pub struct BreachText<'a> {
     claim: Option<ReachClaim>,
     label: Option<&'a ClientLabel>,
+    range: Option<&'a LabelRange>,
     course: Option<RoutePath<'a>>,
     excess: Option<Excess>,
 }
@@ -26,16 +27,17 @@ impl<'a> BreachText<'a> {
     pub fn of(
         alloc: Global,
         list: &'a StartList,
-        line: &PolicyLine,
+        line: &'a PolicyLine,
         breach: &'a Breach,
     ) -> Result<BreachText<'a>, AllocError>
         ensures { IfOk result (λ told. option_map claim_at told.claim ≡ claim_of list.now breach.now) }
     {
         match breach {
-            Breach::Reach(breach) => reach_text(alloc, list, breach),
+            Breach::Reach(breach) => reach_text(alloc, list, line, breach),
             Breach::Excess(number) => Ok(BreachText {
                 claim: None,
                 label: None,
+                range: None,
                 course: None,
                 excess: excess_of(list, line, *number),
             }),
@@ -47,6 +49,7 @@ impl<'a> BreachText<'a> {
 fn reach_text<'a>(
     alloc: Global,
     list: &'a StartList,
+    line: &'a PolicyLine,
     breach: &'a ReachBreach,
 ) -> Result<BreachText<'a>, AllocError>
     ensures { IfOk result (λ told. option_map claim_at told.claim ≡ claim_by list.now breach.now) }
@@ -54,9 +57,18 @@ fn reach_text<'a>(
     Ok(BreachText {
         claim: claim_by(list, breach),
         label: breach.label.as_ref(),
+        range: range_of(&line.demand),
         course: course_of(alloc, list, breach)?,
         excess: None,
     })
+}
+
+// The labels that a demand is about, if it is about the requests of named scripts.
+fn range_of(demand: &Demand) -> Option<&LabelRange> {
+    match demand {
+        Demand::Deny(range) | Demand::Allow(range) | Demand::Only(range) => Some(range),
+        Demand::Isolate | Demand::AtMost(_) => None,
+    }
 }
 
 // The rules by which the label of a breach is routed, if it has one.
@@ -192,11 +204,24 @@ impl fmt::Display for BreachText<'_> {
         claim.fmt(f)?;
         match self.label {
             Some(label) => write!(f, " by label \"{label}\"")?,
-            None => f.write_str(" by any label")?,
+            None => write_range(f, self.range)?,
         }
         match &self.course {
             Some(course) => write!(f, ": {}", RouteSummary::of(course)),
             None => Ok(()),
         }
+    }
+}
+
+// Writes that no label of a range is meant.
+fn write_range<W: fmt::Write>(
+    f: &mut fmt::Formatter<W>,
+    range: Option<&LabelRange>,
+) -> fmt::Result {
+    f.write_str(" by any label")?;
+    match range {
+        Some(LabelRange::Prefix(front)) => write!(f, " that begins with \"{front}\""),
+        Some(LabelRange::Suffix(end)) => write!(f, " that ends with \"{end}\""),
+        Some(LabelRange::All | LabelRange::Exactly(_)) | None => Ok(()),
     }
 }

@@ -14,6 +14,10 @@ pub enum LabelRange {
     All,
     /// This label.
     Exactly(ClientLabel),
+    /// All labels that a client can give and that begin with this text.
+    Prefix(ClientLabel),
+    /// All labels that a client can give and that end with this text.
+    Suffix(ClientLabel),
 }
 
 /// A demand on components.

@@ -29,7 +29,7 @@ impl fmt::Display for PolicyFlaw<'_> {
             ),
             PolicyFlaw::NoArrow => f.write_str("expected `->` after the clients"),
             PolicyFlaw::TooMuch => f.write_str(
-                "unexpected text after the components; `deny`, `allow` and `only` take `with label \"..\"`",
+                "unexpected text after the components; `deny`, `allow` and `only` take `with label \"..\"`, `with prefix \"..\"` or `with suffix \"..\"`",
             ),
             PolicyFlaw::BadLabel => f.write_str(
                 "expected a label in quotes that a client can give",

@@ -1,8 +1,8 @@
 //! The statement of a line: what it demands, and the paths of components.
 ghost use Rattle.std.specs.Prelude.{◌≡◌};
-ghost use Rattle.std.specs.Option.{option_copied};
+ghost use Rattle.std.specs.Option.{option_copied, option_map};
 ghost use Rattle.std.specs.Result.{result_map_both};
-ghost use Rattle.list_policy.specs.Statement.{budget_of, demand_of, flaw_at, isolated, label_of, limit_of, path_at, path_in, reach_of, statement_at, statement_of, target_at, target_of, verb_of};
+ghost use Rattle.list_policy.specs.Statement.{budget_of, demand_of, flaw_at, isolated, label_of, limit_of, path_at, path_in, range_of, range_words, range_words_at, reach_of, statement_at, statement_of, target_at, target_of, verb_of};
 
 use crate::cuts::{before_end, cut, text_at};
 use crate::demand::{BudgetLimit, Demand, LabelRange};
@@ -173,7 +173,7 @@ struct StatementTarget<'a> {
     range: LabelRange,
 }
 
-// The text after an arrow: paths, and then, if there is a quote, a label.
+// The text after an arrow: paths, and then, if there is a quote, the labels that the line is about.
 fn target_of<'a>(
     to: &'a [u8],
     quoted: Option<&'a [u8]>,
@@ -186,11 +186,57 @@ fn target_of<'a>(
             range: LabelRange::All,
         });
     };
-    let Some(paths) = before_end(b" with label", to) else {
+    let Some(words) = range_words(to) else {
         return Err(PolicyFlaw::TooMuch);
     };
-    let range = LabelRange::Exactly(label_of(quoted)?);
-    Ok(StatementTarget { paths, range })
+    let label = label_of(quoted)?;
+    Ok(StatementTarget {
+        paths: words.paths,
+        range: range_of(words.word, label),
+    })
+}
+
+// The word before a label in quotes.
+#[derive(Clone, Copy)]
+enum LabelWord {
+    Label,
+    Prefix,
+    Suffix,
+}
+
+// The paths before ` with` and a word for labels.
+#[derive(Clone, Copy)]
+struct RangeWords<'a> {
+    paths: &'a [u8],
+    word: LabelWord,
+}
+
+// The paths and the word of a text that ends with ` with` and a word for labels.
+fn range_words(to: &[u8]) -> Option<RangeWords<'_>>
+    ensures { option_map range_words_at result ≡ range_words to.now }
+{
+    if let Some(paths) = before_end(b" with label", to) {
+        let word = LabelWord::Label;
+        return Some(RangeWords { paths, word });
+    }
+    if let Some(paths) = before_end(b" with prefix", to) {
+        let word = LabelWord::Prefix;
+        return Some(RangeWords { paths, word });
+    }
+    let paths = before_end(b" with suffix", to)?;
+    let word = LabelWord::Suffix;
+    Some(RangeWords { paths, word })
+}
+
+// The labels that a word and a label after it denote.
+fn range_of(word: LabelWord, label: ClientLabel) -> LabelRange
+    ensures { result ≡ range_of word label }
+{
+    match word {
+        LabelWord::Label => LabelRange::Exactly(label),
+        LabelWord::Prefix => LabelRange::Prefix(label),
+        LabelWord::Suffix => LabelRange::Suffix(label),
+    }
 }
 
 // The label up to a second quote, if only a comment follows.
