@@ -2,3 +2,4 @@ mod AccessLemmas
 mod PairLemmas
 mod ReachLemmas
 mod ReplyLemmas
+mod RouteLemmas

@@ -1,7 +1,9 @@
 pub mod Changes
 pub mod Differences
 pub mod LineResults
+pub mod Moves
 pub mod Needs
 pub mod NewAccess
 pub mod Reaches
 pub mod Replies
+pub mod Routes
