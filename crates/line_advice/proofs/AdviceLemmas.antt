@@ -1,15 +1,14 @@
 -- Advice that is gathered, piece by piece and line by line.
-use Rattle.std.proofs.Common.{◌≡◌, ℕ, ◌+◌, Bool, true, false, not, List, [], ◌∷◌, ◌++◌, length, Option, refl, sym, ap, ◌∙◌}
-use Rattle.std.specs.Prelude.{◌||◌, codes, if◌then◌else◌}
-use Rattle.std.proofs.lemmas.List.{append_assoc, map-append}
+use Rattle.std.proofs.Common.{◌≡◌, ℕ, ◌+◌, Bool, true, false, not, List, [], ◌∷◌, ◌++◌, length, Option, None, refl, sym, ap, ◌∙◌}
+use Rattle.std.specs.Prelude.{◌||◌, if◌then◌else◌}
+use Rattle.std.proofs.lemmas.List.{append_assoc, append-nil, map-append}
 use Rattle.std.specs.Borrow.{Bor}
 use Rattle.std.specs.List.{slice_split}
-use Rattle.std.specs.Str.{bytes_eq}
 use Rattle.own_model.specs.SessionArgs.{pieces_of}
 use Rattle.session_proto.specs.Pieces.{pieces_after}
 use Rattle.line_friendly.specs.Friendly.{begins_as_call, content_of, is_meant}
 use Rattle.line_steps.specs.ResolvedLines.{is_skipped}
-use Rattle.line_advice.specs.Advice.{Advice, advice_on, argument_advice, form_of, front_of, request_advice, is_newline, lines_after, listed, pieces_advice, scenario_advice}
+use Rattle.line_advice.specs.Advice.{Advice, advice_on, argument_advice, form_named, form_of, front_of, request_advice, is_newline, lines_after, listed, pieces_advice, scenario_advice}
 use Rattle.line_advice.specs.Views.{advice_view, advices, texts}
 use Rattle.line_advice.specs.declared.advice.LineAdvice.{LineAdvice as Told}
 
@@ -19,6 +18,9 @@ pushed found advice = map-append advice_view found (advice ∷ [])
 
 pub named : (names : List (Bor (List ℕ))) (name : Bor (List ℕ)) → texts (names ++ name ∷ []) ≡ texts names ++ name.now ∷ []
 named names name = map-append (λ (n : Bor (List ℕ)). n.now) names (name ∷ [])
+
+pub joined : (names more : List (Bor (List ℕ))) → texts (names ++ more) ≡ texts names ++ texts more
+joined names more = map-append (λ (n : Bor (List ℕ)). n.now) names more
 
 -- the advice on the first piece is found, and that on the others is left
 pub next_pieces : (line column : ℕ) (old new whole : List Advice) (text piece : List ℕ) (more : Option (List ℕ))
@@ -42,18 +44,20 @@ next_lines services only number old new whole text line more was is finds =
     ∙ append_assoc old (advice_on services only number line) left
     ∙ ap (λ lines. old ++ scenario_advice services only number lines) (sym is) ∙ was
 
--- a line of another form than a session request's has none
-pub no_request : (services : List (List ℕ)) (only : Option (List ℕ)) (number : ℕ) (line : List ℕ) → bytes_eq (form_of line) (codes "open") ≡ false
-    → bytes_eq (form_of line) (codes "upgrade") ≡ false → advice_on services only number line ≡ []
-no_request services only number line opens upgrades =
+-- a line of another form has none
+pub no_request : (services : List (List ℕ)) (only : Option (List ℕ)) (number : ℕ) (line : List ℕ) → form_named (form_of line) ≡ None
+    → advice_on services only number line ≡ []
+no_request services only number line none =
     either (is_skipped only line || (not (begins_as_call (content_of line)) || is_meant (content_of line)))
   where
-    front : List ℕ
-    front = front_of line
+    nothing : request_advice services number (form_named (form_of line)) (front_of line) ≡ []
+    nothing = ap (λ form. request_advice services number form (front_of line)) none
 
-    none : request_advice services number (form_of line) front ≡ []
-    none = rw opens (rw upgrades refl)
-
-    either : (left_out : Bool) → (if left_out then [] else request_advice services number (form_of line) front) ≡ []
+    either : (left_out : Bool) → (if left_out then [] else request_advice services number (form_named (form_of line)) (front_of line)) ≡ []
     either true = refl
-    either false = none
+    either false = nothing
+
+pub unadvised : (services : List (List ℕ)) (only : Option (List ℕ)) (number : ℕ) (line : List ℕ) (found : List Advice) → form_named (form_of line) ≡ None
+    → found ≡ found ++ advice_on services only number line
+unadvised services only number line found none =
+    sym (ap (λ more. found ++ more) (no_request services only number line none) ∙ append-nil found)

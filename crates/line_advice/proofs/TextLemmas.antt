@@ -1,6 +1,6 @@
 -- Where a text is cut at its first newline, and texts that aren't UTF-8.
 use Rattle.std.proofs.Common.{◌≡◌, ℕ, ◌+◌, ◌-◌, ◌≤◌, ltb, cond, not, Bool, true, false, nat_eq, List, [], ◌∷◌, length, take, drop, position, Some, None, refl, sym, ap, ◌∙◌, arith}
-use Rattle.std.specs.List.{All, position_or_len, slice_split}
+use Rattle.std.specs.List.{All, find, position_or_len, slice_split}
 use Rattle.std.specs.Str.{IsUtf8, is_utf8}
 use Rattle.std.proofs.lemmas.Bool.Decides.{nat_tests}
 use Rattle.std.proofs.lemmas.Bool.{not-true}
@@ -8,8 +8,8 @@ use Rattle.std.proofs.lemmas.List.{take_rest}
 use Rattle.std.proofs.lemmas.List.Splits.{slice_split_first, slice_split_none}
 use Rattle.std.proofs.lemmas.List.Sums.{prefix_len-le-length, prefix_len_passes}
 use Rattle.std.proofs.lemmas.Str.{IsUtf8-from_is_utf8, is_utf8-from_IsUtf8}
-use Rattle.text_near_words.specs.Near.{nearest}
-use Rattle.line_advice.specs.Advice.{is_newline, near_in}
+use Rattle.text_near_words.specs.Near.{is_away, nearest}
+use Rattle.line_advice.specs.Advice.{is_newline, near_by_one, near_in}
 
 -- ---- lines
 
@@ -48,3 +48,9 @@ invalid text never = not_from (is_utf8 text) (λ valid. never (IsUtf8-from_is_ut
 
 pub near_of_none : (words : List (List ℕ)) (text : List ℕ) → ¬ (IsUtf8 text) → near_in words text ≡ None
 near_of_none words text never = rw (invalid text never) refl
+
+pub one_of_text : (words : List (List ℕ)) (text : List ℕ) → IsUtf8 text → near_by_one words text ≡ find (is_away 1 text) words
+one_of_text words text valid = rw (is_utf8-from_IsUtf8 text valid) refl
+
+pub one_of_none : (words : List (List ℕ)) (text : List ℕ) → ¬ (IsUtf8 text) → near_by_one words text ≡ None
+one_of_none words text never = rw (invalid text never) refl

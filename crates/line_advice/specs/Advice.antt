@@ -1,21 +1,28 @@
--- What is probably not intended in the session requests of a scenario.
-use Rattle.std.specs.Prelude.{ℕ, ◌+◌, ◌-◌, ◌==◌, ◌&&◌, ◌||◌, not, Bool, false, List, [], ◌∷◌, ◌++◌, length, take, drop, codes, is_none, is_some, position, if◌then◌else◌, Option, Some, None}
-use Rattle.std.specs.List.{before_first, list_all, list_any, slice_split}
+-- What is probably not intended in the session requests of a scenario, and in the requests of its sessions.
+use Rattle.std.specs.Prelude.{ℕ, ◌+◌, ◌-◌, ◌==◌, ◌&&◌, ◌||◌, not, Bool, false, List, [], ◌∷◌, ◌++◌, length, take, drop, codes, is_none, is_some, position, if◌then◌else◌, map, Option, Some, None}
+use Rattle.std.specs.List.{before_first, find, flat_map, list_all, list_any, slice_split}
 use Rattle.std.specs.Option.{unwrap_or}
 use Rattle.std.specs.Str.{bytes_eq, is_utf8}
+use Rattle.trade_base.specs.Service.{service_name}
+use Rattle.trade_base.specs.declared.service.Service.TheVariants.{Files, Log}
 use Rattle.own_model.specs.SessionArgs.{arguments_of, is_equals, is_space, pieces_of, skip_spaces, trimmed}
 use Rattle.own_model.specs.Text.{is_name}
-use Rattle.text_near_words.specs.Near.{nearest}
+use Rattle.session_proto.specs.Forms.{forms, word_of}
+use Rattle.text_near_words.specs.Near.{is_away, nearest}
 use Rattle.line_friendly.specs.Friendly.{arrow_of, begins_as_call, content_of, end_of, is_meant, trimmed_line}
 use Rattle.line_friendly.specs.Words.{next_word, skip_blanks}
 use Rattle.line_steps.specs.ResolvedLines.{is_skipped}
 use Rattle.line_advice.specs.declared.key.ArgumentKey.{ArgumentKey}
 use Rattle.line_advice.specs.declared.key.ArgumentKey.TheVariants.{RamQuota, CapQuota, Label}
+use Rattle.line_advice.specs.declared.line.AdvisedForm.{AdvisedForm}
+use Rattle.line_advice.specs.declared.line.AdvisedForm.TheVariants.{Open, Upgrade, Call}
 
--- a service that the start list doesn't offer, or a key that session arguments don't have, with the word that may be meant; or a
--- text that isn't read as a pair, with the key whose value it doesn't have
+-- a service that the start list doesn't offer, or a key that session arguments don't have, with the word that may be meant; a word
+-- that is no request of a session, with the request that is at one edit; or a text that isn't read as a pair, with the key whose
+-- value it doesn't have
 pub data Reason : Type 0 where
   UnknownService : Option (List ℕ) → Reason
+  UnknownRequest : List ℕ → Reason
   UnknownKey : Option (List ℕ) → Reason
   Unread : Option ArgumentKey → Reason
 
@@ -29,6 +36,10 @@ pub record Advice : Type 0 where
 -- the word that may be meant by a text, which is none where it isn't UTF-8
 abbrev pub near_in : List (List ℕ) → List ℕ → Option (List ℕ)
 near_in words text = if is_utf8 text then nearest words text else None
+
+-- the first word at one edit from a text
+abbrev pub near_by_one : List (List ℕ) → List ℕ → Option (List ℕ)
+near_by_one words text = if is_utf8 text then find (is_away 1 text) words else None
 
 -- ---- session arguments
 
@@ -82,6 +93,28 @@ pieces_advice line column (piece ∷ pieces) =
 abbrev pub arguments_advice : ℕ → ℕ → List ℕ → List Advice
 arguments_advice line column text = if list_all is_space text then [] else pieces_advice line column (pieces_of false text)
 
+-- ---- requests of sessions
+
+-- the words of the requests of a service
+abbrev pub words_of : List ℕ → List (List ℕ)
+words_of service =
+    if bytes_eq service (service_name Files) then map word_of forms
+    else (if bytes_eq service (service_name Log) then codes "WRITE" ∷ [] else [])
+
+abbrev pub requests_of : List (List ℕ) → List (List ℕ)
+requests_of services = flat_map words_of services
+
+-- the request that may be meant by a word that is none, and has no name that is to be filled
+abbrev pub misspelt : List (List ℕ) → List ℕ → Option (List ℕ)
+misspelt requests word =
+    if list_any (bytes_eq word) requests then None
+    else (if has_dollar word then None else near_by_one requests word)
+
+abbrev pub misspelt_advice : ℕ → ℕ → List ℕ → Option (List ℕ) → List Advice
+misspelt_advice line column word None = []
+misspelt_advice line column word (Some near) =
+    record { line = line; column = column; text = word; reason = UnknownRequest near } ∷ []
+
 -- ---- lines
 
 -- the bytes of a line before its expected reply and its comment
@@ -104,6 +137,13 @@ abbrev pub rest_advice : ℕ → List ℕ → List ℕ → List Advice
 rest_advice line front rest =
     let text = drop 1 (next_word rest).rest in arguments_advice line (column_in front text) text
 
+-- the first word of the request after the first token
+abbrev pub word_advice : List (List ℕ) → ℕ → List ℕ → List ℕ → List Advice
+word_advice requests line front rest =
+    let text = (next_word rest).rest in
+    let word = (next_word text).word in
+    misspelt_advice line (column_in front (skip_blanks text)) word (misspelt requests word)
+
 -- a call is read in its tokens: the component, the form, and the rest
 abbrev pub form_of : List ℕ → List ℕ
 form_of line = (next_word (next_word (trimmed_line line)).rest).word
@@ -111,19 +151,28 @@ form_of line = (next_word (next_word (trimmed_line line)).rest).word
 abbrev pub after_form : List ℕ → List ℕ
 after_form line = (next_word (next_word (trimmed_line line)).rest).rest
 
--- the form of a session request: of `open` the service and the arguments may be misspelt, of `upgrade` the arguments after the selector
-abbrev pub request_advice : List (List ℕ) → ℕ → List ℕ → List ℕ → List Advice
-request_advice services line form front =
+-- the form of a name, if its calls have advice
+abbrev pub form_named : List ℕ → Option AdvisedForm
+form_named name =
+    if bytes_eq name (codes "open") then Some Open
+    else (if bytes_eq name (codes "upgrade") then Some Upgrade
+    else (if bytes_eq name (codes "call") then Some Call else None))
+
+-- of `open` the service and the arguments may be misspelt, of `upgrade` the arguments after the selector, and of `call` the request.
+-- A session may be one of any service of the list.
+abbrev pub request_advice : List (List ℕ) → ℕ → Option AdvisedForm → List ℕ → List Advice
+request_advice services line None front = []
+request_advice services line (Some Open) front =
     let rest = after_form front in
-    if bytes_eq form (codes "open") then
     service_advice services line (column_in front (skip_blanks rest)) rest ++ rest_advice line front rest
-    else (if bytes_eq form (codes "upgrade") then rest_advice line front rest else [])
+request_advice services line (Some Upgrade) front = rest_advice line front (after_form front)
+request_advice services line (Some Call) front = word_advice (requests_of services) line front (after_form front)
 
 -- a line has advice if it is run, is a call, and its expected reply isn't meant
 abbrev pub advice_on : List (List ℕ) → Option (List ℕ) → ℕ → List ℕ → List Advice
 advice_on services only number line =
     if is_skipped only line || (not (begins_as_call (content_of line)) || is_meant (content_of line)) then []
-    else request_advice services number (form_of line) (front_of line)
+    else request_advice services number (form_named (form_of line)) (front_of line)
 
 abbrev pub is_newline : ℕ → Bool
 is_newline b = b == 10

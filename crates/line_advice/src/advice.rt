@@ -7,6 +7,8 @@ use std::fmt;
 pub enum AdviceReason<'a> {
     /// The text is no service of the start list. The one that may be meant, if one is near.
     UnknownService(Option<&'a str>),
+    /// The text is no request of a session. The request at one edit that may be meant.
+    UnknownRequest(&'static str),
     /// The text is no key of session arguments, so its pair is ignored. The one that may be meant, if one is near.
     UnknownKey(Option<&'static str>),
     /// The text is no pair of session arguments, or its value is none of this key.
@@ -44,6 +46,9 @@ impl fmt::Display for AdviceMessage<'_> {
     fn fmt<W: fmt::Write>(&self, f: &mut fmt::Formatter<W>) -> fmt::Result {
         match self.reason {
             AdviceReason::UnknownService(near) => show_unknown(f, "service", self.text, near),
+            AdviceReason::UnknownRequest(near) => {
+                show_unknown(f, "request", self.text, Some(near))
+            }
             AdviceReason::UnknownKey(near) => show_unknown(f, "session argument", self.text, near),
             AdviceReason::Unread(key) => {
                 f.write_str("expected ")?;

@@ -112,8 +112,8 @@ fn argument_advice<'a>(
     }))
 }
 
-// Returns whether a text has the `$` of a name.
-fn has_dollar(text: &[u8]) -> bool
+/// Returns whether a text has the `$` of a name.
+pub(crate) fn has_dollar(text: &[u8]) -> bool
     ensures { result ≡ has_dollar text.now }
 {
     find_byte(b'$', text).is_some()

@@ -1,14 +1,14 @@
 //! Advice on a line.
-ghost use Rattle.std.specs.Prelude.{◌≡◌, ◌+◌, ◌-◌, ◌<◌, ◌≤◌, ◌^◌, ◌++◌, drop, length, take, OnOk};
-ghost use Rattle.std.specs.List.{list_any};
+ghost use Rattle.std.specs.Prelude.{◌≡◌, ◌+◌, ◌-◌, ◌<◌, ◌≤◌, ◌^◌, ◌++◌, Some, drop, length, take, OnOk};
 ghost use Rattle.std.specs.Option.{option_copied};
-ghost use Rattle.std.specs.Str.{bytes_eq};
-ghost use Rattle.line_advice.specs.Advice.{advice_on, after_form, column_in, form_of, front_of, rest_advice, service_advice};
+ghost use Rattle.line_advice.specs.Advice.{advice_on, after_form, column_in, form_of, front_of, request_advice, requests_of, rest_advice, service_advice, word_advice};
 ghost use Rattle.line_advice.specs.Views.{advices, texts};
 
 use crate::advice::{AdviceReason, LineAdvice};
 use crate::arguments::{TextPlace, advise_arguments};
 use crate::near::near_in;
+use crate::requests::advise_word;
+use crate::services::is_listed;
 use line_friendly::{
     arrow_of, end_of, is_call_line, is_meant, next_word, skip_blanks, trimmed_line,
 };
@@ -16,35 +16,119 @@ use line_steps::is_skipped;
 use std::alloc::{AllocError, Global};
 use text_codec::is_name;
 
+/// The words that lines may have after their forms, by a start list.
+#[derive(Clone, Copy)]
+pub(crate) struct ListWords<'a, 'b> {
+    /// The names of the services.
+    pub(crate) services: &'b [&'a str],
+    /// The words of the services' requests.
+    pub(crate) requests: &'b [&'static str],
+}
+
+/// A form of calls that have advice.
+#[derive(Clone, Copy)]
+pub(crate) enum AdvisedForm {
+    /// `open SERVICE ARGS`.
+    Open,
+    /// `upgrade S ARGS`.
+    Upgrade,
+    /// `call S REQUEST`.
+    Call,
+}
+
+impl AdvisedForm {
+    ghost use Rattle.std.specs.Prelude.{◌≡◌};
+    ghost use Rattle.line_advice.specs.Advice.{form_named};
+
+    // Returns the form of a name, or none if calls of the form have no advice.
+    fn named(name: &[u8]) -> Option<AdvisedForm>
+        ensures { result ≡ form_named name.now }
+    {
+        if name == b"open".as_slice() {
+            Some(AdvisedForm::Open)
+        } else if name == b"upgrade".as_slice() {
+            Some(AdvisedForm::Upgrade)
+        } else if name == b"call".as_slice() {
+            Some(AdvisedForm::Call)
+        } else {
+            None
+        }
+    }
+}
+
 /// Adds the advice on the line with this number. A line whose expected reply is meant has none, nor has one that is skipped if the
 /// lines of the component `only` alone are run. Fails if the host is out of memory.
+#[tactic(auto, using(crate::proofs::AdviceLemmas::unadvised))]
 pub(crate) fn advise_line<'a>(
     alloc: Global,
-    services: &[&'a str],
+    words: ListWords<'a, '_>,
     only: Option<&[u8]>,
     number: usize,
     line: &'a [u8],
     found: &mut Vec<LineAdvice<'a>>,
 ) -> Result<(), AllocError>
+    requires { texts words.requests.now ≡ requests_of (texts words.services.now) }
     ensures { OnOk result (advices found.new.items ≡ advices found.old.items
-        ++ advice_on (texts services.now) (option_copied only.entry) number line.now) }
+        ++ advice_on (texts words.entry.services.now) (option_copied only.entry) number line.now) }
 {
     let (form, _) = split_form(line);
-    let is_open = form == b"open".as_slice();
-    // Few lines have such a request, so that few are read to their end.
-    if !is_open && form != b"upgrade".as_slice() {
+    // Most lines have no such call, so that few are read to their end.
+    let Some(form) = AdvisedForm::named(form) else {
         return Ok(());
-    }
+    };
     if is_skipped(only, line) || !is_call_line(line) || is_meant(line) {
         return Ok(());
     }
-    let front = front_of(line);
+    advise_front(alloc, words, form, number, front_of(line), found)
+}
+
+// Adds the advice on a call of a form, in the bytes of the line with this number before its expected reply.
+fn advise_front<'a>(
+    alloc: Global,
+    words: ListWords<'a, '_>,
+    form: AdvisedForm,
+    number: usize,
+    front: &'a [u8],
+    found: &mut Vec<LineAdvice<'a>>,
+) -> Result<(), AllocError>
+    requires { texts words.requests.now ≡ requests_of (texts words.services.now) }
+    ensures { OnOk result (advices found.new.items ≡ advices found.old.items
+        ++ request_advice (texts words.entry.services.now) number (Some form) front.now) }
+{
     let (_, rest) = split_form(front);
-    if is_open {
-        let at = place_in(number, front, skip_blanks(rest));
-        advise_service(alloc, services, at, rest, found)?;
+    match form {
+        AdvisedForm::Open => {
+            let at = place_in(number, front, skip_blanks(rest));
+            advise_service(alloc, words.services, at, rest, found)?;
+            advise_rest(alloc, number, front, rest, found)
+        }
+        AdvisedForm::Upgrade => advise_rest(alloc, number, front, rest, found),
+        AdvisedForm::Call => advise_request(alloc, words.requests, number, front, rest, found),
     }
-    advise_rest(alloc, number, front, rest, found)
+}
+
+// Adds the advice on the request after the first token of the last bytes of a line's front.
+fn advise_request<'a>(
+    alloc: Global,
+    requests: &[&'static str],
+    number: usize,
+    front: &[u8],
+    rest: &'a [u8],
+    found: &mut Vec<LineAdvice<'a>>,
+) -> Result<(), AllocError>
+    requires { length rest.now ≤ length front.now }
+    ensures { OnOk result (advices found.new.items ≡ advices found.old.items
+        ++ word_advice (texts requests.now) number front.now rest.now) }
+{
+    let (_, text) = next_word(rest);
+    let (word, _) = next_word(text);
+    advise_word(
+        alloc,
+        requests,
+        place_in(number, front, skip_blanks(text)),
+        word,
+        found,
+    )
 }
 
 // Returns the form of the call that a line makes, its second token, and the text after it.
@@ -118,18 +202,6 @@ fn behind_blank(text: &[u8]) -> &[u8]
     ensures within { length result.now ≤ length text.now }
 {
     if text.is_empty() { text } else { &text[1..] }
-}
-
-// Returns whether a service is one of these.
-fn is_listed(services: &[&str], service: &[u8]) -> bool
-    ensures { result ≡ list_any (bytes_eq service.now) (texts services.now) }
-{
-    for name in services {
-        if service == name.as_bytes() {
-            return true;
-        }
-    }
-    false
 }
 
 // Returns the bytes of a line before its expected reply and its comment.

@@ -7,7 +7,8 @@ ghost use Rattle.line_advice.specs.Services.{services_of};
 ghost use Rattle.line_advice.specs.Views.{advices, texts};
 
 use crate::advice::LineAdvice;
-use crate::line::advise_line;
+use crate::line::{ListWords, advise_line};
+use crate::requests::requests_of;
 use crate::services::services_of;
 use list_parser::StartList;
 use std::alloc::{AllocError, Global};
@@ -39,12 +40,17 @@ fn advise_lines<'a>(
     ensures { IfOk result (λ found. advices found.items
         ≡ scenario_advice (texts services.now) (option_copied only.entry) 1 (slice_split is_newline text.now)) }
 {
+    let requests = requests_of(alloc, services)?;
+    let words = ListWords {
+        services,
+        requests: requests.as_slice(),
+    };
     let mut found = Vec::new(alloc);
     let mut number = 1;
     let mut rest = Some(text);
     while let Some(lines) = rest {
         let (line, more) = split_line(lines);
-        advise_line(alloc, services, only, number, line, &mut found)?;
+        advise_line(alloc, words, only, number, line, &mut found)?;
         number += 1;
         rest = more;
     }

@@ -1,5 +1,7 @@
 //! The services of a start list.
 ghost use Rattle.std.specs.Prelude.{◌≡◌, ◌++◌, IfOk, OnOk};
+ghost use Rattle.std.specs.List.{list_any};
+ghost use Rattle.std.specs.Str.{bytes_eq};
 ghost use Rattle.line_advice.specs.Services.{services_in, services_of};
 ghost use Rattle.line_advice.specs.Views.{texts};
 
@@ -27,4 +29,16 @@ fn add_service(names: &mut Vec<&'static str>, entry: &ListEntry) -> Result<(), A
         names.push(service.name())?;
     }
     Ok(())
+}
+
+/// Returns whether a text is one of these words.
+pub(crate) fn is_listed(words: &[&str], text: &[u8]) -> bool
+    ensures { result ≡ list_any (bytes_eq text.now) (texts words.now) }
+{
+    for word in words {
+        if text == word.as_bytes() {
+            return true;
+        }
+    }
+    false
 }

@@ -1,12 +1,13 @@
 -- The word that may have been meant by a misspelt one.
-use Rattle.std.specs.Prelude.{ℕ, ◌*◌, ◌==◌, ◌&&◌, Bool, List, find, length, nat_eq, nat_lt, Option}
+use Rattle.std.specs.Prelude.{ℕ, ◌*◌, ◌==◌, ◌&&◌, Bool, List, find, length, nat_lt, Option}
 use Rattle.std.specs.Option.{option_or}
 use Rattle.std.specs.Str.{chars}
-use Rattle.strsim.specs.Edits.{levenshtein_row}
+use Rattle.strsim.specs.Edits.{osa_table}
 
--- the number of characters that are added, removed or replaced between two words
+-- the number of edits between two words, by optimal string alignment: an edit adds, removes or replaces a character, or exchanges
+-- two neighbouring characters, and no character is edited twice
 abbrev pub edits : List ℕ → List ℕ → ℕ
-edits meant written = levenshtein_row nat_eq (chars meant) (chars written) (length (chars written))
+edits meant written = (osa_table (chars meant) (chars written)).last_row (length (chars written))
 
 -- the words differ by so many edits, fewer than half of the bytes of the meant word
 abbrev pub is_away : ℕ → List ℕ → List ℕ → Bool

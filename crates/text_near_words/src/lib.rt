@@ -4,4 +4,4 @@
 
 mod near;
 
-pub use near::{is_away, nearest};
+pub use near::{is_away, nearest, word_away};

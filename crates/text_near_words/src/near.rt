@@ -4,7 +4,7 @@ ghost use Rattle.std.specs.Option.{option_copied};
 ghost use Rattle.text_near_words.specs.Near.{is_away, nearest};
 
 use std::alloc::{AllocError, Global};
-use strsim::levenshtein;
+use strsim::osa_distance;
 
 /// Returns the word that may have been meant by one that is none of these. It is the first word that is one edit away, or else
 /// two edits. Fails if the host is out of memory.
@@ -22,8 +22,8 @@ pub fn nearest<'a>(
     }
 }
 
-/// Returns the first word that is so many edits away, or none. Fails if the host is out of memory.
-fn word_away<'a>(
+/// Returns the first word that is so many edits away, at most two, or none. Fails if the host is out of memory.
+pub fn word_away<'a>(
     alloc: Global,
     words: &[&'a str],
     count: usize,
@@ -42,10 +42,10 @@ fn word_away<'a>(
 }
 
 /// Returns whether two words differ by exactly `count` edits, and `count` is less than half of the bytes of `meant`. An edit
-/// adds, removes or replaces a character. Fails if the host is out of memory.
+/// adds, removes or replaces a character, or exchanges two neighbouring ones. Fails if the host is out of memory.
 pub fn is_away(alloc: Global, count: usize, written: &str, meant: &str) -> Result<bool, AllocError>
     requires { count ≤ 2 }
     ensures { IfOk result (λ is. is ≡ is_away count written.now meant.now) }
 {
-    Ok(levenshtein(alloc, meant, written)? == count && 2 * count < meant.len())
+    Ok(osa_distance(alloc, meant, written)? == count && 2 * count < meant.len())
 }
