@@ -2,13 +2,13 @@
 ghost use Rattle.std.specs.Prelude.{◌≡◌};
 ghost use Rattle.cli_base.specs.PolicyVerdict.{verdict_status};
 
-use crate::files::read_list;
+use crate::files::{FileReadMessage, read_list};
 use crate::reports::Spot;
 use crate::status::REFUSED;
 use init_core::StartList;
 use list_policy::{Breach, BreachText, Policy, PolicyFault, PolicyLine, exit_status};
 use std::alloc::{AllocError, Global};
-use std::str;
+use std::{fmt, str};
 
 /// The most bytes of a policy.
 const LONGEST_POLICY: usize = 65_536;
@@ -56,6 +56,44 @@ impl PolicyDiagnostic {
     }
 }
 
+/// The reason for which the text of a policy isn't read, with the policy's path.
+#[derive(Clone, Copy)]
+pub enum PolicyTextFailure<'a> {
+    /// The file can't be read.
+    Unread(FileReadMessage<'a>),
+    /// The policy of this path has too many bytes.
+    TooLong(&'a str),
+    /// The policy of this path is no text.
+    NoText(&'a str),
+}
+
+impl fmt::Display for PolicyTextFailure<'_> {
+    fn fmt<W: fmt::Write>(&self, f: &mut fmt::Formatter<W>) -> fmt::Result {
+        match self {
+            PolicyTextFailure::Unread(why) => write!(f, "{why}"),
+            PolicyTextFailure::TooLong(path) => {
+                write!(f, "{path} has more than {LONGEST_POLICY} bytes")
+            }
+            PolicyTextFailure::NoText(path) => write!(f, "{path} is not UTF-8"),
+        }
+    }
+}
+
+/// Reads the text of the policy of a path. Errors in order: the file can't be read; it has more than 65536 bytes; it isn't UTF-8.
+pub fn policy_text<'a>(rt: &HostRuntime, path: &'a str) -> Result<Vec<u8>, PolicyTextFailure<'a>> {
+    let text = match read_list(rt, path) {
+        Ok(text) => text,
+        Err(why) => return Err(PolicyTextFailure::Unread(why.about(path))),
+    };
+    if LONGEST_POLICY < text.len() {
+        return Err(PolicyTextFailure::TooLong(path));
+    }
+    match str::from_utf8(&text) {
+        Ok(_) => Ok(text),
+        Err(_) => Err(PolicyTextFailure::NoText(path)),
+    }
+}
+
 /// Checks a start list against the policy of a path. Returns an error if the host is out of memory.
 pub fn check_policy(
     rt: &HostRuntime,
@@ -63,36 +101,15 @@ pub fn check_policy(
     path: &str,
 ) -> Result<PolicyVerdict, AllocError> {
     let alloc = rt.alloc();
-    match read_list(rt, path) {
-        Ok(bytes) => standing_by(alloc, list, path, &bytes),
-        Err(why) => {
-            let why = why.about(path);
-            Ok(PolicyVerdict::ReadFailure(format!(in alloc; "{why}")?))
-        }
-    }
-}
-
-// Checks a start list against the bytes of a policy, which must be UTF-8 and at most 65536.
-fn standing_by(
-    alloc: Global,
-    list: &StartList,
-    path: &str,
-    bytes: &[u8],
-) -> Result<PolicyVerdict, AllocError> {
-    if LONGEST_POLICY < bytes.len() {
-        return Ok(PolicyVerdict::ReadFailure(format!(in alloc;
-            "{path} has more than {LONGEST_POLICY} bytes"
-        )?));
-    }
-    match str::from_utf8(bytes) {
-        Ok(text) => standing_to(alloc, list, text),
-        Err(_) => Ok(PolicyVerdict::ReadFailure(format!(in alloc; "{path} is not UTF-8")?)),
+    match policy_text(rt, path) {
+        Ok(text) => standing_to(alloc, list, &text),
+        Err(why) => Ok(PolicyVerdict::ReadFailure(format!(in alloc; "{why}")?)),
     }
 }
 
 // Checks a start list against the text of a policy.
-fn standing_to(alloc: Global, list: &StartList, text: &str) -> Result<PolicyVerdict, AllocError> {
-    let policy = Policy::read(alloc, list, text.as_bytes())?;
+fn standing_to(alloc: Global, list: &StartList, text: &[u8]) -> Result<PolicyVerdict, AllocError> {
+    let policy = Policy::read(alloc, list, text)?;
     if policy.faults().is_empty() {
         held(alloc, list, &policy)
     } else {

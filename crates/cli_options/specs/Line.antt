@@ -145,7 +145,8 @@ test =
 abbrev pub diff : Shape
 diff =
     with_rules (codes "diff")
-    (flag_rule (codes "json") ∷ file_rule (codes "before") ∷ file_rule (codes "after") ∷ word_rule (codes "scenario") ∷ [])
+    (flag_rule (codes "json") ∷ option_rule (codes "policy") ∷ option_rule (codes "scenario-after") ∷ set ∷ file_rule (codes "before") ∷ file_rule (codes "after")
+    ∷ word_rule (codes "scenario") ∷ [])
 
 -- the command that prints a page of help
 abbrev pub help : Shape
@@ -162,12 +163,15 @@ least =
     (option_rule (codes "machine") ∷ flag_rule (codes "as-donated") ∷ flag_rule (codes "csv") ∷ flag_rule (codes "json")
     ∷ flag_rule (codes "list") ∷ flag_rule (codes "scenario") ∷ set ∷ file_rule (codes "played") ∷ [])
 
+-- the commands of the program
+abbrev pub shapes : List Shape
+shapes =
+    run ∷ record_shape ∷ check ∷ tree ∷ reach ∷ route ∷ of_scenario (codes "trace") json_flag
+    ∷ of_scenario (codes "accounts") json_flag ∷ alone ∷ least ∷ test ∷ diff ∷ help ∷ []
+
 -- the program itself
 abbrev pub program : App
-program =
-    with_commands bare
-    (run ∷ record_shape ∷ check ∷ tree ∷ reach ∷ route ∷ of_scenario (codes "trace") json_flag
-    ∷ of_scenario (codes "accounts") json_flag ∷ alone ∷ least ∷ test ∷ diff ∷ help ∷ [])
+program = with_commands bare shapes
 
 -- a text denotes that a flag was used
 abbrev pub is_true : Option Text → Bool
@@ -255,6 +259,8 @@ Asks (command.Diff asked) name rows = (name ≡ codes "diff")
     × (asked.before.now ≡ first_or [] (codes "before") rows)
     × (asked.after.now ≡ first_or [] (codes "after") rows)
     × (option_map (λ t. t.now) asked.scenario ≡ first_of (codes "scenario") rows)
+    × (option_map (λ t. t.now) asked.scenario_after ≡ first_of (codes "scenario-after") rows)
+    × (option_map (λ t. t.now) asked.policy ≡ first_of (codes "policy") rows)
 Asks (command.Test asked) name rows = (name ≡ codes "test")
     × (option_map (λ t. t.now) asked.machine ≡ first_of (codes "machine") rows)
     × (option_map (λ t. t.now) asked.junit ≡ first_of (codes "junit") rows)

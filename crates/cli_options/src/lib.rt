@@ -14,5 +14,7 @@ pub use command::{
     AloneOptions, CheckOptions, Color, Command, CommandLine, DiffOptions, LeastOptions,
     ReachOptions, RecordOptions, ReportOptions, RouteOptions, RunOptions, TestOptions, TreeOptions,
 };
-pub use commands::{alone_usage_error, color_value_error, missing_command_error, words_given};
+pub use commands::{
+    alone_usage_error, color_value_error, diff_usage_error, missing_command_error, words_given,
+};
 pub use help::CALLS;

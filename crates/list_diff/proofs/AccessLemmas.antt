@@ -5,10 +5,11 @@ use Rattle.std.specs.Option.{option_map}
 use Rattle.std.proofs.lemmas.List.Elements.{All-contains}
 use Rattle.own_model.specs.Listed.{Listed}
 use Rattle.list_reach.specs.Comparisons.{IsLeast, IsRouted, IsShortest, IsWitness, RoutedLabel, is_gained, is_lost, is_to}
-use Rattle.list_reach.specs.declared.comparison.WitnessedSet.{WitnessedSet}
+use Rattle.list_diff.specs.declared.moved_labels.MovedLabels.{MovedLabels}
 use Rattle.list_diff.specs.Changes.{place_of}
 use Rattle.list_diff.specs.NewAccess.{HasWitness, IsAbout, IsOutOfReach, IsReached, LostAccessIsReported, NewAccessIsReported, reaches}
-use Rattle.list_diff.specs.Reaches.{IsRow, IsRowIf, Pair, Shows, moves_some, routes}
+use Rattle.list_diff.specs.Reaches.{IsRow, IsRowIf, Shows, moves_some}
+use Rattle.list_diff.specs.Routes.{Pair, routes}
 use Rattle.list_diff.specs.declared.reach_changes.ReachChange.{ReachChange}
 use Rattle.list_diff.specs.declared.reach_changes.ReachSide.{ReachSide}
 use Rattle.list_diff.proofs.PairLemmas.{IsAlike, new_compared, old_compared, shown}
@@ -33,10 +34,10 @@ witness_least test all one witness is there passes =
     least_of test all one witness is.0 is.1 is.2 there passes
 
 -- the row of a pair with a gained or a lost label
-abbrev pub HasRow : ReachSide → ReachSide → Pair → WitnessedSet → WitnessedSet → Option ReachChange → Type 0
+abbrev pub HasRow : ReachSide → ReachSide → Pair → MovedLabels → MovedLabels → Option ReachChange → Type 0
 HasRow before after pair gained lost row = (change : ReachChange) × (row ≡ Some change) × IsRow before after pair gained lost change
 
-row_there : (before after : ReachSide) (pair : Pair) (gained lost : WitnessedSet) (row : Option ReachChange) → moves_some gained lost ≡ true
+row_there : (before after : ReachSide) (pair : Pair) (gained lost : MovedLabels) (row : Option ReachChange) → moves_some gained lost ≡ true
     → IsRowIf (moves_some gained lost) before after pair gained lost row → HasRow before after pair gained lost row
 row_there before after pair gained lost row some is = subst (λ b. IsRowIf b before after pair gained lost row) some is
 
@@ -55,15 +56,15 @@ moved_is true true is lost = cc
 moved_is false there is lost = cc
 
 -- the row of one pair
-pub record HasOne (shown : Option ReachChange) (set : ReachChange → WitnessedSet) (pair : Pair) (label : List ℕ) : Type 0 where
+pub record HasOne (shown : Option ReachChange) (moved : ReachChange → MovedLabels) (pair : Pair) (label : List ℕ) : Type 0 where
   pub row : ReachChange
   pub shows : shown ≡ Some row
   pub about : IsAbout pair row
   pub witness : List ℕ
-  pub is : (set row).witness ≡ Some witness
+  pub is : (moved row).set.witness ≡ Some witness
   pub short : length witness ≤ length label
 
-about_pair : (before after : ReachSide) (pair : Pair) (gained lost : WitnessedSet) (row : ReachChange) → IsRow before after pair gained lost row
+about_pair : (before after : ReachSide) (pair : Pair) (gained lost : MovedLabels) (row : ReachChange) → IsRow before after pair gained lost row
     → IsAbout pair row
 about_pair before after pair gained lost row is =
     record { client = ap (λ e. e.path) is.client; service = is.service; server = ap (λ e. e.path) is.server }
@@ -79,18 +80,18 @@ one_gained before after pair shown label shows none reached =
     shows.compared found.0 shows.is.routed found.1 in
     let here : is_to found.0.after now ≡ true = ap (λ c. is_to c now) (routed.after_is ∙ found.3) ∙ child.2 in
     let there : is_to found.0.before was ≡ false = ap (λ c. is_to c was) routed.before_is ∙ none found.0.label routed.given in
-    let least = witness_least (is_gained was now) shows.compared found.0 shows.moves.gained.witness shows.moves.gains found.1
+    let least = witness_least (is_gained was now) shows.compared found.0 shows.moves.gained.set.witness shows.moves.gains found.1
     (moved_is (is_to found.0.after now) (is_to found.0.before was) here there) in
     let short : length found.0.label ≤ length label = found.2 in
     let less : length least.0 ≤ length found.0.label = least.2 in
     let row = row_there before after pair shows.moves.gained shows.moves.lost shown
-    (some_gained shows.moves.gained.witness shows.moves.lost.witness least.0 least.1) shows.moves.is in
+    (some_gained shows.moves.gained.set.witness shows.moves.lost.set.witness least.0 least.1) shows.moves.is in
     record {
       row = row.0;
       shows = row.1;
       about = about_pair before after pair shows.moves.gained shows.moves.lost row.0 row.2;
       witness = least.0;
-      is = ap (λ (f : WitnessedSet). f.witness) row.2.gained ∙ least.1;
+      is = ap (λ (f : MovedLabels). f.set.witness) row.2.gained ∙ least.1;
       short = omega (arith, short, less);
     }
 
@@ -105,18 +106,18 @@ one_lost before after pair shown label shows none reached =
     shows.compared found.0 shows.is.routed found.1 in
     let here : is_to found.0.before was ≡ true = ap (λ c. is_to c was) (routed.before_is ∙ found.3) ∙ child.2 in
     let there : is_to found.0.after now ≡ false = ap (λ c. is_to c now) routed.after_is ∙ none found.0.label routed.given in
-    let least = witness_least (is_lost was now) shows.compared found.0 shows.moves.lost.witness shows.moves.loses found.1
+    let least = witness_least (is_lost was now) shows.compared found.0 shows.moves.lost.set.witness shows.moves.loses found.1
     (moved_is (is_to found.0.before was) (is_to found.0.after now) here there) in
     let short : length found.0.label ≤ length label = found.2 in
     let less : length least.0 ≤ length found.0.label = least.2 in
     let row = row_there before after pair shows.moves.gained shows.moves.lost shown
-    (some_lost shows.moves.gained.witness shows.moves.lost.witness least.0 least.1) shows.moves.is in
+    (some_lost shows.moves.gained.set.witness shows.moves.lost.set.witness least.0 least.1) shows.moves.is in
     record {
       row = row.0;
       shows = row.1;
       about = about_pair before after pair shows.moves.gained shows.moves.lost row.0 row.2;
       witness = least.0;
-      is = ap (λ (f : WitnessedSet). f.witness) row.2.lost ∙ least.1;
+      is = ap (λ (f : MovedLabels). f.set.witness) row.2.lost ∙ least.1;
       short = omega (arith, short, less);
     }
 
@@ -136,10 +137,10 @@ reached_alike list pair other label alike reached =
     record { given = reached.given; there = reaches_alike list pair other label alike ∙ reached.there }
 
 -- the row of the other pair is one of the rows
-reported : (set : ReachChange → WitnessedSet) (rows : List ReachChange) (shown : Option ReachChange) (pair other : Pair) (label : List ℕ)
-    → ((change : ReachChange) → shown ≡ Some change → Contains rows change) → IsAlike pair other → HasOne shown set other label
-    → HasWitness rows set pair label
-reported set rows shown pair other label among alike one =
+reported : (moved : ReachChange → MovedLabels) (rows : List ReachChange) (shown : Option ReachChange) (pair other : Pair) (label : List ℕ)
+    → ((change : ReachChange) → shown ≡ Some change → Contains rows change) → IsAlike pair other → HasOne shown moved other label
+    → HasWitness rows moved pair label
+reported moved rows shown pair other label among alike one =
     record {
       row = one.row;
       there = among one.row one.shows;

@@ -1,4 +1,6 @@
 mod AccessLemmas
+mod BreachLemmas
 mod PairLemmas
 mod ReachLemmas
 mod ReplyLemmas
+mod RouteLemmas

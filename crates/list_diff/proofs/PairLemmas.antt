@@ -16,7 +16,8 @@ use Rattle.list_reach.specs.declared.client_reach.Reach.{Reach}
 use Rattle.list_reach.specs.declared.reach_table.ReachCell.{ReachCell}
 use Rattle.list_diff.specs.Changes.{place_of}
 use Rattle.list_diff.specs.NewAccess.{HasCell}
-use Rattle.list_diff.specs.Reaches.{HasRows, Pair, Shows, cell_at, cell_of, compared_pairs, is_cell, new_pair, new_pairs, old_pair, old_pairs, pair_at, pair_of, pair_unless, reach_of}
+use Rattle.list_diff.specs.Reaches.{HasRows, Shows, cell_at, cell_of, compared_pairs, is_cell, new_pair, new_pairs, old_pair, old_pairs, pair_at, pair_of, pair_unless, reach_of}
+use Rattle.list_diff.specs.Routes.{Pair}
 use Rattle.list_diff.specs.declared.reach_changes.ReachChange.{ReachChange}
 use Rattle.list_diff.specs.declared.reach_changes.ReachSide.{ReachSide}
 

@@ -6,7 +6,9 @@ use Rattle.std.proofs.lemmas.List.{append-nil, append_assoc, take_more}
 use Rattle.std.proofs.lemmas.List.Elements.{All-weaker}
 use Rattle.list_reach.specs.Comparisons.{IsComparison, IsRouted, IsWitness, Represents, RoutedLabel}
 use Rattle.list_reach.specs.declared.comparison.WitnessedSet.{WitnessedSet}
-use Rattle.list_diff.specs.Reaches.{HasRows, IsCompared, IsRow, IsRowIf, Pair, Shows, ShowsMoves, moves_some, routes}
+use Rattle.list_diff.specs.Reaches.{HasRows, IsCompared, IsRow, IsRowIf, Shows, ShowsMoves, moves_some}
+use Rattle.list_diff.specs.Routes.{Pair, routes}
+use Rattle.list_diff.specs.declared.moved_labels.MovedLabels.{MovedLabels}
 use Rattle.list_diff.specs.declared.reach_changes.ReachChange.{ReachChange}
 use Rattle.list_diff.specs.declared.reach_changes.ReachSide.{ReachSide}
 use Rattle.list_diff.specs.declared.reach_changes.ServiceComparison.{ServiceComparison}
@@ -40,13 +42,13 @@ next_rows before after pairs place pair one row old new rows within at is compar
     (rows_more before after (take place pairs) pair row old rows (record { compared = one.compared; is = routed; moves = moves })))
 
 -- a label is gained or lost, and a pair has this row
-pub row_shown : (before after : ReachSide) (pair : Pair) (gained lost : WitnessedSet) (change : ReachChange) → moves_some gained lost ≡ true
+pub row_shown : (before after : ReachSide) (pair : Pair) (gained lost : MovedLabels) (change : ReachChange) → moves_some gained lost ≡ true
     → IsRow before after pair gained lost change → IsRowIf (moves_some gained lost) before after pair gained lost (Some change)
 row_shown before after pair gained lost change some is =
     subst (λ b. IsRowIf b before after pair gained lost (Some change)) (sym some) (change, refl, is)
 
 -- none is
-pub row_hidden : (before after : ReachSide) (pair : Pair) (gained lost : WitnessedSet) → moves_some gained lost ≡ false
+pub row_hidden : (before after : ReachSide) (pair : Pair) (gained lost : MovedLabels) → moves_some gained lost ≡ false
     → IsRowIf (moves_some gained lost) before after pair gained lost None
 row_hidden before after pair gained lost none = subst (λ b. IsRowIf b before after pair gained lost None) (sym none) refl
 
@@ -76,8 +78,10 @@ pub ok_alike : {E : Type 0} (before after old new : List ℕ → Option ℕ) (re
 ok_alike before after old new (Ok compared) olds news is = comparison_alike before after old new compared olds news is
 ok_alike before after old new (Err error) olds news is = is
 
--- a witness by the numbers of a server in other words
-pub witness_at : (test : Option ℕ → Option ℕ → RoutedLabel → Bool) (compared : List RoutedLabel) (witness : Option (List ℕ)) (was now old new : Option ℕ)
-    → was ≡ old → now ≡ new → IsWitness (test was now) compared witness → IsWitness (test old new) compared witness
-witness_at test compared witness was now old new olds news is =
-    subst (λ w. IsWitness (test w new) compared witness) olds (subst (λ n. IsWitness (test was n) compared witness) news is)
+-- the witness of moved labels, by the numbers of a server in other words
+pub witness_at : (test : Option ℕ → Option ℕ → RoutedLabel → Bool) (compared : List RoutedLabel) (set : WitnessedSet) (moved : MovedLabels)
+    (was now old new : Option ℕ) → moved.set ≡ set → was ≡ old → now ≡ new → IsWitness (test was now) compared set.witness
+    → IsWitness (test old new) compared moved.set.witness
+witness_at test compared set moved was now old new same olds news is =
+    subst (λ (s : WitnessedSet). IsWitness (test old new) compared s.witness) (sym same)
+    (subst (λ w. IsWitness (test w new) compared set.witness) olds (subst (λ n. IsWitness (test was n) compared set.witness) news is))

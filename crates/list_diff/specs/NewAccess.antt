@@ -3,10 +3,11 @@ use Rattle.std.specs.Prelude.{◌≡◌, ℕ, ◌≤◌, Bool, true, false, List
 use Rattle.own_model.specs.Listed.{Listed}
 use Rattle.list_labels.specs.GivenLabels.{IsGiven}
 use Rattle.list_reach.specs.Comparisons.{is_to}
-use Rattle.list_reach.specs.declared.comparison.WitnessedSet.{WitnessedSet}
+use Rattle.list_diff.specs.declared.moved_labels.MovedLabels.{MovedLabels}
 use Rattle.list_reach.specs.declared.reach_table.ReachCell.{ReachCell}
 use Rattle.list_diff.specs.Changes.{place_of}
-use Rattle.list_diff.specs.Reaches.{AreReachChanges, Pair, pair_at, routes}
+use Rattle.list_diff.specs.Reaches.{AreReachChanges, pair_at}
+use Rattle.list_diff.specs.Routes.{Pair, routes}
 use Rattle.list_diff.specs.declared.reach_changes.ReachChange.{ReachChange}
 use Rattle.list_diff.specs.declared.reach_changes.ReachSide.{ReachSide}
 
@@ -34,12 +35,12 @@ pub record IsAbout (pair : Pair) (row : ReachChange) : Type 0 where
   pub server : row.server.now.path ≡ pair.server.path
 
 -- one of the rows is of a pair, and its set has a witness that is no longer than a label
-pub record HasWitness (rows : List ReachChange) (set : ReachChange → WitnessedSet) (pair : Pair) (label : List ℕ) : Type 0 where
+pub record HasWitness (rows : List ReachChange) (moved : ReachChange → MovedLabels) (pair : Pair) (label : List ℕ) : Type 0 where
   pub row : ReachChange
   pub there : Contains rows row
   pub about : IsAbout pair row
   pub witness : List ℕ
-  pub is : (set row).witness ≡ Some witness
+  pub is : (moved row).set.witness ≡ Some witness
   pub short : length witness ≤ length label
 
 -- a server that a script reaches after, and didn't reach before

@@ -1,32 +1,19 @@
 -- Which labels of a script's requests are routed to a server on one of two start lists alone.
-use Rattle.std.specs.Prelude.{◌≡◌, ℕ, ◌==◌, ◌&&◌, ◌||◌, Bool, true, false, List, [], ◌∷◌, ◌++◌, find, is_some, if◌then◌else◌, Option, Some, None}
+use Rattle.std.specs.Prelude.{◌≡◌, ℕ, ◌==◌, ◌&&◌, ◌||◌, Bool, true, false, List, [], ◌∷◌, ◌++◌, find, is_some, Option, Some, None}
 use Rattle.std.specs.List.{flat_map, slice_get}
 use Rattle.std.specs.Option.{option_copied, option_map, option_to_list}
 use Rattle.std.specs.Str.{bytes_eq}
 use Rattle.own_model.specs.Listed.{Listed, ListedEntry}
-use Rattle.list_labels.specs.GivenLabels.{leads_to}
 use Rattle.list_reach.specs.Comparisons.{IsComparison, IsWitness, RoutedLabel, is_gained, is_lost}
-use Rattle.list_reach.specs.Paths.{runs_script}
 use Rattle.list_reach.specs.declared.client_reach.Reach.{Reach}
-use Rattle.list_reach.specs.declared.comparison.WitnessedSet.{WitnessedSet}
 use Rattle.list_reach.specs.declared.reach_table.ReachCell.{ReachCell}
 use Rattle.list_diff.specs.Changes.{place_of}
+use Rattle.list_diff.specs.Moves.{AreMoved}
+use Rattle.list_diff.specs.Routes.{Pair, routes}
+use Rattle.list_diff.specs.declared.moved_labels.MovedLabels.{MovedLabels}
 use Rattle.list_diff.specs.declared.reach_changes.ReachChange.{ReachChange}
 use Rattle.list_diff.specs.declared.reach_changes.ReachSide.{ReachSide}
 use Rattle.list_diff.specs.declared.reach_changes.ServiceComparison.{ServiceComparison}
-
--- where a list routes the requests of an entry, by its number, if the entry is a script
-abbrev pub routes_from : Listed → List ℕ → List ℕ → ℕ → Option ListedEntry → Option ℕ
-routes_from list service label client None = None
-routes_from list service label client (Some entry) = if runs_script entry.binary then leads_to list client service label else None
-
-abbrev pub routes_at : Listed → List ℕ → List ℕ → Option ℕ → Option ℕ
-routes_at list service label None = None
-routes_at list service label (Some client) = routes_from list service label client (slice_get list.entries client)
-
--- where a list routes a request for a service with a label, of the script of a path
-abbrev pub routes : Listed → List ℕ → List ℕ → List ℕ → Option ℕ
-routes list path service label = routes_at list service label (place_of list path)
 
 -- the requests of a script for a service are compared on two lists
 abbrev pub IsCompared : Listed → Listed → ServiceComparison → Type 0
@@ -34,12 +21,6 @@ IsCompared before after one =
     IsComparison (routes before one.client.now.path one.service.now) (routes after one.client.now.path one.service.now) one.compared
 
 -- ---- the pairs that are compared
-
--- a script, and a server of a service
-pub record Pair : Type 0 where
-  pub client : ListedEntry
-  pub service : List ℕ
-  pub server : ListedEntry
 
 abbrev pub pair_of : List ℕ → Option ListedEntry → Option ListedEntry → Option Pair
 pair_of service None server = None
@@ -93,7 +74,7 @@ compared_pairs before after = flat_map (old_pairs before) before.cells.now ++ fl
 -- ---- the rows
 
 -- a row has its pair, what both tables have of it, and the labels that are gained and lost
-pub record IsRow (before after : ReachSide) (pair : Pair) (gains losses : WitnessedSet) (row : ReachChange) : Type 0 where
+pub record IsRow (before after : ReachSide) (pair : Pair) (gains losses : MovedLabels) (row : ReachChange) : Type 0 where
   pub client : row.client.now ≡ pair.client
   pub service : row.service.now ≡ pair.service
   pub server : row.server.now ≡ pair.server
@@ -103,20 +84,22 @@ pub record IsRow (before after : ReachSide) (pair : Pair) (gains losses : Witnes
   pub lost : row.lost ≡ losses
 
 -- whether a label is gained or lost
-abbrev pub moves_some : WitnessedSet → WitnessedSet → Bool
-moves_some gained lost = is_some gained.witness || is_some lost.witness
+abbrev pub moves_some : MovedLabels → MovedLabels → Bool
+moves_some gained lost = is_some gained.set.witness || is_some lost.set.witness
 
 -- a pair has a row exactly if a label is gained or lost
-abbrev pub IsRowIf : Bool → ReachSide → ReachSide → Pair → WitnessedSet → WitnessedSet → Option ReachChange → Type 0
+abbrev pub IsRowIf : Bool → ReachSide → ReachSide → Pair → MovedLabels → MovedLabels → Option ReachChange → Type 0
 IsRowIf false before after pair gained lost row = row ≡ None
 IsRowIf true before after pair gained lost row = (change : ReachChange) × (row ≡ Some change) × IsRow before after pair gained lost change
 
--- the row of a pair shows which of some labels its server gains and which ones it loses
+-- the row of a pair shows which of some labels its server gains and which ones it loses, and how both lists route the witnesses
 pub record ShowsMoves (before after : ReachSide) (compared : List RoutedLabel) (pair : Pair) (row : Option ReachChange) : Type 0 where
-  pub gained : WitnessedSet
-  pub lost : WitnessedSet
-  pub gains : IsWitness (is_gained (place_of before.list.now pair.server.path) (place_of after.list.now pair.server.path)) compared gained.witness
-  pub loses : IsWitness (is_lost (place_of before.list.now pair.server.path) (place_of after.list.now pair.server.path)) compared lost.witness
+  pub gained : MovedLabels
+  pub lost : MovedLabels
+  pub gains : IsWitness (is_gained (place_of before.list.now pair.server.path) (place_of after.list.now pair.server.path)) compared gained.set.witness
+  pub gained_routes : AreMoved before.list.now after.list.now pair gained
+  pub loses : IsWitness (is_lost (place_of before.list.now pair.server.path) (place_of after.list.now pair.server.path)) compared lost.set.witness
+  pub lost_routes : AreMoved before.list.now after.list.now pair lost
   pub is : IsRowIf (moves_some gained lost) before after pair gained lost row
 
 -- these labels are routed as both lists route them, and represent all labels on each list

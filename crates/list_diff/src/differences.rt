@@ -2,14 +2,14 @@
 ghost use Rattle.std.specs.Prelude.{◌≡◌};
 ghost use Rattle.list_diff.specs.Differences.{nothing_differs, same_machine};
 
+use crate::breach_changes::BreachChange;
 use crate::entry_changes::EntryChange;
 use crate::need_changes::NeedChange;
 use crate::reach_changes::ReachChange;
 use crate::reply_changes::ReplyChange;
 use list_parser::{ListEntry, StartList};
-use list_reach::WitnessedSet;
 use std::alloc::{AllocError, Global};
-use std::fmt;
+use std::fmt::{self, Display};
 
 /// The differences between two start lists, and between the runs of a scenario on both.
 #[derive(Clone, Copy)]
@@ -22,6 +22,8 @@ pub struct ListDifferences<'a> {
     pub changes: &'a [EntryChange],
     /// The labels that are routed to a server on one list alone.
     pub leads: &'a [ReachChange<'a>],
+    /// The breaches of a policy that one list alone has.
+    pub breaches: &'a [BreachChange<'a>],
     /// The components whose budgets suffice for the scenario before and not after.
     pub lacks: &'a [NeedChange<'a>],
     /// The lines of the scenario whose replies differ.
@@ -36,6 +38,7 @@ impl ListDifferences<'_> {
         self.has_same_machine()
             && self.changes.is_empty()
             && self.leads.is_empty()
+            && self.breaches.is_empty()
             && self.lacks.is_empty()
             && self.replies.is_empty()
     }
@@ -75,7 +78,10 @@ impl fmt::Display for ListDifferences<'_> {
             self.show_change(f, *change)?;
         }
         for lead in self.leads {
-            show_lead(f, lead)?;
+            lead.fmt(f)?;
+        }
+        for breach in self.breaches {
+            breach.fmt(f)?;
         }
         Ok(())
     }
@@ -141,33 +147,5 @@ fn show_means<W: fmt::Write>(f: &mut fmt::Formatter<W>, entry: &ListEntry) -> fm
         Some(service) if entry.provides() => write!(f, ", provides {}", service.name()),
         Some(_) => f.write_str(", provides nothing"),
         None => Ok(()),
-    }
-}
-
-// The labels that are routed to a server on one list alone.
-fn show_lead<W: fmt::Write>(f: &mut fmt::Formatter<W>, lead: &ReachChange<'_>) -> fmt::Result {
-    let (client, server) = (lead.client.to_path(), lead.server.to_path());
-    write!(f, "~ {client} {} {server}:", lead.service)?;
-    show_labels(f, " gained", &lead.gained)?;
-    let is_both = lead.gained.witness.is_some() && lead.lost.witness.is_some();
-    show_labels(f, if is_both { ", lost" } else { " lost" }, &lead.lost)?;
-    f.write_str("\n")
-}
-
-// Labels after a word, with one of the shortest unless there is one label; nothing if there is none.
-fn show_labels<W: fmt::Write>(
-    f: &mut fmt::Formatter<W>,
-    word: &str,
-    found: &WitnessedSet,
-) -> fmt::Result {
-    let Some(witness) = &found.witness else {
-        return Ok(());
-    };
-    f.write_str(word)?;
-    write!(f, " {}", found.labels)?;
-    if found.labels.is_one() {
-        Ok(())
-    } else {
-        write!(f, " (as \"{witness}\")")
     }
 }

@@ -1,15 +1,9 @@
 //! Differences as documents for programs.
 use crate::differences::ListDifferences;
 use crate::entry_changes::EntryChange;
-use crate::label_sets::label_documents;
-use crate::reach_changes::ReachChange;
 use list_parser::{ListEntry, StartList};
-use list_reach::{Reach, WitnessedSet};
 use std::alloc::{AllocError, Global};
-use view_json::{JsonField, Listing, ObjectList};
-
-/// A member of a document.
-type DiffMember<'a> = (&'static str, JsonField<'a>);
+use view_json::{JsonField, JsonMember, Listing};
 
 /// The members for an entry's binary, budget, reserve and service: of an entry after, and of an entry before.
 static MEANS: [&str; 6] = [
@@ -41,7 +35,10 @@ impl ListDifferences<'_> {
             self.add_change(alloc, &mut listing, *change)?;
         }
         for lead in self.leads {
-            add_lead(alloc, &mut listing, lead)?;
+            lead.list(alloc, &mut listing)?;
+        }
+        for breach in self.breaches {
+            breach.list(&mut listing)?;
         }
         for lack in self.lacks {
             lack.list(&mut listing)?;
@@ -89,10 +86,10 @@ fn add_machine(listing: &mut Listing, was: &StartList, now: &StartList) -> Resul
 
 // The members followed by the name of an entry, if there is one, and by its budget, under these names.
 fn with_entry<'a>(
-    mut members: Vec<DiffMember<'a>>,
+    mut members: Vec<JsonMember<'a>>,
     names: &'static [&'static str; 6],
     entry: Option<&'a ListEntry>,
-) -> Result<Vec<DiffMember<'a>>, AllocError> {
+) -> Result<Vec<JsonMember<'a>>, AllocError> {
     let Some(entry) = entry else {
         return Ok(members);
     };
@@ -116,64 +113,4 @@ fn with_entry<'a>(
         members.push((names[5], provided))?;
     }
     Ok(members)
-}
-
-// Adds the labels that are routed to a server on one list alone.
-fn add_lead(
-    alloc: Global,
-    listing: &mut Listing,
-    lead: &ReachChange<'_>,
-) -> Result<(), AllocError> {
-    let gained = label_documents(alloc, &lead.gained.labels)?;
-    let lost = label_documents(alloc, &lead.lost.labels)?;
-    add_labels(listing, lead, &gained, &lost)
-}
-
-// Adds the same, by the documents of both sets of labels.
-fn add_labels<'a>(
-    listing: &mut Listing,
-    lead: &'a ReachChange<'a>,
-    gained: &'a ObjectList,
-    lost: &'a ObjectList,
-) -> Result<(), AllocError> {
-    listing.add(&[
-        ("kind", JsonField::Word("reach")),
-        ("change", JsonField::Word("~")),
-        ("name", JsonField::Text(lead.client.path())),
-        ("service", JsonField::Word(lead.service)),
-        ("to", JsonField::Text(lead.server.path())),
-        ("reach", word_of(lead.now)),
-        ("label", label_of(lead.now)),
-        ("was_reach", word_of(lead.was)),
-        ("was_label", label_of(lead.was)),
-        ("gained", JsonField::List(gained)),
-        ("gained_witness", witness_of(&lead.gained)),
-        ("lost", JsonField::List(lost)),
-        ("lost_witness", witness_of(&lead.lost)),
-    ])
-}
-
-// One of the shortest labels, if there is a label.
-fn witness_of(found: &WitnessedSet) -> JsonField<'_> {
-    match &found.witness {
-        Some(label) => JsonField::Text(label.as_bytes()),
-        None => JsonField::Nothing,
-    }
-}
-
-// The word for how many labels are routed there.
-fn word_of(reach: Option<&Reach>) -> JsonField<'_> {
-    match reach {
-        Some(Reach::Always) => JsonField::Word("always"),
-        Some(Reach::By(_)) => JsonField::Word("some"),
-        Some(Reach::Never) | None => JsonField::Word("none"),
-    }
-}
-
-// One of the labels, if some are routed there and others aren't.
-fn label_of(reach: Option<&Reach>) -> JsonField<'_> {
-    match reach {
-        Some(Reach::By(label)) => JsonField::Text(label.as_bytes()),
-        _ => JsonField::Nothing,
-    }
 }

@@ -1,14 +1,15 @@
 //! Which labels of a script's requests are routed to a server after a change and weren't before, or were before and aren't after.
-ghost use Rattle.std.specs.Prelude.{◌≡◌, ◌<◌, ◌++◌, List, ℕ, find, length, IfOk, IfSome, OnOk};
+ghost use Rattle.std.specs.Prelude.{◌≡◌, ◌++◌, find, IfOk, IfSome, OnOk};
 ghost use Rattle.std.specs.List.{flat_map};
 ghost use Rattle.std.specs.Option.{option_copied, option_map, option_to_list};
-ghost use Rattle.list_reach.specs.Comparisons.{IsComparison, routed_on};
+ghost use Rattle.list_reach.specs.Comparisons.{IsComparison};
 ghost use Rattle.list_diff.specs.Changes.{place_of};
-ghost use Rattle.list_diff.specs.Reaches.{AreReachChanges, HasRows, IsCompared, IsRowIf, ShowsMoves, cell_at, compared_pairs, is_cell, moves_some, new_pairs, old_pairs, pair_at, reach_of, routes};
+ghost use Rattle.list_diff.specs.Reaches.{AreReachChanges, HasRows, IsCompared, IsRowIf, ShowsMoves, cell_at, compared_pairs, is_cell, moves_some, new_pairs, old_pairs, pair_at, reach_of};
+ghost use Rattle.list_diff.specs.Routes.{routes};
 
-use list_labels::SessionRequests;
-use list_parser::{Binary, ListEntry, StartList};
-use list_reach::{Reach, ReachCell, RouteComparison, WitnessedSet};
+use crate::moved_labels::{MovedLabels, requests_of};
+use list_parser::{ListEntry, StartList};
+use list_reach::{Reach, ReachCell, RouteComparison};
 use std::alloc::{AllocError, Global};
 use std::marker::Model;
 
@@ -35,9 +36,9 @@ pub struct ReachChange<'a> {
     /// With which labels the client reaches the server after, if both are there.
     pub now: Option<&'a Reach>,
     /// The labels that are routed to the server after and weren't before.
-    pub gained: WitnessedSet,
+    pub gained: MovedLabels<'a>,
     /// The labels that were routed to the server before and aren't after.
-    pub lost: WitnessedSet,
+    pub lost: MovedLabels<'a>,
 }
 
 /// Compares where requests are routed on two start lists, by the paths of scripts and servers. The pairs of a script and a server
@@ -63,7 +64,7 @@ pub(crate) struct CellPair<'a> {
 }
 
 impl<'a> Model for CellPair<'a> {
-    ghost use Rattle.list_diff.specs.Reaches.{Pair};
+    ghost use Rattle.list_diff.specs.Routes.{Pair};
 
     ghost Value = { Pair };
 
@@ -284,27 +285,6 @@ fn compared(
     RouteComparison::of(alloc, was, now)
 }
 
-// The requests of a script of a list, by its path, for a service.
-fn requests_of<'a>(
-    list: &'a StartList,
-    client: &ListEntry,
-    service: &'static str,
-) -> Option<SessionRequests<'a>>
-    ensures there { IfSome result (λ wishes. wishes.client < length wishes.list.now.entries) }
-    ensures routes { (label : List ℕ)
-        → routed_on result label ≡ routes list.now client.now.path service.now label }
-{
-    let client = list.find(client.path())?;
-    if list.entries()[client].binary() != Binary::Script {
-        return None;
-    }
-    Some(SessionRequests {
-        list,
-        client,
-        service: service.as_bytes(),
-    })
-}
-
 // The rows of pairs. Requests are compared once for pairs that are next to each other.
 fn rows_of<'a>(
     alloc: Global,
@@ -338,8 +318,10 @@ fn row_of<'a>(
 {
     let was = server_in(before.list, pair);
     let now = server_in(after.list, pair);
-    let gained = compared.gained(alloc, was, now)?;
-    let lost = compared.lost(alloc, was, now)?;
+    let gains = compared.gained(alloc, was, now)?;
+    let gained = MovedLabels::of(alloc, before.list, after.list, pair, gains)?;
+    let losses = compared.lost(alloc, was, now)?;
+    let lost = MovedLabels::of(alloc, before.list, after.list, pair, losses)?;
     Ok(row_with(before, after, pair, gained, lost))
 }
 
@@ -348,10 +330,10 @@ fn row_with<'a>(
     before: ReachSide<'a>,
     after: ReachSide<'a>,
     pair: &CellPair<'a>,
-    gained: WitnessedSet,
-    lost: WitnessedSet,
+    gained: MovedLabels<'a>,
+    lost: MovedLabels<'a>,
 ) -> Option<ReachChange<'a>>
-    ensures { IsRowIf (moves_some gained lost) before.entry after.entry pair.now gained lost
+    ensures { IsRowIf (moves_some gained.entry lost.entry) before.entry after.entry pair.now gained.entry lost.entry
         result }
 {
     if has_some(&gained, &lost) {
@@ -361,10 +343,10 @@ fn row_with<'a>(
 }
 
 // Whether a label is gained or lost.
-fn has_some(gained: &WitnessedSet, lost: &WitnessedSet) -> bool
-    ensures { result ≡ moves_some gained.now lost.now }
+fn has_some(gained: &MovedLabels<'_>, lost: &MovedLabels<'_>) -> bool
+    ensures { result ≡ moves_some gained.entry.now lost.entry.now }
 {
-    gained.witness.is_some() || lost.witness.is_some()
+    gained.set.witness.is_some() || lost.set.witness.is_some()
 }
 
 // The row of a pair with the labels that are gained and lost.
@@ -372,16 +354,16 @@ fn change_of<'a>(
     before: ReachSide<'a>,
     after: ReachSide<'a>,
     pair: &CellPair<'a>,
-    gained: WitnessedSet,
-    lost: WitnessedSet,
+    gained: MovedLabels<'a>,
+    lost: MovedLabels<'a>,
 ) -> ReachChange<'a>
     ensures client { result.client.now ≡ pair.now.client }
     ensures service { result.service.now ≡ pair.now.service }
     ensures server { result.server.now ≡ pair.now.server }
     ensures was { option_copied result.was ≡ reach_of before.entry pair.now }
     ensures now { option_copied result.now ≡ reach_of after.entry pair.now }
-    ensures gained { result.gained ≡ gained }
-    ensures lost { result.lost ≡ lost }
+    ensures gained { result.gained ≡ gained.entry }
+    ensures lost { result.lost ≡ lost.entry }
 {
     ReachChange {
         client: pair.client,

@@ -1,6 +1,6 @@
 -- By where each list routes the requests.
 use Rattle.list_reach.specs.Comparisons.{routed_on}
-use Rattle.list_diff.specs.Reaches.{routes}
+use Rattle.list_diff.specs.Routes.{routes}
 use Rattle.list_diff.proofs.ReachLemmas.{ok_alike}
 use Rattle.list_diff.proofs.reach_changes.compared.Goals as goal
 

@@ -13,9 +13,11 @@ returns c =
     record {
       gained = c.in_ok-gained.gained;
       lost = c.in_ok-lost.lost;
-      gains = witness_at is_gained c.args.compared.now c.in_ok-gained.gained.witness was now old new c.server_in-was.ensures c.server_in-now.ensures
-          c.in_ok-gained.ensures;
-      loses = witness_at is_lost c.args.compared.now c.in_ok-lost.lost.witness was now old new c.server_in-was.ensures c.server_in-now.ensures
-          c.in_ok-lost.ensures;
+      gains = witness_at is_gained c.args.compared.now c.in_ok-gains.gains c.in_ok-gained.gained was now old new c.in_ok-gained.ensures.set
+          c.server_in-was.ensures c.server_in-now.ensures c.in_ok-gains.ensures;
+      gained_routes = c.in_ok-gained.ensures.routes;
+      loses = witness_at is_lost c.args.compared.now c.in_ok-losses.losses c.in_ok-lost.lost was now old new c.in_ok-lost.ensures.set
+          c.server_in-was.ensures c.server_in-now.ensures c.in_ok-losses.ensures;
+      lost_routes = c.in_ok-lost.ensures.routes;
       is = c.row_with.ensures;
     }
