@@ -3,7 +3,6 @@ use Rattle.std.proofs.Common.{rules, ◌≡◌, ℕ, ◌<◌, ◌≤◌, true, f
 use Rattle.std.proofs.lemmas.Bool.Decides.{nat_tests}
 use Rattle.std.proofs.lemmas.Slice.Eq.{bytes_eq-Decides}
 use Rattle.std.specs.Prelude.{Result, Ok, Err, MatchResult, is_ok}
-use Rattle.std.specs.Str.{bytes_eq}
 use Rattle.trade_base.specs.declared.refusal.Refusal.{Refusal}
 use Rattle.own_model.specs.Account.{Account}
 use Rattle.own_model.specs.FileService.{File, Files, FileServed, node_size, created, content_credited, rewritten, without, told, error_of, file_named, sized, cleared, dropped, read, written}
@@ -15,60 +14,17 @@ use Rattle.own_model.specs.Growth.{heap_refusal, hole_for, shape_given}
 use Rattle.own_model.specs.Text.{is_name}
 use Rattle.region_map.specs.Regions.{Regions}
 use Rattle.dataspace_core.specs.Store.{Store}
-use Rattle.heap_core.specs.declared.heap.Heap.{Heap}
-use Rattle.sliced_heap.specs.declared.heap.SlicedHeap.{SlicedHeap}
-use Rattle.sliced_heap.specs.Heap.{payer_of}
-use Rattle.sliced_heap.proofs.EndLemmas.{keeps_then}
-use Rattle.std.specs.FinMap.{get}
-use Rattle.own_model.specs.NatMap.{NatMap}
-use Rattle.own_model.specs.Region.{Region}
-use Rattle.file_service.specs.Files.{file_at}
-use Rattle.file_service.specs.SoundHeaps.{Stock, HasSoundHeaps, KeepsLent, KeepsSoundHeaps, KeepsSession}
-use Rattle.file_service.specs.SessionHeaps.{stock_of}
-use Rattle.file_service.specs.declared.session_heaps.SessionHeaps.{SessionHeaps}
-use Rattle.file_service.specs.Index.{previous_at}
-use Rattle.file_service.specs.Node.{FileNode}
-use Rattle.file_service.specs.Node.{value_of as node_value}
-use Rattle.file_service.specs.Session.{files_in, Finds, HasFiles, KeepsOwn, Serves, IsTold, IsFound, served_in}
+use Rattle.session_nodes.specs.SoundHeaps.{Stock}
+use Rattle.session_nodes.specs.SessionHeaps.{stock_of}
+use Rattle.session_nodes.specs.NodeList.{Finds}
+use Rattle.file_service.specs.Session.{files_in, HasFiles, KeepsOwn, Serves, IsTold, served_in}
 use Rattle.file_service.specs.declared.session.FileSession.{FileSession}
-use Rattle.file_service.specs.declared.session.FoundFile.{FoundFile}
-
--- ---- what other accounts have
-
--- nothing is done
-pub keeps_same : (heap : Heap) (sliced : SlicedHeap) (old new : Store) (regions : Regions) → HasSoundHeaps heap sliced old regions → new ≡ old → KeepsSession sliced heap sliced old new regions regions
-keeps_same heap sliced old new regions furnished e = search rules
-
--- what is lent stays through one thing after another
-pub lent_both : (account : ℕ) (old mid new : Store) (regions middle after : Regions) → KeepsLent account old mid regions middle → KeepsLent account mid new middle after → KeepsLent account old new regions after
-lent_both account old mid new regions middle after first next = record {
-  stands = next.stands ∙ first.stands;
-  bytes = λ s r lent. next.bytes s r (ap (λ (m : NatMap Region). get m s) first.stands ∙ lent) ∙ first.bytes s r lent;
-}
-
--- so does a session
-pub stays_both : (heap later : Heap) (sliced between now : SlicedHeap) (old mid new : Store) (regions middle after : Regions) →
-    KeepsSoundHeaps sliced heap between old mid regions middle → KeepsSoundHeaps between later now mid new middle after → KeepsSoundHeaps sliced later now old new regions after
-stays_both heap later sliced between now old mid new regions middle after first next = search (rules, keeps_then)
-
--- one thing after another
-pub keeps_both : (heap later : Heap) (sliced between now : SlicedHeap) (old mid new : Store) (regions middle after : Regions) →
-    KeepsSession sliced heap between old mid regions middle → KeepsSession between later now mid new middle after → KeepsSession sliced later now old new regions after
-keeps_both heap later sliced between now old mid new regions middle after first next = record {
-  stays = stays_both heap later sliced between now old mid new regions middle after first.stays next.stays;
-  lent = lent_both (payer_of sliced) old mid new regions middle after first.lent (subst (λ x. KeepsLent x mid new middle after) first.stays.payer next.lent);
-}
+use Rattle.session_nodes.specs.declared.node_list.FoundNode.{FoundNode}
 
 -- ---- after a search, which leaves the memory
 
-pub keeps_after : {later : Heap} {sliced now : SlicedHeap} {store mid new : Store} {regions after : Regions} → mid ≡ store → KeepsSession sliced later now mid new regions after → KeepsSession sliced later now store new regions after
-keeps_after {later} {sliced} {now} {store} {mid} {new} {regions} {after} same keeps = subst (λ m. KeepsSession sliced later now m new regions after) same keeps
-
-pub furnished_after : {heap : Heap} {sliced : SlicedHeap} {store mid : Store} {regions : Regions} → mid ≡ store → HasSoundHeaps heap sliced store regions → HasSoundHeaps heap sliced mid regions
-furnished_after {heap} {sliced} {store} {mid} {regions} same furnished = subst (λ m. HasSoundHeaps heap sliced m regions) (sym same) furnished
-
-pub files_after : (session : FileSession) (regions : Regions) {store mid : Store} → mid ≡ store → HasFiles session (stock_of session.rooms store regions) → HasFiles session (stock_of session.rooms mid regions)
-files_after session regions same files = subst (λ m. HasFiles session (stock_of session.rooms m regions)) (sym same) files
+pub files_after : (session : FileSession) (regions : Regions) {store mid : Store} → mid ≡ store → HasFiles session (stock_of session.nodes.heaps store regions) → HasFiles session (stock_of session.nodes.heaps mid regions)
+files_after session regions same files = subst (λ m. HasFiles session (stock_of session.nodes.heaps m regions)) (sym same) files
 
 -- ---- a reply that leaves all
 
@@ -79,19 +35,19 @@ serves_told served reply session has files is = search rules
 
 -- also where the memory is told to be the same
 pub serves_same : (served : FileServed) (reply : model.FileReply) (session : FileSession) (old new : Store) (regions : Regions) →
-    HasFiles session (stock_of session.rooms old regions) → new ≡ old →
-    served ≡ told reply (files_in session (stock_of session.rooms old regions)) (stock_of session.rooms old regions).account →
-    Serves served reply session session (stock_of session.rooms new regions)
+    HasFiles session (stock_of session.nodes.heaps old regions) → new ≡ old →
+    served ≡ told reply (files_in session (stock_of session.nodes.heaps old regions)) (stock_of session.nodes.heaps old regions).account →
+    Serves served reply session session (stock_of session.nodes.heaps new regions)
 serves_same served reply session old new regions files e is = search (rules, serves_told)
 
 -- also where all is told to be the same
-pub serves_refused : (served : FileServed) (reply : model.FileReply) (session : FileSession) (rooms : SessionHeaps) (old new : Store) (regions after : Regions) →
-    HasFiles session (stock_of session.rooms old regions) → rooms ≡ session.rooms → new ≡ old → after ≡ regions →
-    served ≡ told reply (files_in session (stock_of session.rooms old regions)) (stock_of session.rooms old regions).account →
-    Serves served reply session (record session { rooms = rooms }) (stock_of rooms new after)
-serves_refused served reply session rooms old new regions after files s e r is =
-    subst (λ x. Serves served reply session (record session { rooms = x }) (stock_of x new after)) (sym s)
-    (subst (λ m. Serves served reply session session (stock_of session.rooms new m)) (sym r) (serves_same served reply session old new regions files e is))
+pub serves_refused : (served : FileServed) (reply : model.FileReply) (session later : FileSession) (old new : Store) (regions after : Regions) →
+    HasFiles session (stock_of session.nodes.heaps old regions) → later ≡ session → new ≡ old → after ≡ regions →
+    served ≡ told reply (files_in session (stock_of session.nodes.heaps old regions)) (stock_of session.nodes.heaps old regions).account →
+    Serves served reply session later (stock_of later.nodes.heaps new after)
+serves_refused served reply session later old new regions after files s e r is =
+    subst (λ x. Serves served reply session x (stock_of x.nodes.heaps new after)) (sym s)
+    (subst (λ m. Serves served reply session session (stock_of session.nodes.heaps new m)) (sym r) (serves_same served reply session old new regions files e is))
 
 -- what is done is served so
 pub serves_done : (served : FileServed) (reply : model.FileReply) (files : Files) (account : Account) (old later : FileSession) (new : Stock) →
@@ -101,27 +57,12 @@ serves_done served reply files account old later new is account_is files_are kep
 
 -- ---- names
 
--- a text that is told to be a name's is it
-pub name_is : (xs ys : List ℕ) → bytes_eq xs ys ≡ true → xs ≡ ys
-name_is xs ys e = (bytes_eq-Decides xs ys).0 e
-
--- a file that is found has the name
-pub found_name : (first last : ℕ) (session : FileSession) (has : Stock) (name : List ℕ) (previous address : ℕ) (node : FileNode) →
-    IsFound first last has.nodes has.contents name previous address node → node.name ≡ name
-found_name first last session has name previous address node found = search (rules, name_is)
-
--- so has the file of its block
-pub file_name : (first last : ℕ) (has : Stock) (name : List ℕ) (previous address : ℕ) (node : FileNode) →
-    IsFound first last has.nodes has.contents name previous address node → (file_at has.nodes has.contents address).name ≡ name
-file_name first last has name previous address node found = name_is (file_at has.nodes has.contents address).name name found.named
-
 -- a file that is found by a name is found by its own, in the memory after the search
-pub found_after : (session : FileSession) (regions : Regions) {store mid : Store} (name : List ℕ) (found : FoundFile) → mid ≡ store → Finds session (stock_of session.rooms store regions) name found →
-    Finds session (stock_of session.rooms mid regions) found.node.name.items found
+pub found_after : (session : FileSession) (regions : Regions) {store mid : Store} (name : List ℕ) (found : FoundNode) → mid ≡ store → Finds session.nodes (stock_of session.nodes.heaps store regions) name found →
+    Finds session.nodes (stock_of session.nodes.heaps mid regions) found.node.name.items found
 found_after session regions {store} name found same finds =
-    let has : Stock = stock_of session.rooms store regions in
-    let called : found.node.name.items ≡ name = found_name session.first session.last session has name (previous_at has.nodes found.address) found.address (node_value found.node) finds in
-    subst (λ m. Finds session (stock_of session.rooms m regions) found.node.name.items found) (sym same) (subst (λ n. Finds session has n found) (sym called) finds)
+    let has : Stock = stock_of session.nodes.heaps store regions in
+    subst (λ m. Finds session.nodes (stock_of session.nodes.heaps m regions) found.node.name.items found) (sym same) (subst (λ n. Finds session.nodes has n found) (sym finds.named) finds)
 
 -- ---- CREATE
 

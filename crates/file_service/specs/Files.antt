@@ -1,31 +1,10 @@
 -- The files of a session, as the blocks of its nodes and its contents hold them.
-use Rattle.std.specs.Prelude.{◌≡◌, ℕ, ◌-◌, ◌<◌, ◌==◌, true, if◌then◌else◌, List, length, map, take, Some}
-use Rattle.std.specs.FinMap.{get, len}
+use Rattle.std.specs.Prelude.{ℕ, ◌-◌, List, map}
 use Rattle.own_model.specs.FileService.{File, Files}
 use Rattle.own_model.specs.Heap.{header}
 use Rattle.own_model.specs.NatMap.{NatMap}
 use Rattle.own_model.specs.OwnHeap.{OwnHeap, chunk_with, offset_of}
-use Rattle.own_model.specs.Sliced.{sliced_header, sliced_size}
-use Rattle.sliced_heap.specs.Chain.{is_listed}
-use Rattle.file_service.specs.Calls.{payload_in, HasBytes}
-use Rattle.file_service.specs.Links.{along, last_of, IsLine}
-use Rattle.file_service.specs.Node.{FileNode, node_of}
-
--- the node whose block's payload starts at an address
-abbrev pub node_at : OwnHeap → ℕ → FileNode
-node_at nodes address = node_of (payload_in nodes.payloads address)
-
--- the link of a holder: the session, which is number 0, has the first one, and each node has the next one
-abbrev pub link_in : ℕ → OwnHeap → ℕ → ℕ
-link_in first nodes holder = if holder == 0 then first else (node_at nodes holder).next
-
--- the addresses of the nodes, in the order of the links
-abbrev pub nodes_from : ℕ → OwnHeap → List ℕ
-nodes_from first nodes = along (link_in first nodes) (len nodes.payloads) 0
-
--- the bytes of a node's file are the front of its content
-abbrev pub bytes_at : NatMap (List ℕ) → FileNode → List ℕ
-bytes_at contents node = take node.size (payload_in contents node.content)
+use Rattle.session_nodes.specs.Order.{node_at, nodes_from, bytes_at}
 
 -- the file of a node, with the place of its block
 abbrev pub file_at : OwnHeap → NatMap (List ℕ) → ℕ → File
@@ -39,25 +18,3 @@ file_at nodes contents address = record {
 -- the files of a session
 abbrev pub files_of : ℕ → OwnHeap → NatMap (List ℕ) → Files
 files_of first nodes contents = record { files = map (file_at nodes contents) (nodes_from first nodes); shape = nodes.shape }
-
--- ---- what is true of them between requests
-
--- a file has a content of as many bytes as it has, unless it is empty
-pub record HasContent (contents : NatMap (List ℕ)) (node : FileNode) : Type 0 where
-  pub payload : List ℕ
-  pub there : get contents node.content ≡ Some payload
-  pub long : length payload ≡ sliced_size node.size - sliced_header
-
--- a block holds a file's node
-pub record IsFile (nodes : OwnHeap) (contents : NatMap (List ℕ)) (block : ℕ) : Type 0 where
-  pub there : HasBytes nodes.payloads block 0 96
-  pub place : chunk_with nodes (block - header) < length nodes.shape.chunks
-  pub content : 0 < (node_at nodes block).size → HasContent contents (node_at nodes block)
-
--- the links connect these blocks in order, each of a file's node; each file that is not empty has a content of its own
-pub record StandAt (first last : ℕ) (nodes : OwnHeap) (contents : NatMap (List ℕ)) (blocks : List ℕ) : Type 0 where
-  pub line : IsLine (link_in first nodes) blocks
-  pub last_is : last ≡ last_of 0 blocks
-  pub each : (b : ℕ) → is_listed blocks b ≡ true → IsFile nodes contents b
-  pub apart : (a b : ℕ) → is_listed blocks a ≡ true → is_listed blocks b ≡ true → 0 < (node_at nodes a).size → 0 < (node_at nodes b).size →
-      (node_at nodes a).content ≡ (node_at nodes b).content → a ≡ b

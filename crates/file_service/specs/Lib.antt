@@ -1,13 +1,3 @@
-pub mod Links
-pub mod SoundHeaps
-pub mod SessionHeaps
-pub mod SessionBuffer
-pub mod Source
-pub mod Node
-pub mod Calls
-pub mod Found
 pub mod Files
-pub mod Index
-pub mod NameLaws
 pub mod Session
 pub mod SeparateBuffer

@@ -1,130 +1,51 @@
--- A session's buffer is separate: neither its files nor what is true of it depends on the buffer's bytes.
-use Rattle.std.proofs.Common.{◌≡◌, ◌≢◌, ℕ, ◌==◌, true, false, true≢false, eqb-true, List, length, drop, Some, is_some, refl, sym, ap, subst, ◌∙◌, arith, inl, inr}
-use Rattle.std.proofs.lemmas.Bool.{cases_eq}
-use Rattle.std.proofs.lemmas.Bool.Decides.{nat_tests}
+-- The buffer that the file service lends is separate: other bytes in it leave a session's files as they are.
+use Rattle.std.proofs.Common.{◌≡◌, ℕ, List, Some, is_some, refl, sym, ap, subst}
 use Rattle.std.proofs.lemmas.Option.{none-some, same_Some}
 use Rattle.std.specs.Prelude.{Option, None}
-use Rattle.std.specs.Option.{option_map}
-use Rattle.std.specs.FinMap.{get, empty, len}
 use Rattle.own_model.specs.NatMap.{NatMap}
-use Rattle.own_model.specs.Moved.{moved_up}
 use Rattle.own_model.specs.OwnHeap.{OwnHeap}
-use Rattle.own_model.specs.Region.{Region}
-use Rattle.own_model.specs.Sliced.{sliced_header}
-use Rattle.own_model.proofs.NatMapLemmas.{picked_alike, get-insert_same, get-insert_other, some_of}
-use Rattle.own_model.proofs.Totals.{len-insert_at}
-use Rattle.region_map.specs.Regions.{of_no_heap}
-use Rattle.dataspace_core.specs.Share.{Share}
-use Rattle.heap_core.specs.Heap.{heap_in}
-use Rattle.heap_core.proofs.StayLemmas.{laid_same, value_same}
-use Rattle.sliced_heap.specs.Window.{block_region}
-use Rattle.sliced_heap.proofs.LinkedLemmas.{alike_linked}
-use Rattle.sliced_heap.proofs.ShareLemmas.{in_numbered, told_region, sliced_number}
-use Rattle.sliced_heap.specs.Heap.{IsNoBlock}
-use Rattle.sliced_heap.specs.Sliced.{sliced_of, sliced_tag, is_sliced_tag, block_regions, payload_of}
-use Rattle.server_frame.specs.SessionBuffer.{LendsAside, AllLendAside, share_with}
-use Rattle.file_service.specs.Files.{files_of}
-use Rattle.file_service.specs.SoundHeaps.{IsShare, HoldsNodes, is_lent_tag}
-use Rattle.file_service.specs.Index.{AreFiles}
-use Rattle.file_service.specs.SessionBuffer.{IsBufferAt, KeepsBuffer, buffer_key}
 use Rattle.own_model.specs.Session.{Labelled}
 use Rattle.own_model.specs.Services.ServiceState.{Filing}
+use Rattle.dataspace_core.specs.Share.{Share}
+use Rattle.heap_core.specs.Heap.{heap_in}
+use Rattle.sliced_heap.specs.Sliced.{sliced_of}
+use Rattle.server_frame.specs.SessionBuffer.{LendsAside, AllLendAside, share_with}
+use Rattle.session_nodes.specs.Index.{AreListed}
+use Rattle.session_nodes.specs.SeparateBuffer as apart
+use Rattle.session_nodes.specs.SessionBuffer.{IsBufferAt, KeepsBuffer, buffer_key}
+use Rattle.session_nodes.specs.declared.session_buffer.SessionBuffer.{SessionBuffer}
+use Rattle.file_service.specs.Files.{files_of}
 use Rattle.file_service.specs.Session.{IsSession, value_of}
 use Rattle.file_service.specs.declared.session.FileSession.{FileSession}
-use Rattle.file_service.specs.declared.session.SessionBuffer.{SessionBuffer}
-
--- what passes for the number of a lent dataspace is that number
-pub lent_number : (o : Option ℕ) → is_lent_tag o ≡ true → o ≡ Some of_no_heap
-lent_number None e = absurd (true≢false (sym e))
-lent_number (Some k) e = ap Some (eqb-true k of_no_heap e)
 
 module _ (session : FileSession) (lent : SessionBuffer) (account : ℕ) (share : Share) (is : IsSession session account share) (stands : IsBufferAt lent share) (same : session.buffer ≡ Some lent) where
-  abbrev region : Region
-  region = record { of = lent.space.0; pages = stands.pages }
-
-  in_lent : (is_lent_tag (get share.tags lent.start) ≡ true) × (get share.heap lent.start ≡ Some region)
-  in_lent = in_numbered is_lent_tag share.heap share.tags lent.start region (ap (λ (m : NatMap Region). get m lent.start) stands.region ∙ get-insert_same empty lent.start region lent.start refl)
-
-  holds : HoldsNodes session.rooms.nodes share
-  holds = is.rooms.nodes stands.possible
-
-  there : (bytes : List ℕ) × (get share.part.spaces lent.space.0 ≡ Some bytes)
-  there = some_of (get share.part.spaces lent.space.0) (stands.possible.paid lent.start region in_lent.1)
-
-  -- no region of another number shows the buffer
-  apart : (s k : ℕ) (r : Region) → get share.heap s ≡ Some r → get share.tags s ≡ Some k → (k == of_no_heap) ≡ false → r.of ≢ lent.space.0
-  apart s k r at tag other e =
-      let here = stands.possible.once s lent.start r region at in_lent.1 e in
-      let same_tag = same_Some k of_no_heap (sym tag ∙ ap (get share.tags) here ∙ lent_number _ in_lent.0) in
-      grind (arith, nat_tests)
-
-  no_block : IsNoBlock share lent.space.0
-  no_block s r block = let at = in_numbered is_sliced_tag share.heap share.tags s r block in apart s sliced_tag r at.1 (sliced_number _ at.0) refl
-
   -- with other bytes in it
   module _ (bytes : List ℕ) where
     abbrev T : Share
     T = share_with lent.space.0 bytes share
 
-    stands_still : (s : ℕ) → block_region T s ≡ block_region share s
-    stands_still s = refl
-
-    chunks_same : (s k : ℕ) (r : Region) → block_region share s ≡ Some (r, k) → get T.part.spaces r.of ≡ get share.part.spaces r.of
-    chunks_same s k r block =
-        let at = told_region share s k r block in
-        let low = at.few in
-        get-insert_other share.part.spaces lent.space.0 bytes r.of (apart s k r at.there at.tag (grind (arith, nat_tests)))
-
-    nodes_same : heap_in session.rooms.nodes T ≡ heap_in session.rooms.nodes share
-    nodes_same = value_same session.rooms.nodes share T holds.laid stands_still chunks_same
+    nodes_same : heap_in session.nodes.heaps.nodes T ≡ heap_in session.nodes.heaps.nodes share
+    nodes_same = apart.nodes_same session.nodes.heaps lent account share is.heaps stands bytes
 
     contents_same : sliced_of T ≡ sliced_of share
-    unfolding sliced_of
-    contents_same =
-        ap (moved_up sliced_header) (picked_alike (payload_of T.part.spaces) (payload_of share.part.spaces) (block_regions share)
-        (λ s r block. ap (option_map (drop sliced_header)) (get-insert_other share.part.spaces lent.space.0 bytes r.of (no_block s r block))))
+    contents_same = apart.contents_same session.nodes.heaps lent account share is.heaps stands bytes
 
     value_still : value_of session T ≡ value_of session share
     value_still = λ i. value_by (nodes_same i) (contents_same i) where
       value_by : OwnHeap → NatMap (List ℕ) → Labelled
-      value_by nodes contents = record { label = session.label.items; state = Filing (files_of session.first nodes contents) }
-
-    possible : IsShare T
-    possible = record {
-      paid = λ s r at. elim (cases_eq r.of lent.space.0) [
-        | inl here ↦ ap is_some (get-insert_same share.part.spaces lent.space.0 bytes r.of here)
-        | inr other ↦ ap is_some (get-insert_other share.part.spaces lent.space.0 bytes r.of other) ∙ stands.possible.paid s r at
-      ];
-      once = stands.possible.once;
-    }
-
-    buffer_still : IsBufferAt lent T
-    buffer_still = record { possible = possible; pages = stands.pages; region = stands.region }
+      value_by nodes contents = record { label = session.label.items; state = Filing (files_of session.nodes.first nodes contents) }
 
     kept_still : IsSession session account T
     kept_still = record {
-      rooms = record {
-        payer = is.rooms.payer;
-        same_payer = is.rooms.same_payer;
-        linked = alike_linked share T session.rooms.contents.first is.rooms.linked refl (λ s r block. get-insert_other share.part.spaces lent.space.0 bytes r.of (no_block s r block));
-        nodes = λ _. record {
-          laid = laid_same session.rooms.nodes share T holds.laid stands_still chunks_same;
-          no_large = ap (λ (h : OwnHeap). h.large) nodes_same ∙ holds.no_large;
-          all = let few = len-insert_at share.part.spaces lent.space.0 bytes there.0 there.1 in
-              let chunks = ap (λ (h : OwnHeap). length h.shape.chunks) nodes_same in
-              let contents = ap len contents_same in
-              let all = holds.all in
-              omega (arith, few, chunks, contents, all);
-        };
-      };
-      files = subst (λ (h : OwnHeap). AreFiles session.first session.last session.root session.recent h (sliced_of T)) (sym nodes_same) (subst (λ m. AreFiles session.first session.last session.root session.recent (heap_in session.rooms.nodes share) m) (sym contents_same) is.files);
-      buffer = subst (λ b. KeepsBuffer b T) (sym same) buffer_still;
+      heaps = apart.kept_still session.nodes.heaps lent account share is.heaps stands bytes;
+      files = subst (λ (h : OwnHeap). AreListed session.nodes.first session.nodes.last session.nodes.root session.nodes.recent h (sliced_of T)) (sym nodes_same) (subst (λ m. AreListed session.nodes.first session.nodes.last session.nodes.root session.nodes.recent (heap_in session.nodes.heaps.nodes share) m) (sym contents_same) is.files);
+      buffer = subst (λ b. KeepsBuffer b T) (sym same) (apart.buffer_still session.nodes.heaps lent account share is.heaps stands bytes);
     }
 
   aside : LendsAside IsSession value_of session account share lent.space.0
   aside = record {
-    paid = ap is_some there.1;
-    no_block = no_block;
+    paid = ap is_some (apart.there session.nodes.heaps lent account share is.heaps stands).1;
+    no_block = apart.no_block session.nodes.heaps lent account share is.heaps stands;
     kept_still = λ bytes long. kept_still bytes;
     value_same = λ bytes long. value_still bytes;
   }

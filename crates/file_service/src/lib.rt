@@ -3,19 +3,10 @@
 #![tactic(auto)]
 
 mod buffer_requests;
-mod contents;
 mod file_requests;
-mod links;
-mod name_tree;
-mod node;
-mod nodes;
 mod read_requests;
 mod service;
 mod session;
-mod session_buffer;
-mod session_heaps;
-mod write_source;
 
-pub use node::LONGEST_NAME;
 pub use service::FileService;
 pub use session::FileSession;

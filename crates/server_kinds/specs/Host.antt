@@ -15,7 +15,7 @@ use Rattle.server_frame.proofs.LentLaws.{lends_nothing}
 use Rattle.server_frame.specs.declared.server.Session.{Session}
 use Rattle.log_service.specs.Session.{LabelledLine, as_kept, IsSession as IsLogSession}
 use Rattle.file_service.specs.SeparateBuffer.{lends_aside}
-use Rattle.file_service.specs.SessionBuffer.{buffer_key}
+use Rattle.session_nodes.specs.SessionBuffer.{buffer_key}
 use Rattle.file_service.specs.Session.{value_of, IsSession as IsFileSession}
 use Rattle.file_service.specs.declared.session.FileSession.{FileSession}
 use Rattle.server_kinds.specs.declared.any_server.AnyServer.{AnyServer}

@@ -2,10 +2,10 @@
 use Rattle.std.proofs.Common.{ap, refl, subst}
 use Rattle.session_proto.specs.File.{HasHex}
 use Rattle.server_frame.specs.declared.effect.Effect.TheVariants.{Nothing}
-use Rattle.file_service.specs.declared.session_heaps.SessionHeaps.{SessionHeaps}
+use Rattle.session_nodes.specs.declared.session_heaps.SessionHeaps.{SessionHeaps}
 use Rattle.file_service.proofs.BufferRequestLemmas.{buffer_answered, files_answered, read_as}
 use Rattle.file_service.proofs.RequestLemmas.{hex_is_short}
-use Rattle.file_service.proofs.ResultLemmas.{keeps_same}
+use Rattle.session_nodes.proofs.ResultLemmas.{keeps_same}
 use Rattle.file_service.proofs.ServeLemmas.{serves_same}
 use Rattle.file_service.proofs.service.answer.Goals as goal
 
@@ -68,7 +68,7 @@ returns-in-Some-Name c =
     let t = c.answer_name.ensures.told in
     record {
       answered = files_answered c.requires.ready a.request.now _ t.0 a.reply.now _ (read_as a.request.now _ _ r.field-0-is r.ensures.request)
-          (keeps_same c.requires.ready.furnished (ap (λ (r : SessionHeaps). r.nodes) c.answer_name.ensures.rooms) (ap (λ (r : SessionHeaps). r.contents) c.answer_name.ensures.rooms) c.answer_name.ensures.memory refl) t.1.0 t.1.1 c.requires.reply;
+          (keeps_same c.requires.ready.furnished (ap (λ (r : SessionHeaps). r.nodes) c.answer_name.ensures.heaps) (ap (λ (r : SessionHeaps). r.contents) c.answer_name.ensures.heaps) c.answer_name.ensures.memory refl) t.1.0 t.1.1 c.requires.reply;
     }
 
 pub returns-in-Some-Size : goal.returns-in-Some-Size

@@ -6,11 +6,11 @@ use Rattle.own_model.specs.FileService.{error_of}
 use Rattle.own_model.specs.FileText.FileReply.{Refused}
 use Rattle.session_proto.specs.FileReply.{model_error}
 use Rattle.server_frame.specs.Session.{holding_of}
-use Rattle.file_service.specs.SessionBuffer.{TakesBuffer}
-use Rattle.file_service.specs.SessionHeaps.{stock_of}
+use Rattle.session_nodes.specs.SessionBuffer.{TakesBuffer}
+use Rattle.session_nodes.specs.SessionHeaps.{stock_of}
 use Rattle.file_service.specs.Session.{lent_reply}
 use Rattle.file_service.proofs.BufferRequestLemmas.{make_refused, make_done}
-use Rattle.file_service.proofs.ResultLemmas.{err_case, err_and}
+use Rattle.session_nodes.proofs.ResultLemmas.{err_case, err_and}
 use Rattle.file_service.proofs.ServeLemmas.{was_ok}
 use Rattle.file_service.proofs.session.FileSession.lend.Goals as goal
 
@@ -27,7 +27,7 @@ returns-in_err-lent-clause-answers c =
 pub returns-clause-answers : goal.returns-clause-answers
 returns-clause-answers c =
     let ok = was_ok c.take_buffer.result c.map_err.result c.in_ok-lent.lent _ c.map_err.ensures.cases c.map_err.ensures.variant c.in_ok-lent.was in
-    let taken = subst (λ r. IfOk r (λ lent. TakesBuffer c.args.bytes lent (stock_of c.args.self.now.rooms c.args.memory.now c.args.map.now) (stock_of c.args.self.now.rooms c.take_buffer.new.memory c.take_buffer.new.map)
-    (holding_of c.args.self.now.rooms.contents c.take_buffer.new.memory c.take_buffer.new.map) c.take_buffer.new.memory)) ok c.take_buffer.ensures.taken in
+    let taken = subst (λ r. IfOk r (λ lent. TakesBuffer c.args.bytes lent (stock_of c.args.self.now.nodes.heaps c.args.memory.now c.args.map.now) (stock_of c.args.self.now.nodes.heaps c.take_buffer.new.memory c.take_buffer.new.map)
+    (holding_of c.args.self.now.nodes.heaps.contents c.take_buffer.new.memory c.take_buffer.new.map) c.take_buffer.new.memory)) ok c.take_buffer.ensures.taken in
     make_done c.requires.ready c.args.bytes (sym c.if-not-is_size.ensures) (sym c.is_some.ensures ∙ c.if-is_some.false) c.in_ok-lent.lent
     (sym c.take_buffer.ensures.refusal ∙ ap result_err ok) taken c.take_buffer.ensures.stays

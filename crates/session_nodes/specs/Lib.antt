@@ -1,0 +1,13 @@
+pub mod Links
+pub mod SoundHeaps
+pub mod SessionHeaps
+pub mod SessionBuffer
+pub mod Source
+pub mod Node
+pub mod Calls
+pub mod Found
+pub mod Order
+pub mod Index
+pub mod NodeList
+pub mod NameLaws
+pub mod SeparateBuffer
