@@ -2,6 +2,7 @@
 import csv
 import io
 import json
+import re
 import shutil
 from xml.etree import ElementTree
 
@@ -86,3 +87,38 @@ def test_rows_as_json(nethrywel, columns, words):
         elif columns is LEAST:
             it["unmeasured"] = " ".join(str(line["line"]) for line in it["unmeasured"])
     assert cells_of(found, *columns) == rows_of(nethrywel(words[0], *["--csv"] * (columns is not TRACE), *words[1:]).out)
+
+
+def ram_of(text):
+    """Returns the bytes of a cell of RAM: a number of K, a number of bytes, or `-`."""
+    return None if text == "-" else int(text[:-1]) * 1024 if text.endswith("K") else int(text)
+
+
+def figures_of(it):
+    """Returns what a document of `accounts --json` has for the columns of the table."""
+    if it["kind"] in ("reserve", "total"):
+        return [None, None, it["ram"], None, None, it["caps"]]
+    return [it.get(f"{kind}_{part}") for kind in ("ram", "caps") for part in ("used", "peak", "limit")]
+
+
+def title_of(it):
+    """Returns the first cell of a document's row."""
+    if it["kind"] == "session":
+        closed = "closed " if it.get("state") == "closed" else ""
+        return f"  {closed}session {it['session']} {it['server']} {it['label']}"
+    return {"reserve": "  reserve", "total": "total"}.get(it["kind"]) or it["name"] + (" gone" if it.get("state") == "gone" else "")
+
+
+@pytest.mark.parametrize("words", [SCENARIO, ["friendly/notes.scenario"], [CASES / "nethrywel/accounts/sessions-of-an-exit"]], ids=str)
+def test_accounts_table(nethrywel, words):
+    """The table of accounts has the figures of its documents, with each session and reserve below its component; its lines are
+    equally long."""
+    found = documents(nethrywel, "accounts", *words)
+    lines = nethrywel("accounts", *words).ok().splitlines()
+    rows = [re.fullmatch(r"(.*?) +(\S+) +(\S+) +(\S+) +(\S+) +(\S+) +(\S+)", it).groups() for it in lines[1:]]
+    assert {len(it) for it in lines} == {len(lines[0])} and all(not it.endswith(" ") for it in lines)
+    owners = [it for it in found if it["kind"] in ("account", "total")]
+    parts = [one for kind in ("reserve", "session") for one in found if one["kind"] == kind]
+    wanted = [one for it in owners for one in (it, *(part for part in parts if part["name"] == it.get("name")))]
+    shown = [(name, *map(ram_of, row[:3]), *(None if it == "-" else int(it) for it in row[3:])) for name, *row in rows]
+    assert shown == [(title_of(it), *figures_of(it)) for it in wanted]

@@ -155,6 +155,10 @@ help = with_rules (codes "help") (word_rule (codes "topic") ∷ [])
 abbrev pub json_flag : List Rule
 json_flag = flag_rule (codes "json") ∷ []
 
+-- the command that prints all accounts
+abbrev pub accounts_shape : Shape
+accounts_shape = of_scenario (codes "accounts") (flag_rule (codes "plain") ∷ flag_rule (codes "json") ∷ [])
+
 -- the command that prints the sufficient budgets of accounts
 abbrev pub least : Shape
 least =
@@ -167,7 +171,7 @@ abbrev pub program : App
 program =
     with_commands bare
     (run ∷ record_shape ∷ check ∷ tree ∷ reach ∷ route ∷ of_scenario (codes "trace") json_flag
-    ∷ of_scenario (codes "accounts") json_flag ∷ alone ∷ least ∷ test ∷ diff ∷ help ∷ [])
+    ∷ accounts_shape ∷ alone ∷ least ∷ test ∷ diff ∷ help ∷ [])
 
 -- a text denotes that a flag was used
 abbrev pub is_true : Option Text → Bool
@@ -233,6 +237,7 @@ Asks (command.Trace asked) name rows = (name ≡ codes "trace")
     × (asked.scenario.now ≡ first_or (codes "-") (codes "scenario") rows)
 Asks (command.Accounts asked) name rows = (name ≡ codes "accounts")
     × (option_map (λ t. t.now) asked.machine ≡ first_of (codes "machine") rows)
+    × (asked.plain ≡ is_set (codes "plain") rows)
     × (asked.json ≡ is_set (codes "json") rows)
     × (asked.scenario.now ≡ first_or (codes "-") (codes "scenario") rows)
 Asks (command.Alone asked) name rows = (name ≡ codes "alone")

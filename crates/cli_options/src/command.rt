@@ -47,9 +47,9 @@ pub enum Command<'a> {
     /// Prints where a session request is routed to, and by which rules.
     Route(RouteOptions<'a>),
     /// Prints a table of all lines, with the use of quota after each line.
-    Trace(ReportOptions<'a>),
+    Trace(TraceOptions<'a>),
     /// Prints all accounts after a scenario.
-    Accounts(ReportOptions<'a>),
+    Accounts(AccountsOptions<'a>),
     /// Prints the sufficient budgets of each account of a scenario.
     Least(LeastOptions<'a>),
     /// Prints the replies to a component in the whole run and alone.
@@ -154,12 +154,25 @@ pub struct RouteOptions<'a> {
     pub args: &'a str,
 }
 
-/// The options of `trace` and `accounts`.
+/// The options of `trace`.
 #[derive(Drop)]
-pub struct ReportOptions<'a> {
+pub struct TraceOptions<'a> {
     /// The path of a start list, if one is named.
     pub machine: Option<&'a str>,
-    /// Whether documents of JSON are written in place of comma-separated values or lines.
+    /// Whether documents of JSON are written in place of comma-separated values.
+    pub json: bool,
+    /// The path of the scenario.
+    pub scenario: &'a str,
+}
+
+/// The options of `accounts`.
+#[derive(Drop)]
+pub struct AccountsOptions<'a> {
+    /// The path of a start list, if one is named.
+    pub machine: Option<&'a str>,
+    /// Whether each account is written as a line of the account list, in place of a table.
+    pub plain: bool,
+    /// Whether a document of JSON is written in place of a table.
     pub json: bool,
     /// The path of the scenario.
     pub scenario: &'a str,
@@ -288,7 +301,8 @@ impl<'a> Command<'a> {
             Command::Tree(asked) => asked.json,
             Command::Reach(asked) => asked.json,
             Command::Route(asked) => asked.json,
-            Command::Trace(asked) | Command::Accounts(asked) => asked.json,
+            Command::Trace(asked) => asked.json,
+            Command::Accounts(asked) => asked.json,
             Command::Least(asked) => asked.json,
             Command::Alone(asked) => asked.json,
             Command::Diff(asked) => asked.json,
@@ -435,7 +449,7 @@ impl<'a> Command<'a> {
     fn trace(found: &ArgMatches<'a>) -> Command<'a>
         ensures { Asks result (codes "trace") (rows_of (found_of found.now)) }
     {
-        Command::Trace(ReportOptions {
+        Command::Trace(TraceOptions {
             machine: found.get_str("machine"),
             json: is_set(found, "json"),
             scenario: path(found, "scenario"),
@@ -446,8 +460,9 @@ impl<'a> Command<'a> {
     fn accounts(found: &ArgMatches<'a>) -> Command<'a>
         ensures { Asks result (codes "accounts") (rows_of (found_of found.now)) }
     {
-        Command::Accounts(ReportOptions {
+        Command::Accounts(AccountsOptions {
             machine: found.get_str("machine"),
+            plain: is_set(found, "plain"),
             json: is_set(found, "json"),
             scenario: path(found, "scenario"),
         })

@@ -129,7 +129,13 @@ pub(crate) const COMMANDS: &[CommandForm<'static>] = &[
     CommandForm {
         name: "accounts",
         about: help::ACCOUNTS,
-        words: &[MACHINE, JSON, SET, SCENARIO],
+        words: &[
+            MACHINE,
+            ArgumentForm::Flag("plain", help::PLAIN),
+            JSON,
+            SET,
+            SCENARIO,
+        ],
     },
     CommandForm {
         name: "alone",

@@ -1,6 +1,6 @@
 //! The command line as `clap` reads it.
 ghost use Rattle.std.specs.Prelude.{◌≡◌, IfOk, MatchResult, false, map};
-ghost use Rattle.clap.specs.Words.{app_of, kind_of, rule_of, with_rule, with_subcommand};
+ghost use Rattle.clap.specs.Words.{App, app_of, kind_of, rule_of, with_rule, with_subcommand};
 ghost use Rattle.clap.specs.declared.builder.command.Command.TheViews.{out-Command};
 ghost use Rattle.cli_options.specs.Line.{IsTold, bare as bare_app, command_told, option_rule, program, rule_told, with_commands, word_rule};
 
@@ -38,8 +38,8 @@ fn with_forms<'a>(
     words: Words<'a>,
     forms: &[CommandForm<'a>],
 ) -> Result<Words<'a>, AllocError>
-    ensures { IfOk result (λ made. app_of made
-        ≡ with_commands (app_of words.entry) (map (λ form. (command_told form).top) forms.now)) }
+    ensures { (app : App) → app_of words.entry ≡ app → IfOk result (λ made. app_of made
+        ≡ with_commands app (map (λ form. (command_told form).top) forms.now)) }
 {
     let mut words = words;
     for form in forms {

@@ -126,7 +126,9 @@ pub(crate) const ROUTE: &str = "Resolve one session request, and show the rules 
 
 pub(crate) const TRACE: &str = "Write a table (CSV) of all calls with use and limits after each";
 
-pub(crate) const ACCOUNTS: &str = "Show all accounts after a scenario, with needs and peaks";
+pub(crate) const ACCOUNTS: &str = "Show use, peaks and limits of all accounts at the end";
+
+pub(crate) const PLAIN: &str = "Write a line per account, with its need";
 
 pub(crate) const ALONE: &str =
     "Compare the replies to NAME, or with --all to each script, with a run of its lines alone";

@@ -17,9 +17,8 @@ impl Command<'_> {
             Command::Run(asked) => are_both(asked.machine, asked.scenario),
             Command::Record(asked) => are_both(asked.machine, asked.scenario),
             Command::Check(asked) => are_both(asked.policy, asked.list),
-            Command::Trace(asked) | Command::Accounts(asked) => {
-                are_both(asked.machine, asked.scenario)
-            }
+            Command::Trace(asked) => are_both(asked.machine, asked.scenario),
+            Command::Accounts(asked) => are_both(asked.machine, asked.scenario),
             Command::Least(asked) => are_both(asked.machine, asked.scenario),
             Command::Alone(asked) => match asked.scenario {
                 Some(scenario) => are_both(asked.machine, scenario),

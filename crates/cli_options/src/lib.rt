@@ -11,8 +11,9 @@ mod help;
 mod input_files;
 
 pub use command::{
-    AloneOptions, CheckOptions, Color, Command, CommandLine, DiffOptions, LeastOptions,
-    ReachOptions, RecordOptions, ReportOptions, RouteOptions, RunOptions, TestOptions, TreeOptions,
+    AccountsOptions, AloneOptions, CheckOptions, Color, Command, CommandLine, DiffOptions,
+    LeastOptions, ReachOptions, RecordOptions, RouteOptions, RunOptions, TestOptions, TraceOptions,
+    TreeOptions,
 };
 pub use commands::{alone_usage_error, color_value_error, missing_command_error, words_given};
 pub use help::CALLS;

@@ -1,9 +1,14 @@
 //! The command `accounts`: the accounts after a scenario.
+ghost use Rattle.std.specs.Prelude.{◌≡◌, IfNone, IfOk, None};
+ghost use Rattle.cli_runs.specs.RunStatus.{HasStatus, start_of};
+ghost use Rattle.cli_runs.specs.declared.view.AccountsForm.{AccountsForm as AccountsForms};
+ghost use Rattle.cli_runs.specs.declared.view.RunView.TheVariants.{Accounts};
+
 use crate::run_end::RunEnd;
 use crate::run_request::{RunRequest, play};
-use crate::view::RunView;
+use crate::view::{AccountsForm, RowsForm, RunView};
 use cli_base::{OutputStream, Reader, Settings, Writer, plain_writer};
-use cli_options::ReportOptions;
+use cli_options::AccountsOptions;
 use run_lines::LineRunFault;
 use run_scenario::ScenarioInput;
 use std::alloc::AllocError;
@@ -14,27 +19,42 @@ use view_accounts::{AccountList, AccountRows, accounts};
 /// Runs a scenario, and prints all accounts at its end. Returns the exit status.
 pub fn list_accounts<'a>(
     rt: &HostRuntime,
-    asked: &'a ReportOptions<'a>,
+    asked: &'a AccountsOptions<'a>,
     settings: Settings<'a>,
 ) -> u8 {
-    let viewing = RunView::Accounts { json: asked.json };
+    let viewing = RunView::Accounts(form_asked(asked));
     play(
         rt,
         asked.machine,
-        RunRequest::whole(asked, settings, viewing),
+        RunRequest::whole(asked.scenario, settings, viewing),
     )
 }
 
-/// Runs a scenario, and prints its account list as a list of JSON if no fault stops the run.
-pub(crate) fn accounts_document(
+// Returns the form that the command line asks for.
+fn form_asked(asked: &AccountsOptions<'_>) -> AccountsForm {
+    if asked.json {
+        AccountsForm::Rows(RowsForm::Json)
+    } else if asked.plain {
+        AccountsForm::Lines
+    } else {
+        AccountsForm::Rows(RowsForm::Table)
+    }
+}
+
+/// Runs a scenario, and prints the rows of its accounts in a form if no fault stops the run.
+pub(crate) fn print_accounts(
     rt: &HostRuntime,
     play: ScenarioInput<'_>,
+    form: RowsForm,
     reader: &mut Reader<'_>,
     complaints: &mut Writer<'_>,
-) -> RunEnd {
+) -> RunEnd
+    ensures status { (view : AccountsForms) → IfOk result.ended (HasStatus (Accounts view)
+        (start_of (Accounts view) play.entry) None) }
+{
     let mut nowhere = plain_writer(rt, OutputStream::Dropped);
     match accounts(rt.alloc(), play, reader, &mut nowhere, complaints) {
-        Ok(list) => print_list(rt, list),
+        Ok(list) => print_list(rt, list, form),
         Err(fault) => RunEnd {
             ended: Err(fault),
             unread: false,
@@ -43,11 +63,13 @@ pub(crate) fn accounts_document(
 }
 
 // Prints an account list, unless a fault stopped the run.
-fn print_list(rt: &HostRuntime, list: AccountList) -> RunEnd {
+fn print_list(rt: &HostRuntime, list: AccountList, form: RowsForm) -> RunEnd
+    ensures { IfOk result.ended (λ ending. IfNone ending.fault (ending ≡ list.entry.ending)) }
+{
     let AccountList { mut ending, rows } = list;
     let mut unread = false;
     if ending.fault.is_none() {
-        if let Err(error) = print_rows(rt, rows) {
+        if let Err(error) = print_rows(rt, rows, form) {
             unread = error.kind() == ErrorKind::BrokenPipe;
             ending.fault = Some(LineRunFault::WriteFault);
         }
@@ -58,8 +80,16 @@ fn print_list(rt: &HostRuntime, list: AccountList) -> RunEnd {
     }
 }
 
-// Prints the rows of an account list as documents.
-fn print_rows(rt: &HostRuntime, rows: Result<AccountRows, AllocError>) -> io::Result<()> {
-    let documents = rows?.documents(rt.alloc())?;
-    io::writer(rt).write_all(documents.as_slice())
+// Prints the rows of an account list in a form.
+fn print_rows(
+    rt: &HostRuntime,
+    rows: Result<AccountRows, AllocError>,
+    form: RowsForm,
+) -> io::Result<()> {
+    let rows = rows?;
+    let text = match form {
+        RowsForm::Table => rows.table(rt.alloc())?,
+        RowsForm::Json => rows.documents(rt.alloc())?,
+    };
+    io::writer(rt).write_all(text.as_slice())
 }

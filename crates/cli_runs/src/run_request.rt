@@ -1,16 +1,16 @@
 //! A scenario's run on a machine, over files and the standard streams.
-ghost use Rattle.std.specs.Prelude.{◌≡◌, ◌==◌, if◌then◌else◌};
+ghost use Rattle.std.specs.Prelude.{◌≡◌, ◌==◌, if◌then◌else◌, IfOk, None};
+ghost use Rattle.cli_runs.specs.RunStatus.{HasStatus, start_of};
 
-use crate::accounts::accounts_document;
+use crate::accounts::print_accounts;
 use crate::run_end::RunEnd;
-use crate::view::{RunView, view};
+use crate::view::{AccountsForm, RunView, view};
 use cli_base::{
     Machine, MachineChoice, Origin, OutputStream, REFUSED, ReadFailure, STANDARD_INPUT, Settings,
     Spot, Warnings, made_or_status, read_whole, report_boot_fault, report_error, unfolded,
     warned_status, writer,
 };
 use cli_engine::Input;
-use cli_options::ReportOptions;
 use init_core::StartList;
 use line_names::RoundMark;
 use run_scenario::{ScenarioInput, near_component};
@@ -48,12 +48,12 @@ pub(crate) const NONE_EARLIER: Counts = Counts {
 impl<'a> RunRequest<'a> {
     /// Returns a run that isn't restricted to one component.
     pub(crate) fn whole(
-        asked: &ReportOptions<'a>,
+        scenario: &'a str,
         settings: Settings<'a>,
         viewing: RunView<'a>,
     ) -> RunRequest<'a> {
         RunRequest {
-            scenario: asked.scenario,
+            scenario,
             settings,
             viewing,
             name: None,
@@ -214,18 +214,21 @@ fn played(
     play: ScenarioInput<'_>,
     viewing: RunView<'_>,
     origin: Origin<'_>,
-) -> RunEnd {
+) -> RunEnd
+    ensures status { IfOk result.ended
+        (HasStatus viewing.entry (start_of viewing.entry play.entry) None) }
+{
     let coloring = viewing.coloring();
     let mut reader = Input::new(origin);
     let stderr = OutputStream::Complained(rt.stderr());
     let mut complaints = writer(rt, stderr, Lines::Complaints, coloring.err);
-    if let RunView::Accounts { json: true } = viewing {
-        return accounts_document(rt, play, &mut reader, &mut complaints);
+    if let RunView::Accounts(AccountsForm::Rows(form)) = viewing {
+        return print_accounts(rt, play, form, &mut reader, &mut complaints);
     }
     let stdout = OutputStream::Printed(io::writer(rt));
     let mut replies = writer(rt, stdout, Lines::Replies, coloring.out);
     let ended = view(
-        rt,
+        rt.alloc(),
         play,
         viewing,
         &mut reader,

@@ -2,18 +2,18 @@
 use crate::run_request::{RunRequest, play};
 use crate::view::RunView;
 use cli_base::Settings;
-use cli_options::ReportOptions;
+use cli_options::TraceOptions;
 
 /// Runs a scenario, and prints a table of its lines. Returns the exit status.
 pub fn trace_scenario<'a>(
     rt: &HostRuntime,
-    asked: &'a ReportOptions<'a>,
+    asked: &'a TraceOptions<'a>,
     settings: Settings<'a>,
 ) -> u8 {
     let viewing = RunView::Trace { json: asked.json };
     play(
         rt,
         asked.machine,
-        RunRequest::whole(asked, settings, viewing),
+        RunRequest::whole(asked.scenario, settings, viewing),
     )
 }

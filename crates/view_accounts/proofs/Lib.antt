@@ -1,6 +1,7 @@
 pub mod AccountViewLemmas
 pub mod AccountingLemmas
 pub mod ClosedLemmas
+pub mod DocumentLemmas
 pub mod HearLemmas
 pub mod KeptLemmas
 pub mod ListLemmas
@@ -8,5 +9,8 @@ pub mod NeedLemmas
 pub mod NotedLemmas
 pub mod OpenLemmas
 pub mod PeakLemmas
+pub mod RowLemmas
+pub mod RunRowLemmas
 pub mod SessionStepLemmas
 pub mod SessionTableLemmas
+pub mod TableLemmas

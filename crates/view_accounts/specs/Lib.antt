@@ -1,7 +1,13 @@
+pub mod AccountDocuments
+pub mod AccountTable
 pub mod Accounting
 pub mod Kept
 pub mod Meters
 pub mod Needs
 pub mod PeakList
 pub mod Peaks
+pub mod Rows
+pub mod RunRows
 pub mod SessionTable
+pub mod Table
+pub mod TableRows

@@ -9,10 +9,13 @@ ghost use Rattle.run_lines.specs.Causes.{HasCause, AppendsPart, is_write_fault a
 ghost use Rattle.run_lines.specs.Faults.{is_write_fault};
 ghost use Rattle.run_lines.specs.declared.run_fault.RunFault.TheVariants.{WriteFault};
 ghost use Rattle.view_accounts.specs.Accounting.{OfSessions, SeesAccounts, accounts_behind, accounts_text, text_kept};
+ghost use Rattle.view_accounts.specs.Rows.{accounts_view};
+ghost use Rattle.view_accounts.specs.RunRows.{ShowsRows, rows_kept};
+ghost use Rattle.run_lines.specs.Machine.{world_of};
 ghost use Rattle.run_scenario.specs.Faults.{fault_before, unplayed};
 ghost use Rattle.run_scenario.specs.RunCalls.{calls_answered};
 ghost use Rattle.run_scenario.specs.LineSteps.{turns_of};
-ghost use Rattle.run_scenario.specs.Writes.{Closes, IsRunFrom, nothing_told, start_at, start_on};
+ghost use Rattle.run_scenario.specs.Writes.{Closes, IsRunFrom, nothing_told, start_at, start_on, turns_on};
 ghost use Rattle.run_lines.specs.declared.line_run_fault.LineRunFault.TheVariants.{NoMemory as NoRoom};
 
 use crate::account_rows::AccountRows;
@@ -55,10 +58,13 @@ pub fn accounts<S: Source, K: Sink, E: Sink>(
 ) -> Result<AccountList, BootFault>
     ensures played { IfOk result (λ accounts. fault_before (S.has_failed reader.old)
         (K.has_failed writer.old || E.has_failed complaints.old) ≡ None →
-        (sessions : OfSessions) × IsRunFrom (start_on None play.entry.start play.entry.list.now)
+        (sessions : OfSessions) × (IsRunFrom (start_on None play.entry.start play.entry.list.now)
         nothing_told (accounts_behind sessions play.entry.list.now) true accounts.ending
         (S.remaining reader.old) (S.remaining reader.new)
-        (S.has_failed reader.new) (K.contents writer.old) (K.contents writer.new)) }
+        (S.has_failed reader.new) (K.contents writer.old) (K.contents writer.new)
+        × ShowsRows sessions play.entry.list.now (world_of play.entry.list.now)
+        (turns_on None play.entry.start play.entry.list.now) accounts.ending.fault
+        (S.remaining reader.old) accounts.rows)) }
     ensures few { IfOk result (λ accounts. accounts.ending.lines ≤ MAX_LINES) }
     ensures writing { IfOk result (λ accounts. (K.has_failed writer.new
         || E.has_failed complaints.new) ≡ is_write_fault accounts.ending.fault) }
@@ -111,12 +117,15 @@ fn run_accounting<R: Router + Drop, S: Source, K: Sink, E: Sink>(
     ensures played { fault_before (S.has_failed reader.old)
         (K.has_failed writer.old || E.has_failed complaints.old) ≡ None →
         (sessions : OfSessions)
-        × IsRunFrom (start_at None stage.entry.core stage.entry.notes.stand
+        × (IsRunFrom (start_at None stage.entry.core stage.entry.notes.stand
         stage.entry.notes.critic.expected) (λ _. [])
         (λ turns. accounts_text sessions stage.entry.run.list.now stage.entry.core
         (calls_answered None turns))
         true result.ending (S.remaining reader.old) (S.remaining reader.new)
-        (S.has_failed reader.new) (K.contents writer.old) (K.contents writer.new) }
+        (S.has_failed reader.new) (K.contents writer.old) (K.contents writer.new)
+        × ShowsRows sessions stage.entry.run.list.now stage.entry.core
+        (turns_of None stage.entry.core stage.entry.notes.stand) result.ending.fault
+        (S.remaining reader.old) result.rows) }
     ensures few { result.ending.lines ≤ MAX_LINES }
     ensures writing { (K.has_failed writer.new || E.has_failed complaints.new)
         ≡ is_write_fault result.ending.fault }
@@ -155,6 +164,7 @@ fn rows_after<R: Router + Drop, E: Sink>(
     bench: &ScenarioRunner<'_, '_, '_, '_, '_, '_, '_, Accounting, E>,
 ) -> Result<AccountRows, AllocError>
     requires listed { core.now.entries ≡ entries_of (start_list_of list.now) }
+    ensures { IfOk result (λ rows. accounts_view rows ≡ rows_kept bench.now.watch.now list.now core.now) }
 {
     AccountRows::of(alloc, core, list, bench.watch)
 }

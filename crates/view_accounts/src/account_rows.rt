@@ -1,7 +1,15 @@
-//! The rows of an account list with needs and peaks, as values and as JSON.
-ghost use Rattle.std.specs.Prelude.{◌≡◌, ◌<◌, length};
+//! The rows of an account list with needs and peaks, as values.
+ghost use Rattle.std.specs.Prelude.{◌≡◌, ◌<◌, ◌∷◌, ◌++◌, [], length, map, IfOk, OnOk};
+ghost use Rattle.std.specs.Option.{option_map};
 ghost use Rattle.own_model.specs.Listed.{start_list_of};
 ghost use Rattle.own_model.specs.StartList.{entries_of};
+ghost use Rattle.own_model.specs.Transcript.{state_at};
+ghost use Rattle.core_calls.specs.Quotas.{quotas_account, reserve_amounts};
+ghost use Rattle.run_lines.specs.Accounts.{listed_at};
+ghost use Rattle.view_accounts.specs.Kept.{noted_in};
+ghost use Rattle.view_accounts.specs.Meters.{needed_in};
+ghost use Rattle.view_accounts.specs.Rows.{account_view, accounts_view, component_view, session_view};
+ghost use Rattle.view_accounts.specs.RunRows.{account_row, closed_kept, closed_row, component_row, entries_in, in_turn, init_row, measures_kept, reserve_row, rows_kept, selector_count, session_row, session_rows};
 
 use crate::accounting::Accounting;
 use crate::needs::AccountNeed;
@@ -13,56 +21,52 @@ use list_parser::StartList;
 use pd_core::{Core, Router};
 use run_lines::{AccountOwner, Sums, sum_all};
 use std::alloc::{AllocError, Global};
-use view_json::{JsonField, Listing};
 
-/// The rows of an account list: of the machine's init, of the components with their reserves, of the open sessions, of the sums
-/// of all limits, and of the closed sessions.
+/// The rows of an account list: of the machine's init, of the components in the order of the list, of the sums of all limits, and
+/// of the closed sessions in the order in which they were closed.
 #[derive(Drop)]
 pub struct AccountRows {
-    rows: Vec<AccountRow>,
+    pub(crate) init: AccountRow,
+    pub(crate) components: Vec<ComponentRows>,
+    pub(crate) total: Sums,
+    pub(crate) closed: Vec<SessionRow>,
 }
 
-// A row.
+/// The account of the machine's init or of a component: its name, use and limits, its need, and its peak.
 #[derive(Drop)]
-enum AccountRow {
-    // The account of the machine's init or of a component.
-    Account {
-        name: Vec<u8>,
-        account: Quotas,
-        measure: AccountMeasure,
-    },
-    // The reserve of a component.
-    Reserve {
-        name: Vec<u8>,
-        reserve: Reserve,
-    },
-    // The session of a component.
-    Session(SessionRow),
-    // The sums of all limits.
-    Total(Sums),
+pub(crate) struct AccountRow {
+    pub(crate) name: Vec<u8>,
+    pub(crate) account: Quotas,
+    pub(crate) needed: AccountNeed,
+    pub(crate) peak: Peak,
 }
 
-// The session of a component; a closed session has no account.
+/// The account of a component, its reserve if it is shown, and its open sessions by rising selector.
 #[derive(Drop)]
-struct SessionRow {
-    name: Vec<u8>,
-    selector: u64,
-    account: Option<Quotas>,
-    measure: AccountMeasure,
-    server: Vec<u8>,
-    label: Vec<u8>,
+pub(crate) struct ComponentRows {
+    pub(crate) account: AccountRow,
+    pub(crate) reserve: Option<Reserve>,
+    pub(crate) sessions: Vec<SessionRow>,
 }
 
-// The need and the peak of an account.
-#[derive(Clone, Copy)]
-struct AccountMeasure {
-    figure: AccountNeed,
-    peak: Peak,
+/// A session: the place and the path of its client, its selector, use and limits if it is open, its need, its peak, its server, and
+/// its label.
+#[derive(Drop)]
+pub(crate) struct SessionRow {
+    pub(crate) component: usize,
+    pub(crate) name: Vec<u8>,
+    pub(crate) selector: u64,
+    pub(crate) account: Option<Quotas>,
+    pub(crate) needed: AccountNeed,
+    pub(crate) peak: Peak,
+    pub(crate) server: Vec<u8>,
+    pub(crate) label: Vec<u8>,
 }
 
 impl AccountRows {
     /// Returns the rows of a machine of a list, by the needs and peaks that were observed. The error is that the host is out of
     /// memory.
+    #[tactic(auto, using(crate::proofs::RowLemmas::rows_made))]
     pub(crate) fn of<R: Router + Drop>(
         alloc: Global,
         core: &Core<R>,
@@ -70,55 +74,86 @@ impl AccountRows {
         watch: &Accounting,
     ) -> Result<AccountRows, AllocError>
         requires listed { core.now.entries ≡ entries_of (start_list_of list.now) }
+        ensures { IfOk result (λ rows. accounts_view rows ≡ rows_kept watch.now list.now core.now) }
     {
-        let mut rows = Vec::new(alloc);
-        rows.push(init_row(alloc, core, list, watch)?)?;
-        for component in 0..list.count() {
-            rows.push(account_row(alloc, core, list, watch, component)?)?;
-            add_reserve(alloc, core, list, component, &mut rows)?;
-        }
-        for component in 0..list.count() {
-            for selector in 0..=core.last_selector(component) {
-                if let Some(row) = session_row(alloc, core, list, watch, component, selector)? {
-                    rows.push(row)?;
-                }
-            }
-        }
-        rows.push(AccountRow::Total(sum_all(core)))?;
-        for closed in watch.needs.sessions.closed.as_slice() {
-            rows.push(closed_row(alloc, list, closed)?)?;
-        }
-        Ok(AccountRows { rows })
-    }
-
-    /// Returns a JSON array with an object for each row. The error is that the host is out of memory.
-    pub fn documents(&self, alloc: Global) -> Result<Vec<u8>, AllocError> {
-        let mut listing = Listing::new(alloc);
-        for row in self.rows.as_slice() {
-            add_row(alloc, &mut listing, row)?;
-        }
-        listing.into_text()
+        // A list has at most 32 components.
+        let _components = list.count();
+        let init = init_row(alloc, core, list, watch)?;
+        let components = components_rows(alloc, core, list, watch)?;
+        let closed = closed_rows(alloc, list, watch.needs.sessions.closed.as_slice())?;
+        Ok(AccountRows {
+            init,
+            components,
+            total: sum_all(core),
+            closed,
+        })
     }
 }
 
 // The row of the machine's init.
+#[tactic(auto, using(crate::proofs::RowLemmas::account_made))]
 fn init_row<R: Router + Drop>(
     alloc: Global,
     core: &Core<R>,
     list: &StartList,
     watch: &Accounting,
-) -> Result<AccountRow, AllocError> {
-    Ok(AccountRow::Account {
-        name: Vec::from_slice(alloc, b"init")?,
+) -> Result<AccountRow, AllocError>
+    ensures { IfOk result (λ row.
+        account_view row ≡ init_row (measures_kept watch.now list.now) core.now) }
+{
+    let name = Vec::from_slice(alloc, b"init")?;
+    Ok(AccountRow {
+        name,
         account: core.init_account(),
-        measure: AccountMeasure {
-            figure: watch.needs.needed(list, AccountOwner::Init),
-            peak: watch.peaks.init,
-        },
+        needed: watch.needs.needed(list, AccountOwner::Init),
+        peak: watch.peaks.init,
+    })
+}
+
+// The rows of all components.
+fn components_rows<R: Router + Drop>(
+    alloc: Global,
+    core: &Core<R>,
+    list: &StartList,
+    watch: &Accounting,
+) -> Result<Vec<ComponentRows>, AllocError>
+    requires listed { core.now.entries ≡ entries_of (start_list_of list.now) }
+    ensures { IfOk result (λ rows. map component_view rows.items ≡ in_turn (λ component.
+        component_row list.now (measures_kept watch.now list.now) core.now component ∷ [])
+        (length list.now.entries)) }
+{
+    let mut components = Vec::new(alloc);
+    for component in 0..list.count() {
+        components.push(component_rows(alloc, core, list, watch, component)?)?;
+    }
+    Ok(components)
+}
+
+// The rows of a component.
+#[tactic(auto, using(crate::proofs::RowLemmas::component_made))]
+fn component_rows<R: Router + Drop>(
+    alloc: Global,
+    core: &Core<R>,
+    list: &StartList,
+    watch: &Accounting,
+    component: usize,
+) -> Result<ComponentRows, AllocError>
+    requires listed { core.now.entries ≡ entries_of (start_list_of list.now) }
+    requires component { component < length list.now.entries }
+    ensures { IfOk result (λ rows. component_view rows
+        ≡ component_row list.now (measures_kept watch.now list.now) core.now component) }
+{
+    let account = account_row(alloc, core, list, watch, component)?;
+    let sessions = sessions_rows(alloc, core, list, watch, component)?;
+    Ok(ComponentRows {
+        account,
+        reserve: reserve_shown(core, list, component),
+        sessions,
     })
 }
 
 // The row of a component's account.
+#[tactic(auto, using(crate::proofs::RowLemmas::account_made))]
 fn account_row<R: Router + Drop>(
     alloc: Global,
     core: &Core<R>,
@@ -128,197 +163,159 @@ fn account_row<R: Router + Drop>(
 ) -> Result<AccountRow, AllocError>
     requires listed { core.now.entries ≡ entries_of (start_list_of list.now) }
     requires component { component < length list.now.entries }
+    ensures { IfOk result (λ row. account_view row
+        ≡ account_row list.now (measures_kept watch.now list.now) core.now component) }
 {
-    Ok(AccountRow::Account {
-        name: Vec::from_slice(alloc, list.name(component))?,
+    let name = Vec::from_slice(alloc, list.name(component))?;
+    Ok(AccountRow {
+        name,
         account: core.account(component),
-        measure: AccountMeasure {
-            figure: watch.needs.needed(list, AccountOwner::Component(component)),
-            peak: watch.peaks.component(component),
-        },
+        needed: watch.needs.needed(list, AccountOwner::Component(component)),
+        peak: watch.peaks.component(component),
     })
 }
 
-// Adds the row of a component's reserve, if the list gives it one or the reserve isn't empty.
-fn add_reserve<R: Router + Drop>(
-    alloc: Global,
+// The reserve of a component, if the list gives it one or the reserve isn't empty.
+fn reserve_shown<R: Router + Drop>(
     core: &Core<R>,
     list: &StartList,
     component: usize,
-    rows: &mut Vec<AccountRow>,
-) -> Result<(), AllocError>
+) -> Option<Reserve>
     requires listed { core.now.entries ≡ entries_of (start_list_of list.now) }
     requires component { component < length list.now.entries }
+    ensures { option_map reserve_amounts result ≡ reserve_row (listed_at list.now component).reserve
+        (state_at core.now.states component).reserve }
 {
     let reserve = core.reserve(component);
     if list.gives_reserve(component) || reserve.ram.0 > 0 || reserve.caps.0 > 0 {
-        let name = Vec::from_slice(alloc, list.name(component))?;
-        rows.push(AccountRow::Reserve { name, reserve })?;
+        Some(reserve)
+    } else {
+        None
     }
-    Ok(())
 }
 
-// The row of the session that a selector of a component names, if it names one.
-fn session_row<R: Router + Drop>(
+// The rows of a component's open sessions.
+fn sessions_rows<R: Router + Drop>(
     alloc: Global,
     core: &Core<R>,
     list: &StartList,
     watch: &Accounting,
     component: usize,
-    selector: u64,
-) -> Result<Option<AccountRow>, AllocError>
+) -> Result<Vec<SessionRow>, AllocError>
     requires listed { core.now.entries ≡ entries_of (start_list_of list.now) }
     requires component { component < length list.now.entries }
+    ensures { IfOk result (λ rows. map session_view rows.items ≡ in_turn (session_rows list.now
+        (measures_kept watch.now list.now) core.now component) selector_count) }
 {
-    let account = core.session_account(component, selector);
-    match watch.peaks.session(component, selector) {
-        Some(session) if account.is_some() => {
-            let owner = AccountOwner::Session {
-                component,
-                selector,
-            };
-            let figure = watch.needs.needed(list, owner);
-            Ok(Some(row_of(alloc, list, session, account, figure)?))
-        }
-        _ => Ok(None),
+    let mut rows = Vec::new(alloc);
+    for selector in 0..core.last_selector(component) + 1 {
+        let named = SessionName {
+            component,
+            selector,
+        };
+        add_session(alloc, core, list, watch, named, &mut rows)?;
     }
+    Ok(rows)
 }
 
-// Returns the row of a closed session.
+// A session: the place of its component, and its selector.
+#[derive(Clone, Copy)]
+struct SessionName {
+    component: usize,
+    selector: u64,
+}
+
+// Adds the row of the session that a selector of a component names, if it names one.
+#[tactic(auto, using(crate::proofs::RowLemmas::none_open, crate::proofs::RowLemmas::none_noted))]
+fn add_session<R: Router + Drop>(
+    alloc: Global,
+    core: &Core<R>,
+    list: &StartList,
+    watch: &Accounting,
+    named: SessionName,
+    rows: &mut Vec<SessionRow>,
+) -> Result<(), AllocError>
+    requires listed { core.now.entries ≡ entries_of (start_list_of list.now) }
+    requires component { named.component < length list.now.entries }
+    ensures { OnOk result (map session_view rows.new.items ≡ map session_view rows.old.items
+        ++ session_rows list.now (measures_kept watch.now list.now) core.now named.component named.selector) }
+{
+    let SessionName {
+        component,
+        selector,
+    } = named;
+    let Some(account) = core.session_account(component, selector) else {
+        return Ok(());
+    };
+    let Some(session) = watch.peaks.session(component, selector) else {
+        return Ok(());
+    };
+    let owner = AccountOwner::Session {
+        component,
+        selector,
+    };
+    let needed = watch.needs.needed(list, owner);
+    let row = row_of(alloc, list, named, session, Some(account), needed)?;
+    rows.push(row)?;
+    Ok(())
+}
+
+// The rows of closed sessions.
+fn closed_rows(
+    alloc: Global,
+    list: &StartList,
+    closed: &[ClosedSession],
+) -> Result<Vec<SessionRow>, AllocError>
+    ensures { IfOk result (λ rows. map session_view rows.items ≡ closed_kept list.now closed.now) }
+{
+    let mut rows = Vec::new(alloc);
+    for session in closed {
+        rows.push(closed_row(alloc, list, session)?)?;
+    }
+    Ok(rows)
+}
+
+// The row of a closed session.
 fn closed_row(
     alloc: Global,
     list: &StartList,
     closed: &ClosedSession,
-) -> Result<AccountRow, AllocError> {
-    row_of(
-        alloc,
-        list,
-        &closed.session,
-        None,
-        AccountNeed::of(closed.need),
-    )
+) -> Result<SessionRow, AllocError>
+    ensures { IfOk result (λ row. session_view row ≡ closed_row (entries_in list.now) closed.now) }
+{
+    let named = SessionName {
+        component: closed.session.component,
+        selector: closed.session.selector,
+    };
+    let needed = AccountNeed::of(closed.need);
+    row_of(alloc, list, named, &closed.session, None, needed)
 }
 
-// Returns the row of a session with this account, or of a closed one, and its need.
+// The row of a session with this account, or of a closed one, and its need.
+#[tactic(auto, using(crate::proofs::RowLemmas::session_made))]
 fn row_of(
     alloc: Global,
     list: &StartList,
+    named: SessionName,
     session: &SessionPeak,
     account: Option<Quotas>,
-    figure: AccountNeed,
-) -> Result<AccountRow, AllocError> {
-    Ok(AccountRow::Session(SessionRow {
-        name: Vec::from_slice(alloc, name_at(list, Some(session.component)))?,
-        selector: session.selector,
+    needed: AccountNeed,
+) -> Result<SessionRow, AllocError>
+    ensures { IfOk result (λ row. session_view row ≡ session_row (entries_in list.now)
+        named.component named.selector (option_map quotas_account account) (needed_in needed)
+        (noted_in session.now)) }
+{
+    let name = Vec::from_slice(alloc, name_at(list, Some(named.component)))?;
+    let server = Vec::from_slice(alloc, name_at(list, session.server))?;
+    let label = Vec::from_slice(alloc, session.label.as_slice())?;
+    Ok(SessionRow {
+        component: named.component,
+        name,
+        selector: named.selector,
         account,
-        measure: AccountMeasure {
-            figure,
-            peak: session.peak,
-        },
-        server: Vec::from_slice(alloc, name_at(list, session.server))?,
-        label: Vec::from_slice(alloc, session.label.as_slice())?,
-    }))
-}
-
-// Adds the document of a row.
-fn add_row(alloc: Global, listing: &mut Listing, row: &AccountRow) -> Result<(), AllocError> {
-    let members = members_of(alloc, row)?;
-    listing.add(members.as_slice())
-}
-
-// The members of a row's document.
-fn members_of<'a>(
-    alloc: Global,
-    row: &'a AccountRow,
-) -> Result<Vec<(&'static str, JsonField<'a>)>, AllocError> {
-    match row {
-        AccountRow::Account {
-            name,
-            account,
-            measure,
-        } => {
-            let members = vec![in alloc;
-                ("kind", JsonField::Word("account")),
-                ("name", JsonField::Text(name.as_slice())),
-            ]?;
-            with_measure(with_quotas(members, *account)?, *measure)
-        }
-        AccountRow::Reserve { name, reserve } => Ok(vec![in alloc;
-            ("kind", JsonField::Word("reserve")),
-            ("name", JsonField::Text(name.as_slice())),
-            ("ram", JsonField::Number(reserve.ram.0)),
-            ("caps", JsonField::Number(u64::from(reserve.caps.0))),
-        ]?),
-        AccountRow::Session(session) => session_members(alloc, session),
-        AccountRow::Total(sums) => Ok(vec![in alloc;
-            ("kind", JsonField::Word("total")),
-            ("ram", sum_of(sums.ram)),
-            ("caps", sum_of(sums.caps)),
-        ]?),
-    }
-}
-
-// The members of a session's document.
-fn session_members<'a>(
-    alloc: Global,
-    session: &'a SessionRow,
-) -> Result<Vec<(&'static str, JsonField<'a>)>, AllocError> {
-    let mut members = vec![in alloc;
-        ("kind", JsonField::Word("session")),
-        ("name", JsonField::Text(session.name.as_slice())),
-        ("session", JsonField::Number(session.selector)),
-    ]?;
-    members = match session.account {
-        Some(account) => with_quotas(members, account)?,
-        None => {
-            members.push(("state", JsonField::Word("closed")))?;
-            members
-        }
-    };
-    members = with_measure(members, session.measure)?;
-    members.push(("server", JsonField::Text(session.server.as_slice())))?;
-    members.push(("label", JsonField::Text(session.label.as_slice())))?;
-    Ok(members)
-}
-
-// Adds members with use and limits.
-fn with_quotas<'a>(
-    mut members: Vec<(&'static str, JsonField<'a>)>,
-    account: Quotas,
-) -> Result<Vec<(&'static str, JsonField<'a>)>, AllocError> {
-    members.push(("ram_used", JsonField::Number(account.ram_used.0)))?;
-    members.push(("ram_limit", JsonField::Number(account.ram_limit.0)))?;
-    members.push((
-        "caps_used",
-        JsonField::Number(u64::from(account.caps_used.0)),
-    ))?;
-    members.push((
-        "caps_limit",
-        JsonField::Number(u64::from(account.caps_limit.0)),
-    ))?;
-    Ok(members)
-}
-
-// Adds members with need and peak; before them that the component has exited, if it has.
-fn with_measure<'a>(
-    mut members: Vec<(&'static str, JsonField<'a>)>,
-    measure: AccountMeasure,
-) -> Result<Vec<(&'static str, JsonField<'a>)>, AllocError> {
-    let AccountMeasure { figure, peak } = measure;
-    if figure.is_gone {
-        members.push(("state", JsonField::Word("gone")))?;
-    }
-    members.push(("ram_need", JsonField::Number(figure.need.ram)))?;
-    members.push(("caps_need", JsonField::Number(figure.need.caps)))?;
-    members.push(("ram_peak", JsonField::Number(peak.ram.0)))?;
-    members.push(("caps_peak", JsonField::Number(u64::from(peak.caps.0))))?;
-    Ok(members)
-}
-
-// Returns a sum as a field, or nothing if it is wider than 64 bits.
-fn sum_of<'a>(sum: u128) -> JsonField<'a> {
-    match u64::try_from(sum) {
-        Ok(sum) => JsonField::Number(sum),
-        Err(_) => JsonField::Nothing,
-    }
+        needed,
+        peak: session.peak,
+        server,
+        label,
+    })
 }

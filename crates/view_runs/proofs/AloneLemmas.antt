@@ -1,12 +1,12 @@
 -- What a name's calls are told hangs on no others' calls.
-use Rattle.std.proofs.Common.{◌≡◌, ℕ, ◌+◌, ◌<◌, ◌^◌, ◌&&◌, Bool, true, false, cond, List, [], ◌∷◌, ◌++◌, length, length-append, codes, decimal, nat_le, Option, Some, None, refl, sym, ◌∙◌, ap, subst, arith}
+use Rattle.std.proofs.Common.{◌≡◌, ℕ, ◌+◌, ◌<◌, ◌^◌, ◌&&◌, Bool, true, false, cond, List, [], ◌∷◌, ◌++◌, length, length-append, map, codes, decimal, nat_le, Option, Some, None, refl, sym, ◌∙◌, ap, subst, arith}
 use Rattle.std.proofs.lemmas.Bool.Decides.{nat_tests}
 use Rattle.std.proofs.lemmas.Slice.Eq.{bytes_eq-Decides}
 use Rattle.own_model.specs.Call.{Spoken, parsed_call}
 use Rattle.own_model.specs.OwnStep.{own_step}
 use Rattle.std.specs.List.{flat_map}
 use Rattle.std.specs.Option.{option_map_or}
-use Rattle.own_model.specs.Reply.{log_text, reply_text}
+use Rattle.own_model.specs.Reply.{log_text, printed, reply_text}
 use Rattle.own_model.specs.LinesOfName.{component_of, is_line_of, is_under, said_by}
 use Rattle.own_model.specs.StartList.{Entry, Kind}
 use Rattle.own_model.specs.StartList.Kind.{Script, Server, Init}
@@ -117,7 +117,7 @@ told_none_of name start earlier number call none = rw (not_said name call (is_li
 -- of the name's both answers
 pub told_both_of : (name : List ℕ) (start core : World) (earlier : List (List ℕ)) (number : ℕ) (call : List ℕ) (whole alone : LineAnswer) → core ≡ after_all (Some name) start earlier →
     IsAnswer (world_running start earlier) (heard start.entries call) whole → AnswersLine (Some name) core call (Some alone) →
-    (decimal number ++ codes ": " ++ call ++ option_map_or in_brackets (line_text call) [] ++ 10 ∷ []) ++ (codes "  whole: " ++ answer_text (Some whole)) ++ (codes "  alone: " ++ answer_text (Some alone)) ≡ alone_call_text name start earlier number call
+    (decimal number ++ codes ": " ++ map printed call ++ option_map_or in_brackets (line_text call) [] ++ 10 ∷ []) ++ (codes "  whole: " ++ answer_text (Some whole)) ++ (codes "  alone: " ++ answer_text (Some alone)) ≡ alone_call_text name start earlier number call
 told_both_of name start core earlier number call whole alone leads in_whole in_alone =
     let here : IsAnswer (after_all (Some name) start earlier) (heard start.entries call) alone = subst (λ (w : World). IsAnswer w (heard w.entries call) alone) leads in_alone.1 in
     rw (

@@ -1,4 +1,5 @@
 pub mod AloneLemmas
 pub mod AnswerLemmas
+pub mod PrintedLemmas
 pub mod RowLemmas
 pub mod ViewLemmas

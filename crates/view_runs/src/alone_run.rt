@@ -1,8 +1,9 @@
 //! The replies to one component in the whole run, and in a run of its own lines alone.
-ghost use Rattle.std.specs.Prelude.{◌≡◌, ◌≢◌, ◌≤◌, ◌∷◌, ◌++◌, ◌||◌, [], ℕ, List, codes, decimal, length, false, true, is_err, IfOk, IfErr, IfNone, IfSome, OnErr, OnOk, None, Some};
+ghost use Rattle.std.specs.Prelude.{◌≡◌, ◌≢◌, ◌≤◌, ◌∷◌, ◌++◌, ◌||◌, [], ℕ, List, codes, decimal, length, map, false, true, is_err, IfOk, IfErr, IfNone, IfSome, OnErr, OnOk, None, Some};
 ghost use Rattle.std.specs.Option.{option_map_or};
 ghost use Rattle.std.specs.Result.{result_err};
 ghost use Rattle.own_model.specs.Listed.{start_list_of};
+ghost use Rattle.own_model.specs.Reply.{printed};
 ghost use Rattle.own_model.specs.StartList.{Boots, entries_of};
 ghost use Rattle.list_parser.specs.Quota.{quota_fault};
 ghost use Rattle.list_parser.specs.declared.fault.BootFault.TheVariants.{NoMemory};
@@ -12,7 +13,7 @@ ghost use Rattle.line_grammar.specs.Read.{IsReadAs};
 ghost use Rattle.run_lines.specs.Causes.{HasCause};
 ghost use Rattle.run_scenario.specs.Faults.{fault_before, unplayed};
 ghost use Rattle.run_lines.specs.Faults.{is_write_fault};
-ghost use Rattle.view_runs.specs.Alone.{AreAlike, SeesAlone, alone_behind, alone_sum, alone_call_text, alone_text};
+ghost use Rattle.view_runs.specs.Alone.{AreAlike, CountsAlone, SeesAlone, alone_behind, alone_sum, alone_call_text, alone_text};
 ghost use Rattle.run_scenario.specs.RunCalls.{calls_answered, text_of_steps};
 ghost use Rattle.run_scenario.specs.Texts.{in_brackets, line_text};
 ghost use Rattle.run_scenario.specs.LineSteps.{turns_of};
@@ -20,6 +21,7 @@ ghost use Rattle.run_scenario.specs.Writes.{Closes, IsRunFrom, IsWrittenBy, star
 ghost use Rattle.run_lines.specs.declared.line_run_fault.LineRunFault.TheVariants.{NoMemory as NoRoom};
 
 use crate::byte_text::{put_text_after, shown_in};
+use crate::printed_bytes::put_printed;
 use arrayvec::ArrayVec;
 use core_calls::Reply;
 use init_core::boot;
@@ -201,7 +203,7 @@ fn put_both<K: Sink>(
     requires read { IsReadAs heard.now.line.now heard.now.call }
     ensures told { OutputsUnless result (K.contents writer.old) gathered.old
         (K.contents writer.new) gathered.new
-        ((decimal heard.now.number ++ codes ": " ++ heard.now.line.now
+        ((decimal heard.now.number ++ codes ": " ++ map printed heard.now.line.now
         ++ option_map_or in_brackets (line_text heard.now.line.now) [] ++ 10 ∷ [])
         ++ (codes "  whole: " ++ answer_text (Some heard.now.answer))
         ++ (codes "  alone: " ++ answer_text (Some alone.now))) }
@@ -222,7 +224,7 @@ fn put_heard<K: Sink>(
     requires read { IsReadAs heard.now.line.now heard.now.call }
     ensures told { OutputsUnless result (K.contents writer.old) gathered.old
         (K.contents writer.new) gathered.new
-        (decimal heard.now.number ++ codes ": " ++ heard.now.line.now
+        (decimal heard.now.number ++ codes ": " ++ map printed heard.now.line.now
         ++ option_map_or in_brackets (line_text heard.now.line.now) [] ++ 10 ∷ []) }
     ensures failing { K.has_failed writer.new ≡ is_err result }
 {
@@ -231,7 +233,7 @@ fn put_heard<K: Sink>(
     gathered.put(writer, b"\n")
 }
 
-// Gathers a line after its number.
+// Gathers a line after its number, as the log prints bytes.
 fn put_line<K: Sink>(
     number: u64,
     line: &[u8],
@@ -240,12 +242,12 @@ fn put_line<K: Sink>(
 ) -> Result<(), DeviceFault>
     requires { K.has_failed writer.old ≡ false }
     ensures told { OutputsUnless result (K.contents writer.old) gathered.old
-        (K.contents writer.new) gathered.new (decimal number ++ codes ": " ++ line.now) }
+        (K.contents writer.new) gathered.new (decimal number ++ codes ": " ++ map printed line.now) }
     ensures failing { K.has_failed writer.new ≡ is_err result }
 {
     put_number(number, gathered, writer)?;
     gathered.put(writer, b": ")?;
-    gathered.put(writer, line)
+    put_printed(line, gathered, writer)
 }
 
 // Gathers an answer after the name of its side.
@@ -266,7 +268,7 @@ fn put_side<K: Sink>(
 }
 
 /// Runs a scenario on a machine, and the lines of one name alone on a second machine. For each of these lines it writes the
-/// number and the line with the text of its bytes. It also writes the line's answers in the whole run and alone. At the end it
+/// number and the line, as the log prints bytes, with the text of its bytes. It also writes the line's answers in the whole run and alone. At the end it
 /// writes how many these lines are, and that their answers are the same. They always are the same: each component's answers are
 /// those of its own run. Errors of lines are written as they are found.
 ///
@@ -294,6 +296,11 @@ pub fn alone<S: Source, K: Sink, E: Sink>(
         false compared.ending
         (S.remaining reader.old) (S.remaining reader.new)
         (S.has_failed reader.new) (K.contents writer.old) (K.contents writer.new)) }
+    ensures counts { IfOk result (λ compared. fault_before (S.has_failed reader.old)
+        (K.has_failed writer.old || E.has_failed complaints.old) ≡ None →
+        IfNone compared.ending.fault (CountsAlone name.now
+        (start_on None play.entry.start play.entry.list.now) (S.remaining reader.old)
+        compared.ending.complaints compared.lines)) }
     ensures same { IfOk result (λ compared. fault_before (S.has_failed reader.old)
         (K.has_failed writer.old || E.has_failed complaints.old) ≡ None →
         IfNone compared.ending.fault (compared.difference ≡ None)) }
@@ -360,6 +367,11 @@ fn run_alone<'a, R: Router + Drop, Q: Router + Drop, S: Source, K: Sink, E: Sink
         (λ _. alone_sum named.now.name.now result.lines)
         false result.ending (S.remaining reader.old) (S.remaining reader.new)
         (S.has_failed reader.new) (K.contents writer.old) (K.contents writer.new) }
+    ensures counts { fault_before (S.has_failed reader.old)
+        (K.has_failed writer.old || E.has_failed complaints.old) ≡ None →
+        IfNone result.ending.fault (CountsAlone named.now.name.now
+        (start_at None machines.whole notes.old.stand notes.old.critic.expected)
+        (S.remaining reader.old) result.ending.complaints result.lines) }
     ensures same { fault_before (S.has_failed reader.old)
         (K.has_failed writer.old || E.has_failed complaints.old) ≡ None →
         IfNone result.ending.fault (result.difference ≡ None) }

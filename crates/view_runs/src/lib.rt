@@ -9,6 +9,7 @@ mod answer_list;
 mod byte_text;
 mod csv_rows;
 mod json_rows;
+mod printed_bytes;
 mod row_format;
 mod trace_row;
 mod tracing;

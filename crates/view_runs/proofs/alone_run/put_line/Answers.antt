@@ -13,4 +13,4 @@ returns-in_err-put-clause-told g c =
     (_, Tells-front _ (Tells-more c.in_ok-put_number.ensures.told (c.in_err-put.ensures.told.1)))
 
 pub returns-clause-told : goal.returns-clause-told
-returns-clause-told g c = told_more _ _ _ _ (Tells-more c.in_ok-put_number.ensures.told c.in_ok-put.ensures.told) c.put-2.ensures.told
+returns-clause-told g c = told_more _ _ _ _ (Tells-more c.in_ok-put_number.ensures.told c.in_ok-put.ensures.told) c.put_printed.ensures.told

@@ -1,0 +1,120 @@
+-- The rows that are kept are those after the calls so far.
+use Rattle.std.proofs.Common.{◌≡◌, ℕ, ◌<◌, Bool, true, cond, List, [], ◌∷◌, ◌++◌, append-nil, is_some, length, Option, Some, None, IfNone, IfOk, IfSome, Result, Ok, Err, refl, sym, ◌∙◌, ap, subst}
+use Rattle.std.proofs.lemmas.Option.{none-some}
+use Rattle.std.specs.declared.alloc.AllocError.{AllocError}
+use Rattle.std.specs.Option.{option_map}
+use Rattle.own_model.specs.Listed.{Listed, start_list_of}
+use Rattle.own_model.specs.Session.{Session}
+use Rattle.own_model.specs.StartList.{entries_of}
+use Rattle.own_model.specs.Text.{lines_of}
+use Rattle.own_model.specs.World.{World, world_running}
+use Rattle.line_steps.specs.RunPosition.{RunPosition}
+use Rattle.run_lines.specs.LineRuns.{EndsFor}
+use Rattle.run_lines.specs.declared.columns.AccountOwner.TheVariants as owner
+use Rattle.run_lines.specs.declared.line_run_fault.LineRunFault.{LineRunFault}
+use Rattle.run_lines.proofs.AccountLemmas.{entries_listed}
+use Rattle.run_scenario.specs.LineSteps.{LineStep, turns_of}
+use Rattle.run_scenario.specs.RunCalls.{calls_answered}
+use Rattle.run_scenario.specs.Judging.{Awaited}
+use Rattle.run_scenario.specs.ScenarioRuns.{CountsErrors, RunsAll, most_lines, tally}
+use Rattle.run_scenario.specs.Writes.{Closes, WritesAfter}
+use Rattle.run_scenario.specs.declared.scenario_end.ScenarioEnd.{ScenarioEnd}
+use Rattle.view_accounts.specs.Accounting.{SeesAccounts, sessions_kept, text_kept}
+use Rattle.view_accounts.specs.Kept.{found}
+use Rattle.view_accounts.specs.Needs.{Needed}
+use Rattle.view_accounts.specs.Peaks.{Noted, noted_of, session_at}
+use Rattle.view_accounts.specs.Rows.{accounts_view}
+use Rattle.view_accounts.specs.RunRows.{Measures, ShowsRows, account_row, component_row, entries_in, in_turn, init_row, measures_after, measures_kept, open_row, rows_after, rows_kept, selector_count, session_rows}
+use Rattle.view_accounts.specs.declared.account_rows.AccountRows.{AccountRows}
+use Rattle.view_accounts.specs.declared.accounting.Accounting.{Accounting}
+use Rattle.view_accounts.proofs.NeedLemmas.{below_is, running_is}
+use Rattle.view_accounts.proofs.RowLemmas.{in_turn-alike}
+
+module _ (watch : Accounting) (listed : Listed) {start : World} {calls : List (List ℕ)} (sees : SeesAccounts watch listed start calls) (entries : start.entries ≡ entries_of (start_list_of listed)) where
+  abbrev now : World
+  now = world_running start calls
+
+  abbrev kept : Measures
+  kept = measures_kept watch listed
+
+  abbrev after : Measures
+  after = measures_after (sessions_kept watch) listed start calls
+
+  inside : {component : ℕ} → component < length listed.entries → component < length start.entries
+  inside {component} within = subst (λ n. component < n) (sym (entries_listed listed start entries)) within
+
+  open_is : (needed : Needed) (component selector : ℕ) (session : Option Session) (noted : Option Noted) (is : Noted) → noted ≡ cond (is_some session) (Some is) None →
+      open_row (entries_in listed) needed component selector (option_map (λ (s : Session). s.account) session) noted
+      ≡ open_row (entries_in listed) needed component selector (option_map (λ (s : Session). s.account) session) (Some is)
+  open_is needed component selector (Some session) noted is same = ap (open_row (entries_in listed) needed component selector (Some session.account)) same
+  open_is needed component selector None noted is same = refl
+
+  sessions_are : (component : ℕ) → component < length listed.entries → in_turn (session_rows listed kept now component) selector_count ≡ in_turn (session_rows listed after now component) selector_count
+  sessions_are component within =
+      in_turn-alike (session_rows listed kept now component) (session_rows listed after now component) selector_count
+      (λ selector less.
+      open_is (kept.needs (owner.Session component selector)) component selector (session_at component selector now) (found watch.peaks.sessions component selector)
+      (noted_of listed start calls component selector) (sees.peaks.of_sessions component selector (inside within)))
+
+  component_is : (component : ℕ) → component < length listed.entries → component_row listed kept now component ≡ component_row listed after now component
+  component_is component within = λ i. record {
+    account = record {
+      name = (account_row listed after now component).name;
+      account = (account_row listed after now component).account;
+      needed = running_is listed sees.needs entries component within i;
+      peak = sees.peaks.of_components component (inside within) i;
+    };
+    reserve = (component_row listed after now component).reserve;
+    sessions = sessions_are component within i;
+  }
+
+  init_is : init_row kept now ≡ init_row after now
+  init_is = λ i. record {
+    name = (init_row after now).name;
+    account = (init_row after now).account;
+    needed = below_is listed sees.needs entries None i;
+    peak = sees.peaks.of_init i;
+  }
+
+  components_are : in_turn (λ component. component_row listed kept now component ∷ []) (length listed.entries) ≡ in_turn (λ component. component_row listed after now component ∷ []) (length listed.entries)
+  components_are =
+      in_turn-alike (λ component. component_row listed kept now component ∷ []) (λ component. component_row listed after now component ∷ []) (length listed.entries)
+      (λ component less. ap (λ row. row ∷ []) (component_is component less))
+
+  pub rows_are : rows_kept watch listed now ≡ rows_after (sessions_kept watch) listed start calls
+  rows_are = λ i. record {
+    init = init_is i;
+    components = components_are i;
+    total = (rows_kept watch listed now).total;
+    closed = (rows_kept watch listed now).closed;
+  }
+
+pub rows_played : (watch : Accounting) (listed : Listed) {first : RunPosition} {start last : World} {awaited : Awaited} {input rest w w' w'' : Option (List ℕ)} {failed : Bool} (played ended : ScenarioEnd) (rows : Result AccountRows AllocError) →
+    start.entries ≡ entries_of (start_list_of listed) →
+    RunsAll (λ _ _ _. []) true (SeesAccounts watch listed start) (CountsErrors None start (tally 0 awaited) played.complaints) None first played.fault played.lines start last [] input rest failed w w' → Closes played ended w' w'' (text_kept watch listed last) →
+    IfOk rows (λ shown. accounts_view shown ≡ rows_kept watch listed last) → ShowsRows (sessions_kept watch) listed start (turns_of None start first) ended.fault input rows
+rows_played watch listed {first = first} {start = start} {last = last} {input = input} {rest = rest} {w' = w'} {w'' = w''} {failed = failed} played ended rows entries plays closes shows =
+    by played.fault ended.fault closes.writes plays.sees plays.ends
+  where
+    turns : List LineStep
+    turns = turns_of None start first plays.given
+
+    shown : SeesAccounts watch listed start (calls_answered None turns) → (r : Result AccountRows AllocError) → IfOk r (λ shown. accounts_view shown ≡ rows_kept watch listed last) →
+        (text : List ℕ) → lines_of text ≡ plays.given →
+        IfOk r (λ shown. accounts_view shown ≡ rows_after (sessions_kept watch) listed start (calls_answered None (turns_of None start first (lines_of text))))
+    shown sees (Ok r) is text all =
+        is ∙ ap (rows_kept watch listed) plays.world ∙ rows_are watch listed sees entries
+        ∙ ap (λ lines. rows_after (sessions_kept watch) listed start (calls_answered None (turns_of None start first lines))) (sym all)
+    shown sees (Err fault) is text all = tt
+
+    of_input : SeesAccounts watch listed start (calls_answered None turns) → (o : Option (List ℕ)) → EndsFor most_lines None plays.given o rest failed →
+        IfSome o (λ text. IfOk rows (λ shown. accounts_view shown ≡ rows_after (sessions_kept watch) listed start (calls_answered None (turns_of None start first (lines_of text)))))
+    of_input sees (Some text) ends = shown sees rows shows text (ends.1 ∙ ap (λ left. plays.given ++ left) ends.2.0 ∙ append-nil plays.given)
+    of_input sees None ends = tt
+
+    by : (played_fault ended_fault : Option LineRunFault) → WritesAfter played_fault ended_fault w' w'' (text_kept watch listed last) →
+        IfNone played_fault (SeesAccounts watch listed start (calls_answered None turns)) → EndsFor most_lines played_fault plays.given input rest failed →
+        ShowsRows (sessions_kept watch) listed start (turns_of None start first) ended_fault input rows
+    by None None writes sees ends = of_input sees input ends
+    by (Some fault) None writes sees ends = absurd (none-some fault writes.0)
+    by played_fault (Some fault) writes sees ends = tt
