@@ -14,6 +14,7 @@ use Rattle.csv.specs.Writing.{default_writer, needs_byte, needs_quotes}
 use Rattle.own_model.specs.Call.{some_bytes_of_hex}
 use Rattle.own_model.specs.Text.{bytes_of_hex, hex_bytes}
 use Rattle.own_model.proofs.LogLemmas.{bytes_of_digits}
+use Rattle.run_scenario.specs.Complaints.{shown_bytes}
 use Rattle.run_scenario.specs.Texts.{is_shown, shown_text, character_text, characters_text, written_in}
 use Rattle.run_scenario.proofs.CellLemmas.{escaped-append, escaped_nothing}
 
@@ -63,6 +64,18 @@ shown_missing [] hex is all = refl
 shown_missing (b ∷ bs) hex is all =
     let some : bytes_of_hex (b ∷ bs) ≡ Some (hex_bytes hex) = let_through (nat_lt 0 (length (b ∷ bs))) (bytes_of_hex (b ∷ bs)) (hex_bytes hex) is in
     some_not (hex_bytes hex) all ∙ sym (ap (λ (o : Option (List ℕ)). shown_text (unwrap_or o [])) some)
+
+-- the same of the bytes themselves
+pub bytes_found : (text hex : List ℕ) → Some (hex_bytes hex) ≡ some_bytes_of_hex text → list_all is_shown (hex_bytes hex) ≡ true → Some (hex_bytes hex) ≡ shown_bytes (hex_bytes text)
+bytes_found [] hex is all = absurd (cc)
+bytes_found (b ∷ bs) hex is all =
+    let some : bytes_of_hex (b ∷ bs) ≡ Some (hex_bytes hex) = let_through (nat_lt 0 (length (b ∷ bs))) (bytes_of_hex (b ∷ bs)) (hex_bytes hex) is in
+    let count = bytes_of_digits (b ∷ bs) (hex_bytes hex) some in
+    sym (ap (λ (o : Option (List ℕ)). shown_bytes (unwrap_or o [])) some
+    ∙ ap (λ (o : Option (List ℕ)). option_map (λ text. hex_bytes hex) o) (some_shown (hex_bytes hex) (length bs) (omega (arith, count)) all))
+
+pub bytes_missing : (text hex : List ℕ) → Some (hex_bytes hex) ≡ some_bytes_of_hex text → list_all is_shown (hex_bytes hex) ≡ false → None ≡ shown_bytes (hex_bytes text)
+bytes_missing text hex is all = ap (λ (o : Option (List ℕ)). option_map (λ it. hex_bytes text) o) (shown_missing text hex is all)
 
 -- ---- byte by byte
 

@@ -2,6 +2,7 @@ pub mod Cells
 pub mod ScenarioEnd
 pub mod Faults
 pub mod CallAnswers
+pub mod Complaints
 pub mod Judging
 pub mod RunCalls
 pub mod ScenarioRuns

@@ -1,10 +1,17 @@
 //! Errors of a scenario's lines, as diagnostics.
-ghost use Rattle.std.specs.Prelude.{◌≡◌, false, is_err};
+ghost use Rattle.std.specs.Prelude.{◌≡◌, ◌||◌, ◌∷◌, ◌++◌, [], codes, false, is_err};
+ghost use Rattle.std.specs.List.{flat_map, starts_with};
+ghost use Rattle.std.specs.Option.{option_copied};
+ghost use Rattle.run_lines.specs.RunOutput.{OutputsUnless};
+ghost use Rattle.view_diagnostics.specs.Diagnostics.{diagnostic, front, shown, subject_at};
+ghost use Rattle.view_diagnostics.specs.declared.diagnostics.Severity.TheVariants.{Error as AnError};
+ghost use Rattle.run_scenario.specs.Complaints.{difference, difference_pieces, has_byte, log_lines_pieces, reply_pieces, text_pieces, unknown_pieces};
 
 use crate::printable_hex::PrintableHex;
 use core_calls::Outcome;
 use itoa::Buffer;
 use run_lines::{DeviceFault, LineAnswer, Sink};
+use std::marker::Model;
 use view_diagnostics::{Diagnostics, FilePlace, Severity, Subject};
 
 /// Writes the errors of a scenario's lines.
@@ -13,9 +20,19 @@ pub struct Complaints<'a> {
     diagnostics: Diagnostics<'a>,
 }
 
+impl<'a> Model for Complaints<'a> {
+    ghost use Rattle.view_diagnostics.specs.Diagnostics.{DiagnosticsAt};
+
+    ghost Value = { DiagnosticsAt };
+
+    ghost view = { λ complaints. complaints.diagnostics };
+}
+
 impl<'a> Complaints<'a> {
     /// Returns a writer of errors of this scenario.
-    pub fn new(scenario: Subject<'a>) -> Complaints<'a> {
+    pub fn new(scenario: Subject<'a>) -> Complaints<'a>
+        ensures { result ≡ record { subject = subject_at scenario.entry; gathered = [] } }
+    {
         Complaints {
             diagnostics: Diagnostics::new(scenario),
         }
@@ -29,6 +46,9 @@ impl<'a> Complaints<'a> {
         message: &[u8],
     ) -> Result<(), DeviceFault>
         requires { E.has_failed sink.old ≡ false }
+        ensures output { OutputsUnless result (E.contents sink.old) self.old.gathered
+            (E.contents sink.new) self.new.gathered (diagnostic self.old.subject place AnError (message.now ∷ [])) }
+        ensures subject { self.new.subject ≡ self.old.subject }
         ensures failing { E.has_failed sink.new ≡ is_err result }
     {
         self.begin(sink, place, message)?;
@@ -45,6 +65,10 @@ impl<'a> Complaints<'a> {
         expected: &[u8],
     ) -> Result<(), DeviceFault>
         requires { E.has_failed sink.old ≡ false }
+        ensures output { OutputsUnless result (E.contents sink.old) self.old.gathered
+            (E.contents sink.new) self.new.gathered (diagnostic self.old.subject place AnError
+            (reply_pieces answer.entry.outcome answer.entry.reply.now expected.now)) }
+        ensures subject { self.new.subject ≡ self.old.subject }
         ensures failing { E.has_failed sink.new ≡ is_err result }
     {
         let has_bytes = has_byte(b'"', expected) || matches!(answer.outcome, Outcome::Bytes);
@@ -64,6 +88,9 @@ impl<'a> Complaints<'a> {
         has_bytes: bool,
     ) -> Result<(), DeviceFault>
         requires { E.has_failed sink.old ≡ false }
+        ensures output { OutputsUnless result (E.contents sink.old) self.old.gathered
+            (E.contents sink.new) self.new.gathered (flat_map (shown self.old.subject.form) (text_pieces has_bytes text.now)) }
+        ensures subject { self.new.subject ≡ self.old.subject }
         ensures failing { E.has_failed sink.new ≡ is_err result }
     {
         self.diagnostics.put(sink, text)?;
@@ -85,6 +112,10 @@ impl<'a> Complaints<'a> {
         expected: &[u8],
     ) -> Result<(), DeviceFault>
         requires { E.has_failed sink.old ≡ false }
+        ensures output { OutputsUnless result (E.contents sink.old) self.old.gathered
+            (E.contents sink.new) self.new.gathered (flat_map (shown self.old.subject.form)
+            (difference_pieces (difference reply.now expected.now))) }
+        ensures subject { self.new.subject ≡ self.old.subject }
         ensures failing { E.has_failed sink.new ≡ is_err result }
     {
         match difference(reply, expected) {
@@ -106,6 +137,9 @@ impl<'a> Complaints<'a> {
         expected: &[u8],
     ) -> Result<(), DeviceFault>
         requires { E.has_failed sink.old ≡ false }
+        ensures output { OutputsUnless result (E.contents sink.old) self.old.gathered
+            (E.contents sink.new) self.new.gathered (diagnostic self.old.subject place AnError (log_lines_pieces found.now expected.now)) }
+        ensures subject { self.new.subject ≡ self.old.subject }
         ensures failing { E.has_failed sink.new ≡ is_err result }
     {
         self.begin(sink, place, b"expected the log lines `")?;
@@ -126,6 +160,9 @@ impl<'a> Complaints<'a> {
         near: Option<&[u8]>,
     ) -> Result<(), DeviceFault>
         requires { E.has_failed sink.old ≡ false }
+        ensures output { OutputsUnless result (E.contents sink.old) self.old.gathered
+            (E.contents sink.new) self.new.gathered (diagnostic self.old.subject place AnError (unknown_pieces name.now (option_copied near))) }
+        ensures subject { self.new.subject ≡ self.old.subject }
         ensures failing { E.has_failed sink.new ≡ is_err result }
     {
         self.begin(sink, place, b"unknown component `")?;
@@ -147,6 +184,9 @@ impl<'a> Complaints<'a> {
         words: &[u8],
     ) -> Result<(), DeviceFault>
         requires { E.has_failed sink.old ≡ false }
+        ensures output { OutputsUnless result (E.contents sink.old) self.old.gathered
+            (E.contents sink.new) self.new.gathered (front self.old.subject place AnError ++ shown self.old.subject.form words.now) }
+        ensures subject { self.new.subject ≡ self.old.subject }
         ensures failing { E.has_failed sink.new ≡ is_err result }
     {
         self.diagnostics.begin(sink, place, Severity::Error)?;
@@ -156,7 +196,9 @@ impl<'a> Complaints<'a> {
 
 // Returns the byte, from 1 on, at which a reply and its expectation differ. Returns nothing if they don't begin alike, or if the
 // expectation has a pattern or text.
-fn difference(reply: &[u8], expected: &[u8]) -> Option<usize> {
+fn difference(reply: &[u8], expected: &[u8]) -> Option<usize>
+    ensures { result ≡ difference reply.now expected.now }
+{
     let mut alike = 0;
     while alike < reply.len() && alike < expected.len() && reply[alike] == expected[alike] {
         alike += 1;
@@ -164,11 +206,13 @@ fn difference(reply: &[u8], expected: &[u8]) -> Option<usize> {
     if alike == 0 || has_byte(b'*', expected) || has_byte(b'"', expected) {
         None
     } else {
-        Some(alike.saturating_add(1))
+        Some(alike + 1)
     }
 }
 
 // Whether a text has a byte.
-fn has_byte(byte: u8, text: &[u8]) -> bool {
+fn has_byte(byte: u8, text: &[u8]) -> bool
+    ensures { result ≡ has_byte byte text.now }
+{
     text.iter().any(|other| *other == byte)
 }

@@ -1,10 +1,12 @@
 //! Bytes in hexadecimal digits, as text.
 ghost use Rattle.std.specs.Prelude.{◌≡◌, ◌/◌, ◌<◌, ◌++◌, false, get_or, is_err, length, Some, IfOk, OnOk};
-ghost use Rattle.std.specs.List.{list_all};
+ghost use Rattle.std.specs.List.{flat_map, list_all};
 ghost use Rattle.std.specs.Option.{option_map};
 ghost use Rattle.csv.specs.Writing.{default_writer, needs_quotes, quoted};
 ghost use Rattle.own_model.specs.Text.{bytes_of_hex, hex_bytes};
 ghost use Rattle.run_lines.specs.RunOutput.{OutputsUnless};
+ghost use Rattle.view_diagnostics.specs.Diagnostics.{shown};
+ghost use Rattle.run_scenario.specs.Complaints.{bracket_pieces, last_token, message_character, shown_bytes};
 ghost use Rattle.run_scenario.specs.Texts.{in_brackets, is_shown, shown_text, character_text, characters_text, written_in};
 ghost use Rattle.run_scenario.specs.Cells.{cell_text};
 
@@ -27,6 +29,16 @@ impl<'a> PrintableHex<'a> {
         ensures { option_map (λ shown. characters_text (hex_bytes shown.hex.now)) result
             ≡ shown_text (hex_bytes text.now) }
     {
+        PrintableHex::read(text)
+    }
+
+    // Returns the same.
+    fn read(text: &'a [u8]) -> Option<PrintableHex<'a>>
+        ensures text { option_map (λ shown. characters_text (hex_bytes shown.hex.now)) result
+            ≡ shown_text (hex_bytes text.now) }
+        ensures bytes { option_map (λ shown. hex_bytes shown.hex.now) result
+            ≡ shown_bytes (hex_bytes text.now) }
+    {
         let hex = read_hex(text)?;
         if are_shown(hex) {
             Some(PrintableHex { hex })
@@ -36,8 +48,11 @@ impl<'a> PrintableHex<'a> {
     }
 
     /// Returns the last token of a text, if it is such digits.
-    pub fn at_end(text: &'a [u8]) -> Option<PrintableHex<'a>> {
-        PrintableHex::of(last_word(text))
+    pub fn at_end(text: &'a [u8]) -> Option<PrintableHex<'a>>
+        ensures { option_map (λ shown. hex_bytes shown.hex.now) result
+            ≡ shown_bytes (hex_bytes (last_token text.now)) }
+    {
+        PrintableHex::read(last_token(text))
     }
 
     /// Gathers ` ("TEXT")`, with the escapes of the friendly form. The error is a failed write.
@@ -68,6 +83,11 @@ impl<'a> PrintableHex<'a> {
         sink: &mut K,
     ) -> Result<(), DeviceFault>
         requires { K.has_failed sink.old ≡ false }
+        ensures output { OutputsUnless result (K.contents sink.old) diagnostics.old.gathered
+            (K.contents sink.new) diagnostics.new.gathered
+            (flat_map (shown diagnostics.old.subject.form)
+            (bracket_pieces (Some (hex_bytes self.entry.hex.now)))) }
+        ensures subject { diagnostics.new.subject ≡ diagnostics.old.subject }
         ensures failing { K.has_failed sink.new ≡ is_err result }
     {
         diagnostics.put(sink, b" (\"")?;
@@ -105,6 +125,10 @@ fn put_message_sign<K: Sink>(
     sink: &mut K,
 ) -> Result<(), DeviceFault>
     requires { K.has_failed sink.old ≡ false }
+    ensures output { OutputsUnless result (K.contents sink.old) diagnostics.old.gathered
+        (K.contents sink.new) diagnostics.new.gathered
+        (shown diagnostics.old.subject.form (message_character byte)) }
+    ensures subject { diagnostics.new.subject ≡ diagnostics.old.subject }
     ensures failing { K.has_failed sink.new ≡ is_err result }
 {
     match byte {
@@ -114,11 +138,16 @@ fn put_message_sign<K: Sink>(
 }
 
 // Returns the text after the last space.
-fn last_word(text: &[u8]) -> &[u8] {
-    match text.iter().rposition(|byte| *byte == b' ') {
-        Some(place) => &text[place + 1..],
-        None => text,
+fn last_token(text: &[u8]) -> &[u8]
+    ensures { result.now ≡ last_token text.now }
+{
+    let mut start = 0;
+    for place in 0..text.len() {
+        if text[place] == b' ' {
+            start = place + 1;
+        }
     }
+    &text[start..]
 }
 
 // Returns the byte at a place of those that digits denote.

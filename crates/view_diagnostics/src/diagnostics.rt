@@ -1,10 +1,13 @@
 //! The writer of diagnostics.
-ghost use Rattle.std.specs.Prelude.{◌≡◌, false, is_err};
+ghost use Rattle.std.specs.Prelude.{◌≡◌, [], false, is_err, OnOk};
+ghost use Rattle.run_lines.specs.RunOutput.{OutputsUnless};
+ghost use Rattle.view_diagnostics.specs.Diagnostics.{back, front, severity_name, shown, subject_at};
 
 use crate::escape::put_text;
+use crate::front::{put_document_front, put_line_front};
 use crate::place::FilePlace;
-use itoa::Buffer;
 use run_lines::{DeviceFault, Sink, WriteBuffer};
+use std::marker::Model;
 
 /// The severity of a diagnostic.
 #[derive(Clone, Copy, PartialEq, Eq)]
@@ -19,7 +22,10 @@ pub enum Severity {
 
 impl Severity {
     /// Returns the name of the severity, as a diagnostic has it.
-    pub fn name(self) -> &'static str {
+    #[tactic(auto, unfolding(crate::specs::Diagnostics::severity_name))]
+    pub fn name(self) -> &'static str
+        ensures { result.now ≡ severity_name self }
+    {
         match self {
             Severity::Error => "error",
             Severity::Warning => "warning",
@@ -53,9 +59,22 @@ pub struct Diagnostics<'a> {
     gathered: WriteBuffer,
 }
 
+impl<'a> Model for Diagnostics<'a> {
+    ghost use Rattle.view_diagnostics.specs.Diagnostics.{DiagnosticsAt, subject_at};
+
+    ghost Value = { DiagnosticsAt };
+
+    ghost view = { λ diagnostics. record {
+      subject = subject_at diagnostics.subject;
+      gathered = diagnostics.gathered;
+    } };
+}
+
 impl<'a> Diagnostics<'a> {
     /// Returns a writer of diagnostics about a subject.
-    pub fn new(subject: Subject<'a>) -> Diagnostics<'a> {
+    pub fn new(subject: Subject<'a>) -> Diagnostics<'a>
+        ensures { result ≡ record { subject = subject_at subject.entry; gathered = [] } }
+    {
         Diagnostics {
             subject,
             gathered: WriteBuffer::new(),
@@ -70,128 +89,53 @@ impl<'a> Diagnostics<'a> {
         severity: Severity,
     ) -> Result<(), DeviceFault>
         requires { K.has_failed sink.old ≡ false }
+        ensures output { OutputsUnless result (K.contents sink.old) self.old.gathered
+            (K.contents sink.new) self.new.gathered (front self.old.subject place severity) }
+        ensures subject { self.new.subject ≡ self.old.subject }
         ensures failing { K.has_failed sink.new ≡ is_err result }
     {
-        match self.subject.form {
-            DiagnosticForm::Text => self.begin_line(sink, place, severity),
-            DiagnosticForm::Json => self.begin_document(sink, place, severity),
+        let Subject { file, form } = self.subject;
+        let gathered = &mut self.gathered;
+        match form {
+            DiagnosticForm::Text => put_line_front(file, place, severity, gathered, sink),
+            DiagnosticForm::Json => put_document_front(file, place, severity, gathered, sink),
         }
     }
 
     /// Writes a piece of the message, escaped. The error is a failed write.
     pub fn put<K: Sink>(&mut self, sink: &mut K, text: &[u8]) -> Result<(), DeviceFault>
         requires { K.has_failed sink.old ≡ false }
+        ensures output { OutputsUnless result (K.contents sink.old) self.old.gathered
+            (K.contents sink.new) self.new.gathered (shown self.old.subject.form text.now) }
+        ensures subject { self.new.subject ≡ self.old.subject }
         ensures failing { K.has_failed sink.new ≡ is_err result }
     {
-        put_text(self.subject.form, text, &mut self.gathered, sink)
+        let form = self.subject.form;
+        put_text(form, text, &mut self.gathered, sink)
     }
 
     /// Ends a diagnostic, and writes all of it out. The error is a failed write.
     pub fn end<K: Sink>(&mut self, sink: &mut K) -> Result<(), DeviceFault>
         requires { K.has_failed sink.old ≡ false }
+        ensures output { OutputsUnless result (K.contents sink.old) self.old.gathered
+            (K.contents sink.new) self.new.gathered (back self.old.subject.form) }
+        ensures subject { self.new.subject ≡ self.old.subject }
+        ensures empty { OnOk result (self.new.gathered ≡ []) }
         ensures failing { K.has_failed sink.new ≡ is_err result }
     {
-        let end: &[u8] = match self.subject.form {
-            DiagnosticForm::Text => b"\n",
-            DiagnosticForm::Json => b"\"}\n",
-        };
-        self.gathered.put(sink, end)?;
+        let form = self.subject.form;
+        self.gathered.put(sink, end_of(form))?;
         self.gathered.flush(sink)
     }
+}
 
-    // Gathers `FILE:LINE:COLUMN: SEVERITY: `.
-    fn begin_line<K: Sink>(
-        &mut self,
-        sink: &mut K,
-        place: FilePlace,
-        severity: Severity,
-    ) -> Result<(), DeviceFault>
-        requires { K.has_failed sink.old ≡ false }
-        ensures failing { K.has_failed sink.new ≡ is_err result }
-    {
-        if !self.subject.file.is_empty() {
-            self.put(sink, self.subject.file)?;
-            self.put_after_colon(sink, place.line())?;
-            self.put_after_colon(sink, place.column())?;
-            self.gathered.put(sink, b": ")?;
-        }
-        self.gathered.put(sink, severity.name().as_bytes())?;
-        self.gathered.put(sink, b": ")
-    }
-
-    // Gathers a colon and a number, if there is one.
-    fn put_after_colon<K: Sink>(
-        &mut self,
-        sink: &mut K,
-        number: Option<u64>,
-    ) -> Result<(), DeviceFault>
-        requires { K.has_failed sink.old ≡ false }
-        ensures failing { K.has_failed sink.new ≡ is_err result }
-    {
-        match number {
-            Some(number) => {
-                self.gathered.put(sink, b":")?;
-                self.put_number(sink, number)
-            }
-            None => Ok(()),
-        }
-    }
-
-    // Gathers a document up to the first byte of its message.
-    fn begin_document<K: Sink>(
-        &mut self,
-        sink: &mut K,
-        place: FilePlace,
-        severity: Severity,
-    ) -> Result<(), DeviceFault>
-        requires { K.has_failed sink.old ≡ false }
-        ensures failing { K.has_failed sink.new ≡ is_err result }
-    {
-        self.gathered.put(sink, b"{\"severity\":\"")?;
-        self.gathered.put(sink, severity.name().as_bytes())?;
-        self.gathered.put(sink, b"\",\"file\":")?;
-        self.put_file(sink)?;
-        self.put_member(sink, b",\"line\":", place.line())?;
-        self.put_member(sink, b",\"column\":", place.column())?;
-        self.gathered.put(sink, b",\"text\":\"")
-    }
-
-    // Gathers the path of the file, or `null`.
-    fn put_file<K: Sink>(&mut self, sink: &mut K) -> Result<(), DeviceFault>
-        requires { K.has_failed sink.old ≡ false }
-        ensures failing { K.has_failed sink.new ≡ is_err result }
-    {
-        if self.subject.file.is_empty() {
-            return self.gathered.put(sink, b"null");
-        }
-        self.gathered.put(sink, b"\"")?;
-        self.put(sink, self.subject.file)?;
-        self.gathered.put(sink, b"\"")
-    }
-
-    // Gathers a name and a number, or `null`.
-    fn put_member<K: Sink>(
-        &mut self,
-        sink: &mut K,
-        name: &[u8],
-        number: Option<u64>,
-    ) -> Result<(), DeviceFault>
-        requires { K.has_failed sink.old ≡ false }
-        ensures failing { K.has_failed sink.new ≡ is_err result }
-    {
-        self.gathered.put(sink, name)?;
-        match number {
-            Some(number) => self.put_number(sink, number),
-            None => self.gathered.put(sink, b"null"),
-        }
-    }
-
-    // Gathers a number in decimal digits.
-    fn put_number<K: Sink>(&mut self, sink: &mut K, number: u64) -> Result<(), DeviceFault>
-        requires { K.has_failed sink.old ≡ false }
-        ensures failing { K.has_failed sink.new ≡ is_err result }
-    {
-        let mut digits = Buffer::new();
-        self.gathered.put(sink, digits.format(number).as_bytes())
+// Returns all that follows the message.
+#[tactic(auto, unfolding(crate::specs::Diagnostics::back))]
+fn end_of(form: DiagnosticForm) -> &'static [u8]
+    ensures { result.now ≡ back form }
+{
+    match form {
+        DiagnosticForm::Text => b"\n",
+        DiagnosticForm::Json => b"\"}\n",
     }
 }

@@ -1,14 +1,14 @@
 //! Texts within a diagnostic: one line, without control characters.
-ghost use Rattle.std.specs.Prelude.{◌≡◌, false, is_err};
+ghost use Rattle.std.specs.Prelude.{◌≡◌, ◌<◌, false, is_err};
+ghost use Rattle.std.specs.Char.{digit_char};
+ghost use Rattle.run_lines.specs.RunOutput.{OutputsUnless};
+ghost use Rattle.view_diagnostics.specs.Diagnostics.{numbered, shown, shown_character, shown_characters};
 
 use crate::diagnostics::DiagnosticForm;
 use run_lines::{DeviceFault, Sink, WriteBuffer};
 
-/// The digits of a control character's number.
-const DIGITS: &[u8; 16] = b"0123456789abcdef";
-
 /// Gathers a text on one line. Bytes that are not UTF-8 become U+FFFD. Control characters, and characters that some readers take
-/// as the end of a line, become escapes. In JSON `"` and `\` become escapes too.
+/// as the end of a line, become escapes. In JSON `"` and `\` become escapes too. The error is a failed write.
 pub(crate) fn put_text<K: Sink>(
     form: DiagnosticForm,
     text: &[u8],
@@ -16,6 +16,8 @@ pub(crate) fn put_text<K: Sink>(
     sink: &mut K,
 ) -> Result<(), DeviceFault>
     requires { K.has_failed sink.old ≡ false }
+    ensures output { OutputsUnless result (K.contents sink.old) gathered.old
+        (K.contents sink.new) gathered.new (shown form text.now) }
     ensures failing { K.has_failed sink.new ≡ is_err result }
 {
     for chunk in text.utf8_chunks() {
@@ -35,6 +37,8 @@ fn put_characters<K: Sink>(
     sink: &mut K,
 ) -> Result<(), DeviceFault>
     requires { K.has_failed sink.old ≡ false }
+    ensures output { OutputsUnless result (K.contents sink.old) gathered.old
+        (K.contents sink.new) gathered.new (shown_characters form text.now) }
     ensures failing { K.has_failed sink.new ≡ is_err result }
 {
     for character in text.chars() {
@@ -51,6 +55,8 @@ fn put_character<K: Sink>(
     sink: &mut K,
 ) -> Result<(), DeviceFault>
     requires { K.has_failed sink.old ≡ false }
+    ensures output { OutputsUnless result (K.contents sink.old) gathered.old
+        (K.contents sink.new) gathered.new (shown_character form character) }
     ensures failing { K.has_failed sink.new ≡ is_err result }
 {
     match character {
@@ -74,10 +80,25 @@ fn put_escape<K: Sink>(
     gathered: &mut WriteBuffer,
     sink: &mut K,
 ) -> Result<(), DeviceFault>
-    requires { K.has_failed sink.old ≡ false }
+    requires works { K.has_failed sink.old ≡ false }
+    ensures output { OutputsUnless result (K.contents sink.old) gathered.old
+        (K.contents sink.new) gathered.new (numbered control) }
     ensures failing { K.has_failed sink.new ≡ is_err result }
 {
-    let number = control as u32 as usize;
-    let (high, low) = (DIGITS[number / 16 % 16], DIGITS[number % 16]);
+    let number = control as u32;
+    let (high, low) = (hex_digit(number / 16 % 16), hex_digit(number % 16));
     gathered.put(sink, &[b'\\', b'u', b'0', b'0', high, low])
+}
+
+// Returns the digit of a number below 16.
+fn hex_digit(number: u32) -> u8
+    requires { number < 16 }
+    ensures { result ≡ digit_char number }
+{
+    let number = number as u8;
+    if number < 10 {
+        b'0' + number
+    } else {
+        b'a' + (number - 10)
+    }
 }

@@ -11,6 +11,7 @@
 mod counts;
 mod diagnostics;
 mod escape;
+mod front;
 mod place;
 
 pub use counts::Counts;

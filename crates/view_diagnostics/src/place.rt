@@ -1,4 +1,6 @@
 //! Places in a text.
+ghost use Rattle.std.specs.Prelude.{◌≡◌};
+ghost use Rattle.view_diagnostics.specs.Diagnostics.{column_of, line_of};
 
 /// A place in a text. Lines, and bytes in a line, count from 1.
 #[derive(Clone, Copy, PartialEq, Eq)]
@@ -13,7 +15,10 @@ pub enum FilePlace {
 
 impl FilePlace {
     /// Returns the number of the line, if the place has one.
-    pub fn line(self) -> Option<u64> {
+    #[tactic(auto, unfolding(crate::specs::Diagnostics::line_of))]
+    pub fn line(self) -> Option<u64>
+        ensures { result ≡ line_of self }
+    {
         match self {
             FilePlace::Whole => None,
             FilePlace::Line(line) | FilePlace::Byte(line, _) => Some(line),
@@ -21,7 +26,10 @@ impl FilePlace {
     }
 
     /// Returns the number of the byte in its line, if the place has one.
-    pub fn column(self) -> Option<u64> {
+    #[tactic(auto, unfolding(crate::specs::Diagnostics::column_of))]
+    pub fn column(self) -> Option<u64>
+        ensures { result ≡ column_of self }
+    {
         match self {
             FilePlace::Whole | FilePlace::Line(_) => None,
             FilePlace::Byte(_, column) => Some(column),
