@@ -61,12 +61,21 @@ fn print_list(rt: &HostRuntime, list: AccountList, form: RowsForm) -> RunEnd {
     if ending.fault.is_none() {
         if let Err(error) = print_rows(rt, rows, form) {
             unread = error.kind() == ErrorKind::BrokenPipe;
-            ending.fault = Some(LineRunFault::WriteFault);
+            ending.fault = Some(fault_of(&error));
         }
     }
     RunEnd {
         ended: Ok(ending),
         unread,
+    }
+}
+
+// Returns the fault of a run whose rows can't be printed: out of memory, or a failed write.
+fn fault_of(error: &io::Error) -> LineRunFault {
+    if error.kind() == ErrorKind::OutOfMemory {
+        LineRunFault::NoMemory
+    } else {
+        LineRunFault::WriteFault
     }
 }
 
