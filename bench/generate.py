@@ -4,8 +4,9 @@
 A shape `NAME:SIZE` is one in steady state, on the machine `largest.json`: first so many things are taken, by lines that
 aren't among the LINES, and then one of them, at random, is given back and one taken in turn. NAME is live (dataspaces of
 a page), selectors (of RPC objects), blocks (sliced blocks of a page), open (sessions of the log service), holes (of the
-least size, in a heap), small (blocks of 1 to 128 bytes), named (files of a session, on the machine `files.json`) or sized (the
-same, of which the size of one is asked). `moves:SIZE`, on the machine `lender.json`, puts and gets so many bytes in turn.
+least size, in a heap), small (blocks of 1 to 128 bytes), powers (blocks of ten sizes, by powers of two), named (files of a
+session, on the machine `files.json`) or sized (the same, of which the size of one is asked). `moves:SIZE`, on the machine
+`lender.json`, puts and gets so many bytes in turn.
 
 Shapes: quota (quota alone, both scripts in turn), churn (an allocation and its release, one dataspace at a time),
 limit (allocations and releases at the account's limit), bytes (pokes and peeks of 1 to 1,024 bytes in turn), short (the
@@ -18,8 +19,9 @@ closed, up to 8), reserves (what a reserve has, a request, a yield and what the 
 (puts and gets of up to 512 bytes, pokes and peeks of the buffer, which is made anew now and then), lent (pokes and peeks of a
 buffer, of 1 to 180 bytes), eight (eight clients of the machine `eight.json` that use everything at once), nested (the last
 script of the machine `nested.json`, of 32 entries in six lists, uses everything at once), few (the same lines on the machine
-`few.json`, which has four of these entries), hostile (lines that are refused, of all kinds), every (rounds of every call, by
-both scripts in turn, some refused; at the end both hold something of each kind, and exit).
+`few.json`, which has four of these entries), offsets (that last script reads files by offset), visits (the thirty clients of
+the machine `clients.json` open and close sessions), hostile (lines that are refused, of all kinds), every (rounds of every
+call, by both scripts in turn, some refused; at the end both hold something of each kind, and exit).
 """
 import bisect
 import random
@@ -435,6 +437,39 @@ def nested(lines, rng):
             yield all_at_once(name, stream, rng, 4)
 
 
+def offsets(lines, rng):
+    """Reads of up to 256 bytes at any offset of three files of 2,000 bytes; of ten lines one writes as many."""
+    name = "fog/dora"
+    yield f"{name} open File_system ram_quota=56K, cap_quota=12"
+    for file in range(3):
+        yield f"{name} call 1 CREATE f{file}"
+        yield f"{name} call 1 WRITE f{file} 0 {rng.randbytes(1000).hex()}"
+        yield f"{name} call 1 WRITE f{file} 1000 {rng.randbytes(1000).hex()}"
+    for _ in range(lines - 10):
+        file, count = rng.randrange(3), rng.randint(1, 256)
+        offset = rng.randint(0, 2000 - count)
+        if rng.random() < 0.1:
+            yield f"{name} call 1 WRITE f{file} {offset} {rng.randbytes(count).hex()}"
+        else:
+            yield f"{name} call 1 READ f{file} {offset} {count}"
+
+
+VISITORS = 30
+
+
+def visits(lines, rng):
+    """A client by chance: it closes its session, or opens one of either service where it has none."""
+    visiting = set()
+    for _ in range(lines):
+        client = rng.randrange(VISITORS)
+        if client in visiting:
+            visiting.remove(client)
+            yield f"client{client} close 1"
+        else:
+            visiting.add(client)
+            yield f'client{client} open {rng.choice(["LOG", "File_system"])} ram_quota=8K, cap_quota=3, label="visit"'
+
+
 def hostile(lines, rng):
     bad = [
         "",
@@ -575,8 +610,8 @@ def live_holes(lines, rng, size):
             yield "alice new 1"
 
 
-def small(lines, rng, size):
-    """So many blocks of 1 to 128 bytes: one given back and one taken in turn."""
+def in_turn(lines, rng, size, bytes_of_block):
+    """So many blocks of a heap: one given back and one taken in turn."""
     heap, held = Heap(), []
     for number in range(size + lines):
         if number < size:
@@ -587,14 +622,25 @@ def small(lines, rng, size):
             heap.give(held[place])
             yield f"alice del {held[place]:#x}"
             continue
-        count = rng.randint(1, 128)
+        count = bytes_of_block()
         held[place] = heap.take(count)
         yield f"alice new {count}"
+
+
+def small(lines, rng, size):
+    """Blocks of 1 to 128 bytes."""
+    return in_turn(lines, rng, size, lambda: rng.randint(1, 128))
+
+
+def powers(lines, rng, size):
+    """Blocks of ten sizes, the powers of two from 8 to 4,096 bytes."""
+    return in_turn(lines, rng, size, lambda: 8 << rng.randrange(10))
 
 
 STEADY = {
     "holes": live_holes,
     "small": small,
+    "powers": powers,
     "named": named,
     "sized": sized,
     "live": steady("alice alloc 4096", lambda n: f"alice free {n + 1}"),
@@ -630,6 +676,8 @@ SHAPES = {
     "eight": eight,
     "nested": nested,
     "few": nested,
+    "offsets": offsets,
+    "visits": visits,
     "hostile": hostile,
     "every": every,
 }

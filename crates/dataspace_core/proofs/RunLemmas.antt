@@ -2,7 +2,7 @@
 use Rattle.std.proofs.Common.{◌≡◌, ◌≢◌, ◌⊎◌, ℕ, zero, suc, ◌+◌, ◌-◌, ◌*◌, ◌<◌, ◌≤◌, true, false, List, [], ◌∷◌, ◌++◌, length, get_or, set, Option, Some, None, is_some, unwrap_or, refl, sym, ap, ◌∙◌, arith, true≢false}
 use Rattle.std.specs.Prelude.{slice_get, replicate}
 use Rattle.std.proofs.Math.Seq.{get_or-append_seam}
-use Rattle.std.specs.List.{CopiedTo, SameBelow}
+use Rattle.std.specs.List.{CopiedTo, SameBelow, ShiftedDown}
 use Rattle.std.proofs.lemmas.Bool.{cases_eq, cases_lt}
 use Rattle.std.proofs.lemmas.Bool.Decides.{nat_tests}
 use Rattle.std.proofs.lemmas.List.{get_or-set_same, get_or-set_other, get_or_append_left, get_or_read, length-set, length-append, replicate-append-replicate}
@@ -162,6 +162,11 @@ module _ (old_pages pages : List (Option (List ℕ))) (table : List PageNo) (sta
   IsGiven-more one_more = grind (arith, nat_tests, length-set, get_or-set_other)
 
 -- ---- the table closes a gap
+
+-- one entry was removed
+pub IsClosed-one : (table new : List PageNo) (start count : ℕ) → count ≡ 1 → start < length table → length new + 1 ≡ length table → SameBelow table new start → ShiftedDown table new start → IsClosed table new start count
+unfolding page_in
+IsClosed-one table new start count one within shorter below down = grind (arith, nat_tests, cases_lt)
 
 -- what lies behind a run was moved to its start, and the end was cut off
 pub IsClosed-cut : (table moved new : List PageNo) (start count : ℕ) → start + count ≤ length table → (rest : ℕ) → rest ≡ length table - (start + count) → CopiedTo table moved (start + count) start rest → SameBelow table moved start → (left : ℕ) → left ≡ length table - count → SameBelow moved new left → length new + count ≡ length table → IsClosed table new start count

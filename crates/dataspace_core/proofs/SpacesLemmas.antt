@@ -66,6 +66,10 @@ module _ (from by key : ℕ) (old starts : List ℕ) (so_far : HaveMoved from by
   pub rest-more : (k : ℕ) → key + 1 ≤ k → get_or (set starts key start) k 0 ≡ get_or old k 0
   rest-more k past = let differs : k ≢ key = omega arith in get_or-set_other starts key k start 0 differs ∙ rest k (omega arith)
 
+-- those before an earlier key have moved too
+pub HaveMoved-fewer : (from by fewer used : ℕ) (old starts : List ℕ) → fewer ≤ used → HaveMoved from by used old starts → HaveMoved from by fewer old starts
+HaveMoved-fewer from by fewer used old starts less moved = record { size = moved.size; each = λ key below. moved.each key (omega (arith, below, less)) }
+
 -- a start outside of the gap stays, or moves by the whole gap
 start_closed : (from by start : ℕ) → (start ≤ from) ⊎ (from + by ≤ start) → start_after from by start ≡ cond (nat_le start from) start (start - by)
 start_closed from by start (inl front) =

@@ -64,6 +64,11 @@ pub(crate) fn close_gap(table: &mut Vec<PageNo>, gap: PageRun)
     ensures closed { IsClosed table.old.items table.new.items gap.start gap.count }
     ensures capacity { vec_capacity table.new ≡ vec_capacity table.old }
 {
+    if gap.count == 1 {
+        // `remove` moves all later entries at once. `copy_within` is a loop.
+        let _page = table.remove(gap.start);
+        return;
+    }
     table.copy_within(gap.start + gap.count.., gap.start);
     table.truncate(table.len() - gap.count);
 }

@@ -12,6 +12,9 @@ use std::alloc::Global;
 use std::marker::Model;
 use trade_base::{AccountId, NoMemory};
 
+/// The number of starts that the compiler moves in one step of a loop.
+const BLOCK: usize = 16;
+
 /// The part of a dataspace's entry other than the start of its run.
 #[derive(Clone, Copy)]
 struct DataspaceEntry {
@@ -129,11 +132,21 @@ impl Spaces {
         ensures moved { HasMovedDown gap self.old self.new }
         ensures capacity { self.new.capacity ≡ self.old.capacity }
     {
-        let used = self.used;
         if gap.start < entries {
+            let used = block_end(self.used, self.starts.len());
             move_starts(&mut self.starts, used, gap.start as u16, gap.count as u16);
         }
     }
+}
+
+/// Returns `used` or more, up to a multiple of the number of starts that the compiler moves at once, but at most `len`.
+fn block_end(used: usize, len: usize) -> usize
+    requires { used ≤ len }
+    ensures some { used ≤ result }
+    ensures within { result ≤ len }
+{
+    let missing = (BLOCK - used % BLOCK) % BLOCK;
+    used + missing.min(len - used)
 }
 
 /// Returns the stored part of the dataspace under a key.

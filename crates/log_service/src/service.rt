@@ -62,6 +62,7 @@ impl Service for LogService {
 
     ghost step = { λ service. service_step };
 
+    #[inline(always)]
     fn open(&self, heap: SlicedHeap, label: &[u8]) -> LogSession {
         LogSession::open(heap, label)
     }
@@ -82,8 +83,13 @@ impl Service for LogService {
         Effect::Nothing
     }
 
-    fn end(&self, session: LogSession, _memory: &mut Memory, _map: &mut RegionMap) -> SlicedHeap {
-        session.into_heap()
+    fn end(
+        &self,
+        session: &mut LogSession,
+        _memory: &mut Memory,
+        _map: &mut RegionMap,
+    ) -> SlicedHeap {
+        session.take_heap()
     }
 
     ghost pays = { λ session account share kept. kept.payer };

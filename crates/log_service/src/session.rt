@@ -9,6 +9,7 @@ use arrayvec::ArrayVec;
 use core_calls::{LONGEST_LABEL, MOST_LINES, Reply};
 use sliced_heap::SlicedHeap;
 use std::marker::Model;
+use std::mem;
 use text_codec::{decode_hex_from, find_byte};
 
 /// The number of bytes at which a line is finished.
@@ -44,6 +45,7 @@ impl Model for LogSession {
 
 impl LogSession {
     /// Creates a session of this label with an empty line.
+    #[inline(always)]
     pub(crate) fn open(heap: SlicedHeap, label: &[u8]) -> LogSession
         requires { length label.now ≤ LONGEST_LABEL }
         ensures { result ≡ record { label = label.now; partial = []; heap = heap } }
@@ -57,11 +59,12 @@ impl LogSession {
         }
     }
 
-    /// Returns the session's sliced heap and ends the session.
-    pub(crate) fn into_heap(self) -> SlicedHeap
-        ensures { result ≡ self.heap }
+    /// Returns the session's sliced heap, in whose place an empty one remains.
+    pub(crate) fn take_heap(&mut self) -> SlicedHeap
+        ensures { result ≡ self.old.heap }
     {
-        self.heap
+        let empty = SlicedHeap::new(self.heap.account());
+        mem::replace(&mut self.heap, empty)
     }
 
     /// Writes the bytes that hexadecimal digits denote, and adds finished lines to the reply. The function is not inlined,

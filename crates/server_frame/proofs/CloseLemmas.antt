@@ -3,8 +3,9 @@ use Rattle.std.proofs.Common.{◌≡◌, ◌≢◌, ℕ, ◌+◌, Some, IsSome, 
 use Rattle.std.proofs.lemmas.Option.{same_Some}
 use Rattle.std.specs.Prelude.{Option, None}
 use Rattle.std.specs.FinMap.{get, remove}
-use Rattle.slab.specs.Slab.{Slab, Updates}
+use Rattle.slab.specs.Slab.{Slab, ContainsKey, Updates, with_value}
 use Rattle.slab.specs.Slab as slab
+use Rattle.slab.proofs.SlabLemmas.{Updates-with_value}
 use Rattle.own_model.specs.Account.{Account}
 use Rattle.own_model.specs.NatMap.{NatMap}
 use Rattle.own_model.proofs.NatMapLemmas.{before_remove, get-remove_other}
@@ -20,6 +21,12 @@ use Rattle.server_frame.specs.Frame.{row_of, sessions_of, Holds, IsServer, Close
 use Rattle.server_frame.specs.declared.server.Session.{Session}
 use Rattle.server_frame.proofs.HoldingLemmas.{same_part}
 use Rattle.server_frame.proofs.FrameLemmas.{Stays, row_stays, map_of-emptied, server_without, OthersStay, other_account, other_client}
+
+-- a value that was written goes as the one before would have gone
+pub gone : {T : Type 0} (sessions now : Slab T) (id : ℕ) (next : T) → ContainsKey sessions id → Updates (with_value sessions id next) now id None → Updates sessions now id None
+gone sessions now id next there removed =
+    let written = Updates-with_value sessions id next there in
+    record { changed = removed.changed; others = λ other apart. removed.others other apart ∙ written.others other apart }
 
 module _ {T V : Type 0} (kept : T → ℕ → Share → Type 0) (value : T → Share → V) (buffer : T → Option ℕ) (payer : T → ℕ) (sessions now : Slab (Session T)) (old mid : Store) (regions between : Regions) (server : IsServer kept sessions old regions) (id : ℕ) (session : Session T) (there : slab.get sessions id ≡ Some session)
     (removed : Updates sessions now id None) (pays : PaysFor kept payer) (heap : SlicedHeap) (same : payer_of heap ≡ payer session.state) (others_by : KeepsOthers (payer session.state) old mid regions between)

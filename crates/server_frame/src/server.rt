@@ -104,6 +104,9 @@ impl<S: Service + Drop> Server<S> {
     /// Refuses with `OutOfRam`, then `OutOfCaps`, if the client's account does not cover the donation. Then refuses with
     /// `InsufficientRamQuota`, then `InsufficientCapQuota`, if the donation is less than a session uses from the start. A
     /// refused call changes nothing.
+    ///
+    /// The function is not inlined, because each call of its caller would clear a place for a session of this service.
+    #[inline(never)]
     pub fn open(
         &mut self,
         memory: &mut Memory,
@@ -210,7 +213,9 @@ impl<S: Service + Drop> Server<S> {
             .serve(&mut session.state, memory, &mut self.map, request, reply)
     }
 
-    /// Closes a session: frees all that it has and returns its account's limits to its client's account.
+    /// Closes a session: frees all that it has and returns its account's limits to its client's account. The function is
+    /// not inlined, for the same reason as `open`.
+    #[inline(never)]
     pub fn close(&mut self, memory: &mut Memory, id: SessionId)
         requires server { IsServer S.IsKept self.old.sessions memory.old self.old.map }
         requires open { ContainsKey self.old.sessions id.0 }
@@ -222,8 +227,10 @@ impl<S: Service + Drop> Server<S> {
         ensures places { self.new.sessions.capacity ≡ self.old.sessions.capacity }
         ensures machine { ram_limits_in memory.new ≡ ram_limits_in memory.old }
     {
-        let session = self.sessions.remove(id.0);
-        let heap = self.service.end(session.state, memory, &mut self.map);
-        close_session_account(memory, &mut self.map, session.account, heap);
+        let closed = &mut self.sessions[id.0];
+        let account = closed.account;
+        let heap = self.service.end(&mut closed.state, memory, &mut self.map);
+        let _gone = self.sessions.remove(id.0);
+        close_session_account(memory, &mut self.map, account, heap);
     }
 }

@@ -86,18 +86,20 @@ pub trait Service {
         ensures payer { payer state.new ≡ payer state.old }
         ensures others { KeepsOthers (payer state.old) memory.old memory.new map.old map.new };
 
-    /// Frees all that the service stores for a session, except the blocks of its sliced heap, and returns that heap.
-    fn end(&self, state: Self::State, memory: &mut Memory, map: &mut RegionMap) -> SlicedHeap
-        requires account { IsSessionAccount (payer state) memory.old map.old }
-        requires kept { IsKept state (payer state) (holding_at (payer state) memory.old map.old) }
+    /// Frees all that the service stores for a session, except the blocks of its sliced heap, and returns that heap. The
+    /// session is over. It stays in its place, since a move would copy it.
+    fn end(&self, state: &mut Self::State, memory: &mut Memory, map: &mut RegionMap) -> SlicedHeap
+        requires account { IsSessionAccount (payer state.old) memory.old map.old }
+        requires kept { IsKept state.old (payer state.old)
+            (holding_at (payer state.old) memory.old map.old) }
         ensures blocks { HasBlocksAlone (holding_of result memory.new map.new) }
         ensures ram { (account_in memory.new (payer_of result)).ram_limit
-            ≡ (account_in memory.old (payer state)).ram_limit }
+            ≡ (account_in memory.old (payer state.old)).ram_limit }
         ensures caps { (account_in memory.new (payer_of result)).caps_limit
-            ≡ (account_in memory.old (payer state)).caps_limit }
+            ≡ (account_in memory.old (payer state.old)).caps_limit }
         ensures heap { IsSessionHeap result memory.new map.new }
-        ensures payer { payer_of result ≡ payer state }
-        ensures others { KeepsOthers (payer state) memory.old memory.new map.old map.new };
+        ensures payer { payer_of result ≡ payer state.old }
+        ensures others { KeepsOthers (payer state.old) memory.old memory.new map.old map.new };
 
     // A session is stored for no account except the one that pays.
     ghost pays: { PaysFor IsKept payer };

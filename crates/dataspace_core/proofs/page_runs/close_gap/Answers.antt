@@ -1,7 +1,13 @@
 -- What lies behind the run comes to its start.
 use Rattle.std.proofs.Common.{◌≡◌, ◌+◌, ◌-◌, length, arith}
-use Rattle.dataspace_core.proofs.RunLemmas.{IsClosed-cut}
+use Rattle.dataspace_core.proofs.RunLemmas.{IsClosed-one, IsClosed-cut}
 use Rattle.dataspace_core.proofs.page_runs.close_gap.Goals as goal
+
+pub returns-then-gap-eq1-clause-closed : goal.returns-then-gap-eq1-clause-closed
+returns-then-gap-eq1-clause-closed c =
+    let one = c.if-gap-eq1.true in
+    IsClosed-one c.args.table.now.items c.remove-page.new.self.items c.args.gap.start c.args.gap.count one
+    (omega (arith, c.args.table.now.ok)) (omega (arith, c.remove-page.ensures.len, c.args.table.now.ok, c.remove-page.new.self.ok)) c.remove-page.ensures.by_index.0 c.remove-page.ensures.by_index.1
 
 pub returns-clause-closed : goal.returns-clause-closed
 returns-clause-closed c =
