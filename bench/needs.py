@@ -14,7 +14,7 @@ def needs_of(nethrywel, made, calls):
     """What the script needs, and whether it is gone; each open session, by its selector; and those that were closed, in order."""
     nethrywel.write(made, [f"s0 {call}" for call in calls])
     own, opened, closed = None, {}, []
-    for line in nethrywel.told("accounts", "--plain", "--machine", nethrywel.list, nethrywel.scenario).splitlines():
+    for line in nethrywel.printed("accounts", "--plain", "--machine", nethrywel.list, nethrywel.scenario).splitlines():
         found = re.match(r"(account|session) s0(?: (\d+))?(?: ram \S+ caps \S+)?( gone| closed)? need ram (\d+) caps (\d+)", line)
         if not found:
             continue
