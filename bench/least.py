@@ -121,7 +121,7 @@ class Nethrywel:
 
 
 def wants(calls, replies):
-    """Whether the account is in want."""
+    """Whether the account is short of its quota."""
     return any(
         reply in ("Out_of_ram", "Out_of_caps") and not call.startswith(("request", "call ")) for call, reply in zip(calls, replies)
     )

@@ -46,6 +46,10 @@ const marked = () => [document.querySelectorAll('mark, .ruled').length, document
 // Whether the verdict and the matrix are on the first screen.
 const isFirst = () => ['#verdict', '#matrix'].map(it => document.querySelector(it)).filter(it => it).every(it => it.getBoundingClientRect().bottom < innerHeight);
 
+// The variables of the style sheets that have no value.
+const unset = () => [...new Set(document.documentElement.outerHTML.match(/var\(--[\w-]+\)/g))]
+  .filter(it => !getComputedStyle(document.documentElement).getPropertyValue(it.slice(4, -1)));
+
 // Whether a strip of budgets has two parts.
 const isSplit = () => [...document.querySelectorAll('.strip')].some(it => it.querySelectorAll('.suffices').length > 1);
 

@@ -17,7 +17,7 @@ def check_looks(page):
     grounds = []
     for scheme in ("light", "dark"):
         page.emulate(1300, 900, scheme)
-        assert page.call("hard")[:10] == [], scheme
+        assert page.call("hard")[:10] == page.call("unset") == [], scheme
         grounds.append(page.call("ground"))
     assert grounds[0] != grounds[1]
     for width in (340, 900, 1300, 2560):
