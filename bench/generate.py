@@ -16,7 +16,7 @@ same of 1 to 16 bytes), regions (attaches and detaches, up to 128 regions), full
 at a time), holes (blocks taken and given back among 48 holes), sessions (sessions of the log service opened, written to and
 closed, up to 8), reserves (what a reserve has, a request, a yield and what the account has, in turn), log (log lines of 1 to
 200 bytes), files (small files made, written, read and dropped), contents (the same with writes of up to 1,000 bytes), buffers
-(puts and gets of up to 512 bytes, pokes and peeks of the buffer, which is made anew now and then), lent (pokes and peeks of a
+(puts and gets of up to 512 bytes, pokes and peeks of the buffer, which is made again now and then), lent (pokes and peeks of a
 buffer, of 1 to 180 bytes), eight (eight clients of the machine `eight.json` that use everything at once), nested (the last
 script of the machine `nested.json`, of 32 entries in six lists, uses everything at once), few (the same lines on the machine
 `few.json`, which has four of these entries), offsets (that last script reads files by offset), visits (the thirty clients of
@@ -190,13 +190,13 @@ class Heap:
         return place < len(self.holes) and self.holes[place][1] == block
 
     def join(self, block):
-        """Takes a hole away that is to be a part of another, and tells its size."""
+        """Takes a hole away that is to be a part of another, and returns its size."""
         size = self.sizes.pop(block)
         self.holes.remove((size, block))
         return size
 
     def give(self, address):
-        """The block of a payload becomes a hole, joined with the holes beside it."""
+        """The block of a payload becomes a hole, joined with the holes next to it."""
         block = address - HEAP_HEADER
         size, before = self.sizes.pop(block), self.before.get(block)
         if block + size not in self.starts and self.is_hole(block + size):
@@ -335,7 +335,7 @@ CLIENTS = ["anna", "bert", "cleo", "dora", "emil", "fred", "gina", "mallory"]
 
 
 def buffers(lines, rng, most=512):
-    """A buffer of two pages that is attached: of twenty lines nine put, six get, and four poke or peek; one makes it anew."""
+    """A buffer of two pages that is attached: of twenty lines nine put, six get, and four poke or peek; one makes it again."""
     yield "alice open File_system ram_quota=56K, cap_quota=12"
     yield "alice call 1 CREATE f"
     yield "alice call 1 BUFFER 8192"
@@ -417,7 +417,7 @@ def eight(lines, rng):
 
 
 def nested(lines, rng):
-    """The same of one client, which is an init's. Of a hundred lines two close a third session and two open it anew, with its
+    """The same of one client, which is an init's. Of a hundred lines two close a third session and two open it again, with its
     own init's log server and by the init above with the file server in turn, and ten make requests there."""
     name = "fog/dora"
     yield f"{name} open File_system ram_quota=28K, cap_quota=6"
@@ -567,7 +567,7 @@ def steady(take, give):
 
 
 def named(lines, rng, size):
-    """A file dropped and made anew in turn, of so many of a session."""
+    """A file dropped and made again in turn, of so many of a session."""
     yield "alice open File_system ram_quota=4M, cap_quota=80"
     for number in range(size):
         yield f"alice call 1 CREATE f{number}"

@@ -93,16 +93,16 @@ class Nethrywel:
         with open(self.scenario, "w") as file:
             file.write("".join(line + "\n" for line in lines))
 
-    def told(self, *words):
+    def printed(self, *words):
         done = subprocess.run([self.program, *words], capture_output=True, text=True)
         if done.returncode not in (0, 3):
             raise SystemExit(f"{words}: status {done.returncode}: {done.stderr}")
         return done.stdout
 
     def rows(self, *words):
-        told = csv.DictReader(io.StringIO(self.told("least", *words, "--machine", self.list, "--csv", self.scenario)))
+        printed = csv.DictReader(io.StringIO(self.printed("least", *words, "--machine", self.list, "--csv", self.scenario)))
         found = {}
-        for row in told:
+        for row in printed:
             key = (row["component"], row["line"] and int(row["line"]))
             found.setdefault(key, []).append(
                 (int(row["ram_from"]), int(row["ram_below"]) if row["ram_below"] else None, int(row["caps_from"]))
@@ -112,16 +112,16 @@ class Nethrywel:
     def replies(self, made, scripts):
         """What each of the scripts is answered, line by line."""
         self.write(made, [f"s{place} {call}" for place, calls in enumerate(scripts) for call in calls])
-        told = [line for line in self.told("run", "--machine", self.list, self.scenario).splitlines() if re.match(r"s\d+: ", line)]
+        printed = [line for line in self.printed("run", "--machine", self.list, self.scenario).splitlines() if re.match(r"s\d+: ", line)]
         found, at = [], 0
         for calls in scripts:
-            found.append([line.split(": ", 1)[1] for line in told[at : at + len(calls)]])
+            found.append([line.split(": ", 1)[1] for line in printed[at : at + len(calls)]])
             at += len(calls)
         return found
 
 
 def wants(calls, replies):
-    """Whether the account is in want."""
+    """Whether the account is short of its quota."""
     return any(
         reply in ("Out_of_ram", "Out_of_caps") and not call.startswith(("request", "call ")) for call, reply in zip(calls, replies)
     )
@@ -235,7 +235,7 @@ def check(nethrywel, draw):
     lines = [f"s0 {call}" for call in calls]
     nethrywel.write(own, lines)
     donated, least = nethrywel.rows("--as-donated"), nethrywel.rows()
-    rewritten = nethrywel.told("least", "--machine", nethrywel.list, "--scenario", nethrywel.scenario).splitlines()
+    rewritten = nethrywel.printed("least", "--machine", nethrywel.list, "--scenario", nethrywel.scenario).splitlines()
     most = 150 * PAGE
     looked = 0
     differs = check_names(nethrywel, draw, calls, least, reserve)

@@ -1,7 +1,7 @@
 #!/usr/bin/env python3
-"""needs.py PROGRAM [SCENARIOS] [SEED]: draws scenarios of one script, and has `accounts --plain` tell what its account and its
-sessions need. From just that budget, or that opening donation, `PROGRAM run` has to answer each line as before, but for the
-limits that STAT tells; of a session while its client has enough. It ends with how many budgets of a byte or a capability less
+"""needs.py PROGRAM [SCENARIOS] [SEED]: draws scenarios of one script, and takes from `accounts --plain` what its account and its
+sessions need. From just that budget, or that opening donation, `PROGRAM run` has to answer each line as before, except for the
+limits that STAT reports; of a session while its client has enough. It ends with how many budgets of a byte or a capability less
 are answered otherwise: all but those that a growth with two sizes was tested at, which no reply shows."""
 import os, random, re, sys, tempfile
 
@@ -14,7 +14,7 @@ def needs_of(nethrywel, made, calls):
     """What the script needs, and whether it is gone; each open session, by its selector; and those that were closed, in order."""
     nethrywel.write(made, [f"s0 {call}" for call in calls])
     own, opened, closed = None, {}, []
-    for line in nethrywel.told("accounts", "--plain", "--machine", nethrywel.list, nethrywel.scenario).splitlines():
+    for line in nethrywel.printed("accounts", "--plain", "--machine", nethrywel.list, nethrywel.scenario).splitlines():
         found = re.match(r"(account|session) s0(?: (\d+))?(?: ram \S+ caps \S+)?( gone| closed)? need ram (\d+) caps (\d+)", line)
         if not found:
             continue
@@ -29,7 +29,7 @@ def needs_of(nethrywel, made, calls):
 
 
 def replies_of(nethrywel, made, calls):
-    """What the script is answered, without the limits that a session tells."""
+    """What the script is answered, without the limits that a session reports."""
     return [reply for call, reply in zip(calls, nethrywel.replies(made, [calls])[0]) if "STAT" not in call]
 
 

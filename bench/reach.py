@@ -221,10 +221,10 @@ class Reading:
 
 
 def run(program, *arguments):
-    told = subprocess.run([program, *arguments], capture_output=True, text=True)
-    if told.returncode not in (0, 4):
-        raise SystemExit(f"{arguments}: {told.stderr}")
-    return told.returncode, json.loads(told.stdout)
+    printed = subprocess.run([program, *arguments], capture_output=True, text=True)
+    if printed.returncode not in (0, 4):
+        raise SystemExit(f"{arguments}: {printed.stderr}")
+    return printed.returncode, json.loads(printed.stdout)
 
 
 def faults_of_reach(program, path, one):
@@ -240,10 +240,10 @@ def faults_of_reach(program, path, one):
 
 
 def faults_of_diff(program, before, after, old, new):
-    status, told = run(program, "diff", "--json", before, after)
-    if status != (4 if told else 0):
-        yield f"status {status}, and {told}"
-    cells = {(it["name"], it["service"], it["to"]): it for it in told if it["kind"] == "reach"}
+    status, printed = run(program, "diff", "--json", before, after)
+    if status != (4 if printed else 0):
+        yield f"status {status}, and {printed}"
+    cells = {(it["name"], it["service"], it["to"]): it for it in printed if it["kind"] == "reach"}
     nothing = {"gained": [], "gained_witness": None, "lost": [], "lost_witness": None}
     for client in {**old.lists, **new.lists}:
         for service, server in dict.fromkeys(old.servers + new.servers):

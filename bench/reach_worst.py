@@ -1,7 +1,7 @@
 #!/usr/bin/env python3
 """reach_worst.py KIND: a start list of 27 scripts, each of which meets 128 rules that ask how a label begins and ends, as much as a
 list may hold. KIND is `apart` (texts of which none begins or ends another), `chain` (each front begins longer ones, and each end ends
-longer ones), `bytes` (the same, with all bytes behind fronts, so that few of them stand between two texts), `full` (no byte does) or
+longer ones), `bytes` (the same, with all bytes after fronts, so that few of them are between two texts), `full` (no byte does) or
 `blocked` (the same, with long fronts and ends, which all rules share)."""
 import json, random, sys
 

@@ -1,10 +1,10 @@
 #!/usr/bin/env python3
 """release.py [TAIL] [RAM] <SCENARIO: what a heap's words cost a line, now and with a tree of used blocks in their headers.
 
-Reads lines of `new`, `del`, `peek` and `poke` of one script, whose heap may have so many bytes of RAM (16 MiB if none are
-told), and follows them by a second reading of best fit and of the balanced tree. Of the last TAIL lines (all if none are
-told) it prints a line's headers walked, its loads and stores of the tree of holes, and what a tree of a chunk's used blocks
-would load and store: links and height packed into the word of a header that tells the block's state, the root in the
+Reads lines of `new`, `del`, `peek` and `poke` of one script, whose heap may have so many bytes of RAM (16 MiB if no
+number is given), and follows them by a second reading of best fit and of the balanced tree. Of the last TAIL lines (all if no number is
+given) it prints a line's headers walked, its loads and stores of the tree of holes, and what a tree of a chunk's used blocks
+would load and store: links and height packed into the word of a header that has the block's state, the root in the
 chunk's first header. Such a block is found by its offset, for a release with the used block before it, whose end is where a
 hole between them begins.
 """
@@ -145,7 +145,7 @@ class Tree:
 
 
 class Heap:
-    """Best fit in chunks, as the rules have it, with a tree of the used blocks of each chunk beside."""
+    """Best fit in chunks, as the rules have it, with a tree of the used blocks of each chunk in addition."""
 
     def __init__(self, ram):
         self.ram, self.walked, self.hole_count, self.used_count = ram, 0, [0, 0], [0, 0]

@@ -46,14 +46,18 @@ const marked = () => [document.querySelectorAll('mark, .ruled').length, document
 // Whether the verdict and the matrix are on the first screen.
 const isFirst = () => ['#verdict', '#matrix'].map(it => document.querySelector(it)).filter(it => it).every(it => it.getBoundingClientRect().bottom < innerHeight);
 
+// The variables of the style sheets that have no value.
+const unset = () => [...new Set(document.documentElement.outerHTML.match(/var\(--[\w-]+\)/g))]
+  .filter(it => !getComputedStyle(document.documentElement).getPropertyValue(it.slice(4, -1)));
+
 // Whether a strip of budgets has two parts.
-const isSplit = () => [...document.querySelectorAll('.strip')].some(it => it.querySelectorAll('.serves').length > 1);
+const isSplit = () => [...document.querySelectorAll('.strip')].some(it => it.querySelectorAll('.suffices').length > 1);
 
 // What is under each line of the scenario.
 function under() {
-  const told = [];
-  desk.scenario.eachLine(it => { told.push((it.widgets || []).map(one => one.node.textContent)); });
-  return told;
+  const printed = [];
+  desk.scenario.eachLine(it => { printed.push((it.widgets || []).map(one => one.node.textContent)); });
+  return printed;
 }
 
 // How many links of the contents and of the verdict lead nowhere.

@@ -2,6 +2,7 @@
 import contextlib
 import fcntl
 import os
+import re
 import signal
 import socket
 import subprocess
@@ -132,7 +133,7 @@ def running_desk(folder, *words, end=signal.SIGINT):
     finally:
         ran.kill()
         ran.wait()
-    assert os.listdir(temporary) == [] and "Traceback" not in errors.read_text()
+    assert os.listdir(temporary) == [] and not re.search("Traceback|exception", errors.read_text())
 
 
 @pytest.fixture

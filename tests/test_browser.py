@@ -17,7 +17,7 @@ def check_looks(page):
     grounds = []
     for scheme in ("light", "dark"):
         page.emulate(1300, 900, scheme)
-        assert page.call("hard")[:10] == [], scheme
+        assert page.call("hard")[:10] == page.call("unset") == [], scheme
         grounds.append(page.call("ground"))
     assert grounds[0] != grounds[1]
     for width in (340, 900, 1300, 2560):
@@ -68,7 +68,7 @@ def test_report(browser, report, name):
     assert name not in SHOWN or SHOWN[name](page, took)
     if page.texts(".cell"):
         check_rule(page)
-    assert any("serves: ram from" in it for it in page.texts(".account .serves"))
+    assert any("suffices: ram from" in it for it in page.texts(".account .suffices"))
     check_looks(page)
     page.emulate(1300, 900)
     page.run("scrollTo(0, 0)")
@@ -88,9 +88,9 @@ def test_unended_command(browser, nethrywel, tmp_path, command):
     """What is left out since a command came to no end is stated in the verdict and at its part, and nothing else of the part is."""
     _, page = report_without(nethrywel, tmp_path, command)
     opened(browser, page)
-    told = f"left out: nethrywel {command}"
+    printed = f"left out: nethrywel {command}"
     for place in ("#verdict .bad", f"#{UNENDED[command]} .bad"):
-        assert any(told in it for it in browser.texts(place)), browser.text()
+        assert any(printed in it for it in browser.texts(place)), browser.text()
     assert not any(it in browser.text() for it in ("There are no accounts", "No account was called", "Nobody was called", "doesn't boot"))
     assert browser.console() == []
 
@@ -113,7 +113,7 @@ def page(browser, desk_url):
 
 def test_desk(page):
     assert "10 lines of reader: the same alone as in the whole run" in page.text()
-    assert any("serves: ram from" in it for it in page.texts(".account .serves"))
+    assert any("suffices: ram from" in it for it in page.texts(".account .suffices"))
     check_rule(page)
     check_looks(page)
 
@@ -123,9 +123,9 @@ def test_desk_edits(page):
     page.find("#pin").click()
     page.wait(lambda: "nothing" in "".join(page.texts("#since")))
     for i in range(5):
-        told = page.edit(f"desk.scenario.replaceRange('reader quota\\n', {{line: {47 + i}, ch: 0}})")[2]
-        assert told.startswith("answered in ")
-    assert "→ ram 0/98304 caps 0/16" in page.texts(".told.reply")
+        printed = page.edit(f"desk.scenario.replaceRange('reader quota\\n', {{line: {47 + i}, ch: 0}})")[2]
+        assert printed.startswith("answered in ")
+    assert "→ ram 0/98304 caps 0/16" in page.texts(".printed.reply")
     assert any(it.startswith("+ 48: reader quota") for it in page.texts("#since li"))
     page.edit("desk.list.setValue(desk.list.getValue().replace('\"caps\": 16}', '\"caps\": 15}'))")
     assert any(it.startswith("~ reader: script, 98304 bytes, 15 caps (was") for it in page.texts("#since li"))
@@ -134,15 +134,15 @@ def test_desk_edits(page):
 def test_desk_faults(page):
     """A fault is shown under its line and at its position, in the scenario, the policy and the start list."""
     page.edit("desk.scenario.replaceRange('reader alok 4K\\n', {line: 3, ch: 0})")
-    assert "unknown call `alok`" in page.texts("#of-scenario .told.wrong")[0]
+    assert "unknown call `alok`" in page.texts("#of-scenario .printed.wrong")[0]
     assert "alok" in page.texts("#of-scenario .faulty")
     page.edit("desk.policy.setValue('deny crawler -> store')")
-    assert any("crawler reaches store" in it for it in page.texts("#of-policy .told.wrong"))
+    assert any("crawler reaches store" in it for it in page.texts("#of-policy .printed.wrong"))
     page.edit("desk.list.setValue(desk.list.getValue().replace('\"96K\"', '\"900K\"'))")
-    assert "Quota_exceeded" in "".join(page.texts("#of-list .told.wrong")) and '"900K"' in "".join(page.texts("#of-list .faulty"))
+    assert "Quota_exceeded" in "".join(page.texts("#of-list .printed.wrong")) and '"900K"' in "".join(page.texts("#of-list .faulty"))
     check_looks(page)
     page.edit("desk.list.setValue('{\"machine\": <script>')")
-    assert "Bad_json" in "".join(page.texts("#of-list .told.wrong"))
+    assert "Bad_json" in "".join(page.texts("#of-list .printed.wrong"))
     assert not any(page.call("under")), "replies are shown though nothing was answered"
 
 

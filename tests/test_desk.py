@@ -16,6 +16,7 @@ from conftest import running_desk
 from test_report import MACHINE
 
 pytestmark = needs(*PAGES)
+server = pytest.importorskip("nethrywel_tools.page_server", reason="waitress isn't here")
 SMALL = {"list": "", "scenario": "alice quota\n"}
 # A release walks the heap's chunk, here of 900 blocks.
 BLOCKS = "@repeat 900\nalice new 1\n@end\n@repeat 320000 as i\nalice new 1 => at $block\nalice del $block => ok\n@end\n"
@@ -205,7 +206,7 @@ def is_closed(link):
 @pytest.mark.slow
 def test_odd_clients(client):
     """Clients that leave early, and slow clients with more connections than the desk has descriptors, keep no page waiting."""
-    for header in (b"GET / HTTP/1.1\r\n", b"GET / HTTP/1.1\r\n\r\n", b"GET [ HTTP/1.1\r\nx\r\n\r\n") * 50:
+    for header in (b"GET / HTTP/1.1\r\n", b"GET / HTTP/1.1\r\n\r\n", b"GET http://[ HTTP/1.1\r\nx\r\n\r\n") * 50:
         with socket.create_connection(client.address) as it:
             it.sendall(header)
             it.setsockopt(socket.SOL_SOCKET, socket.SO_LINGER, struct.pack("ii", 1, 0))
@@ -220,9 +221,20 @@ def test_odd_clients(client):
         assert is_closed(slow[-1])
 
 
-def test_body_that_never_comes(client):
-    """A stranger's body that never comes is refused at once."""
+@pytest.mark.slow
+def test_oldest_stranger(client):
+    """Of more strangers than the desk has places for, the oldest is closed before its time for a header is over."""
+    with contextlib.ExitStack() as ends:
+        links = (socket.create_connection(client.address, timeout=server.HEADER_SECONDS - 1) for _ in range(server.STRANGERS + 1))
+        first, *_ = [ends.enter_context(it) for it in links]
+        assert first.recv(1) == b""
+
+
+@pytest.mark.parametrize("status, line, header", [
+    (403, "POST /save", "Host: {host}\r\nOrigin: http://{host}\r\nX-Token: x\r\nContent-Length: 9000000"), (400, "GET http://[", "x: x")],
+    ids=["body-that-never-comes", "no-address"])
+def test_refused_by_header(client, status, line, header):
+    """A stranger's body that never comes is refused at once, and so is an address that is none."""
     with socket.create_connection(client.address, timeout=30) as it:
-        header = f"Host: {client.at.netloc}\r\nOrigin: {client.origin}\r\nX-Token: x\r\nContent-Length: 9000000"
-        it.sendall(f"POST /save HTTP/1.1\r\n{header}\r\n\r\n".encode())
-        assert b" 403 " in it.recv(100)
+        it.sendall(f"{line} HTTP/1.1\r\n{header.format(host=client.at.netloc)}\r\n\r\n".encode())
+        assert f" {status} ".encode() in it.recv(100)

@@ -8,9 +8,9 @@ from test_sweep import small
 
 # Tools that take no argument, or only names that are known.
 CLOSED = [*(f"dev/{it}" for it in "attack check-documents crate-graph schema setup steps theorems tour".split()), "tools/sweep"]
-TOOLS = [*CLOSED, *(f"dev/{it}" for it in ("browse", "package", "pictures")),
+TOOLS = [*CLOSED, *(f"dev/{it}" for it in ("package", "pictures")),
          *(f"tools/{it}" for it in ("desk", "graph", "install", "picture", "report")),
-         "tests/run", "examples/statuses", "examples/compare", "bench/measure"]
+         "tests/run", "examples/statuses", "examples/compare", "bench/measure", "bench/browse"]
 NOTES = "friendly/notes.scenario"
 
 

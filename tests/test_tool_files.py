@@ -26,6 +26,8 @@ def test_whole(tmp_path, monkeypatch):
     with pytest.raises(OSError):
         files.write_whole(path, b"newer")
     assert path.read_bytes() == b"new" and os.listdir(tmp_path) == ["file"] and modes == [0o640]
+    with pytest.raises(FileNotFoundError, match=f"'{tmp_path}/none/file'"):
+        files.write_whole(tmp_path / "none/file", b"new")
 
 
 def test_exclusive(tmp_path, monkeypatch):

@@ -17,8 +17,8 @@ def shown(nethrywel, tmp_path):
     return made
 
 
-def told(data):
-    return [(it["name"], it["told"], it["differ"]) for it in data.alone()["scripts"]]
+def printed(data):
+    return [(it["name"], it["printed"], it["differ"]) for it in data.alone()["scripts"]]
 
 
 def test_log_lines(shown):
@@ -29,7 +29,7 @@ def test_log_lines(shown):
     assert lines[2][2:] == ["alice", "OK 8", ["[alice] one", "[alice] two"]]
     assert lines[3] == [4, "@end"] and lines[4][2:] == ["bob", "ram 0/65536 caps 0/16", []]
     same = "the same alone as in the whole run"
-    assert told(data) == [("alice", f"2 lines of alice: {same}", []), ("bob", f"1 lines of bob: {same}", [])]
+    assert printed(data) == [("alice", f"2 lines of alice: {same}", []), ("bob", f"1 lines of bob: {same}", [])]
 
 
 def test_alone_differs(shown):
@@ -37,7 +37,7 @@ def test_alone_differs(shown):
     data, _ = shown(None, "alice alloc 4K\nbob quota\nalice quota\n")
     real = data.run
     data.run = lambda words: (0, "alice: cap 1\nalice: ram 0/65536 caps 0/16\n", "") if "--only=alice" in words else real(words)
-    alice, bob = told(data)
+    alice, bob = printed(data)
     assert alice[1:] == ("2 lines of alice: 1 differ", [(3, "alice: ram 0/65536 caps 0/16")]) and bob[2] == []
 
 
@@ -47,11 +47,11 @@ def test_budgets(shown):
     data, _ = shown((EXAMPLES / "reserves.json").read_text(), "!" + "!".join(lines))
     found = {(it["name"], it["session"]): it for it in data.least()["accounts"]}
     assert found["alice", None]["short"] and found["bob", "1"]["line"] == 7
-    assert found["alice", None]["told"] == ["ram from 36K, caps from 2", "given 32K and 8: insufficient; the least is 36K and 2"]
-    assert found["bob", "1"]["told"] == ["ram from 8K, caps from 3", "given 16K and 4: 8K and 1 could be saved"]
+    assert found["alice", None]["printed"] == ["ram from 36K, caps from 2", "given 32K and 8: insufficient; the least is 36K and 2"]
+    assert found["bob", "1"]["printed"] == ["ram from 8K, caps from 3", "given 16K and 4: 8K and 1 could be saved"]
     found = {it["name"]: it for it in shown(None, "alice alloc 800M\nbob alloc 4K\n")[0].least()["accounts"]}
     alice, bob = found["alice"], found["bob"]
-    assert alice["short"] and alice["told"] == ["no budget serves"]
+    assert alice["short"] and alice["printed"] == ["no budget serves"]
     assert not bob["short"] and bob["given"] == (65536, 16)
 
 

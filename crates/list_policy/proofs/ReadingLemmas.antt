@@ -13,7 +13,7 @@ use Rattle.list_policy.specs.Cuts.{blanks, text_at}
 use Rattle.list_policy.specs.Reading.{LineSaid, unless_faulty}
 use Rattle.list_policy.specs.Statement.{FlawAt, HasBadPath}
 use Rattle.list_policy.specs.declared.components.NamedKind.{NamedKind}
-use Rattle.list_policy.specs.declared.components.TextPlace.{TextPlace}
+use Rattle.list_policy.specs.declared.components.PolicyPlace.{PolicyPlace}
 use Rattle.list_policy.specs.declared.fault.PolicyFault.{PolicyFault}
 
 -- the flaw of paths that denote nobody
@@ -95,7 +95,7 @@ module _ {X : Type 0} (text_of : X → List ℕ) where
       ∙ (sym (append_assoc found (numbers_in (read_at list kind (text_of (get_or texts at d)))) (found_in list kind (map text_of (drop (at + 1) texts))))
       ∙ ap (λ xs. xs ++ found_in list kind (map text_of (drop (at + 1) texts))) (sym (more ∙ ap (λ r. found ++ numbers_in r) is))))
 
-  pub faults_more : (list : Listed) (kind : NamedKind) (whole found new : List FaultAt) (texts : List X) (here place next : TextPlace) (at : ℕ) (d : X)
+  pub faults_more : (list : Listed) (kind : NamedKind) (whole found new : List FaultAt) (texts : List X) (here place next : PolicyPlace) (at : ℕ) (d : X)
       (read : Result (List ℕ) FlawAt)
       → at < length texts → whole ≡ found ++ faults_in list kind here (map text_of (drop at texts))
       → read ≡ read_at list kind (text_of (get_or texts at d)) → place ≡ next_place here (blanks (text_of (get_or texts at d)))

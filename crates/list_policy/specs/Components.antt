@@ -9,7 +9,7 @@ use Rattle.list_policy.specs.Cuts.{blanks, plus}
 use Rattle.list_policy.specs.Statement.{FlawAt, HasBadPath, flaw_at}
 use Rattle.list_policy.specs.declared.components.NamedKind.{NamedKind}
 use Rattle.list_policy.specs.declared.components.NamedKind.TheVariants.{Scripts, Servers, Any}
-use Rattle.list_policy.specs.declared.components.TextPlace.{TextPlace}
+use Rattle.list_policy.specs.declared.components.PolicyPlace.{PolicyPlace}
 use Rattle.list_policy.specs.declared.fault.PolicyFault.{PolicyFault}
 
 -- a flaw, with its line and its column
@@ -21,11 +21,11 @@ pub record FaultAt : Type 0 where
 abbrev pub fault_at : PolicyFault → FaultAt
 fault_at fault = record { line = fault.line; column = fault.column; flaw = flaw_at fault.flaw }
 
-abbrev pub flaw_in : TextPlace → FlawAt → FaultAt
+abbrev pub flaw_in : PolicyPlace → FlawAt → FaultAt
 flaw_in place flaw = record { line = place.line; column = place.column; flaw = flaw }
 
 -- the place so many bytes later
-abbrev pub next_place : TextPlace → ℕ → TextPlace
+abbrev pub next_place : PolicyPlace → ℕ → PolicyPlace
 next_place place bytes = record { line = place.line; column = plus place.column bytes }
 
 -- a path denotes the component of a number
@@ -57,7 +57,7 @@ abbrev pub numbers_in : Result (List ℕ) FlawAt → List ℕ
 numbers_in (Ok numbers) = numbers
 numbers_in (Err flaw) = []
 
-abbrev pub fault_in : TextPlace → Result (List ℕ) FlawAt → List FaultAt
+abbrev pub fault_in : PolicyPlace → Result (List ℕ) FlawAt → List FaultAt
 fault_in place (Ok numbers) = []
 fault_in place (Err flaw) = flaw_in place flaw ∷ []
 
@@ -67,7 +67,7 @@ found_in list kind [] = []
 found_in list kind (path ∷ paths) = numbers_in (read_at list kind path) ++ found_in list kind paths
 
 -- the faults of paths, of which the first begins at a place, each where the path begins after its blanks
-abbrev pub faults_in : Listed → NamedKind → TextPlace → List (List ℕ) → List FaultAt
+abbrev pub faults_in : Listed → NamedKind → PolicyPlace → List (List ℕ) → List FaultAt
 faults_in list kind place [] = []
 faults_in list kind place (path ∷ paths) =
     fault_in (next_place place (blanks path)) (read_at list kind path) ++ faults_in list kind (next_place place (length path + 1)) paths

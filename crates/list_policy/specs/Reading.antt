@@ -9,7 +9,7 @@ use Rattle.list_policy.specs.Line.{LineAt, line_at}
 use Rattle.list_policy.specs.Statement.{FlawAt, IsNotApart, PathAt, StatementAt, statement_of}
 use Rattle.list_policy.specs.declared.components.NamedKind.{NamedKind}
 use Rattle.list_policy.specs.declared.components.NamedKind.TheVariants.{Scripts, Servers, Any}
-use Rattle.list_policy.specs.declared.components.TextPlace.{TextPlace}
+use Rattle.list_policy.specs.declared.components.PolicyPlace.{PolicyPlace}
 use Rattle.list_policy.specs.declared.demand.Demand.{Demand}
 use Rattle.list_policy.specs.declared.demand.Demand.TheVariants.{Deny, Allow, Only, Isolate, AtMost}
 use Rattle.list_policy.specs.declared.policy_text.Policy.{Policy}
@@ -23,7 +23,7 @@ abbrev pub quoted_of : List ℕ → Option (List ℕ)
 quoted_of line = if is_some (rest 35 (front 34 line)) then None else rest 34 line
 
 -- the place of paths in a line that begins at a place
-abbrev pub path_place : TextPlace → PathAt → TextPlace
+abbrev pub path_place : PolicyPlace → PathAt → PolicyPlace
 path_place place path = record { line = place.line; column = plus place.column path.at }
 
 -- the kind of the components that a line names before its arrow, or if it has none
@@ -45,11 +45,11 @@ isolates (AtMost limit) = false
 abbrev pub LineSaid : Type 0
 LineSaid = Result LineAt (List FaultAt)
 
-abbrev pub one_flaw : TextPlace → FlawAt → LineSaid
+abbrev pub one_flaw : PolicyPlace → FlawAt → LineSaid
 one_flaw place flaw = Err (flaw_in place flaw ∷ [])
 
 -- components that are to be isolated have to be separate
-abbrev pub apart_or : Listed → TextPlace → LineAt → LineSaid
+abbrev pub apart_or : Listed → PolicyPlace → LineAt → LineSaid
 apart_or list place line = if isolates line.demand && not (are_separate list line.from) then one_flaw place IsNotApart else Ok line
 
 -- what remains to be said of a line, unless some paths have faults
@@ -62,18 +62,18 @@ abbrev pub targets_in : Listed → Option PathAt → List ℕ
 targets_in list None = []
 targets_in list (Some to) = found_in list Servers (pieces 44 to.text)
 
-abbrev pub target_faults : Listed → TextPlace → Option PathAt → List FaultAt
+abbrev pub target_faults : Listed → PolicyPlace → Option PathAt → List FaultAt
 target_faults list place None = []
 target_faults list place (Some to) = faults_in list Servers (path_place place to) (pieces 44 to.text)
 
 -- the faults of all paths of a statement
-abbrev pub path_faults : Listed → TextPlace → StatementAt → List FaultAt
+abbrev pub path_faults : Listed → PolicyPlace → StatementAt → List FaultAt
 path_faults list place statement =
     faults_in list (from_kind statement.demand) (path_place place statement.from) (pieces 44 statement.from.text)
     ++ target_faults list place statement.to
 
 -- the line of a statement, with the numbers of all that its paths denote
-abbrev pub line_of : Listed → TextPlace → StatementAt → LineSaid
+abbrev pub line_of : Listed → PolicyPlace → StatementAt → LineSaid
 line_of list place statement =
     unless_faulty (path_faults list place statement)
     (apart_or list place
@@ -85,16 +85,16 @@ line_of list place statement =
       to = targets_in list statement.to;
     }))
 
-abbrev pub line_by : Listed → TextPlace → Result StatementAt FlawAt → LineSaid
+abbrev pub line_by : Listed → PolicyPlace → Result StatementAt FlawAt → LineSaid
 line_by list place (Ok statement) = line_of list place statement
 line_by list place (Err flaw) = one_flaw place flaw
 
 -- the line of a head and of the text after its quote
-abbrev pub line_from : Listed → TextPlace → List ℕ → Option (List ℕ) → LineSaid
+abbrev pub line_from : Listed → PolicyPlace → List ℕ → Option (List ℕ) → LineSaid
 line_from list place head quoted = line_by list place (statement_of head quoted)
 
 -- where a line begins
-abbrev pub start_of : ℕ → List ℕ → TextPlace
+abbrev pub start_of : ℕ → List ℕ → PolicyPlace
 start_of number line = record { line = number; column = plus (blanks line) 1 }
 
 -- what a line says, if it isn't empty

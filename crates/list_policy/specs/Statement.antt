@@ -15,7 +15,7 @@ use Rattle.list_policy.specs.declared.fault.PolicyFlaw.{PolicyFlaw}
 use Rattle.list_policy.specs.declared.fault.PolicyFlaw.TheVariants as flaw
 use Rattle.list_policy.specs.declared.statement.LabelWord.{LabelWord}
 use Rattle.list_policy.specs.declared.statement.LabelWord.TheVariants as word
-use Rattle.list_policy.specs.declared.statement.PathText.{PathText}
+use Rattle.list_policy.specs.declared.statement.PolicyPath.{PolicyPath}
 use Rattle.list_policy.specs.declared.statement.RangeWords.{RangeWords}
 use Rattle.list_policy.specs.declared.statement.Statement.{Statement}
 use Rattle.list_policy.specs.declared.statement.StatementTarget.{StatementTarget}
@@ -57,7 +57,7 @@ pub record PathAt : Type 0 where
   pub text : List ℕ
   pub at : ℕ
 
-abbrev pub path_at : PathText → PathAt
+abbrev pub path_at : PolicyPath → PathAt
 path_at path = record { text = path.text.now; at = path.at }
 
 -- what a line demands, and the paths before and after its arrow

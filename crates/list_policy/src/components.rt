@@ -24,12 +24,12 @@ pub(crate) enum NamedKind {
 
 /// A place of a policy's text: a line and a column in bytes, both from 1 on.
 #[derive(Clone, Copy)]
-pub(crate) struct TextPlace {
+pub(crate) struct PolicyPlace {
     pub(crate) line: usize,
     pub(crate) column: usize,
 }
 
-impl TextPlace {
+impl PolicyPlace {
     /// Returns a flaw at the place.
     pub(crate) fn fault(self, flaw: PolicyFlaw<'_>) -> PolicyFault<'_>
         ensures { fault_at result ≡ flaw_in self (flaw_at flaw.entry) }
@@ -42,10 +42,10 @@ impl TextPlace {
     }
 
     // The place so many bytes later.
-    fn after(self, bytes: usize) -> TextPlace
+    fn after(self, bytes: usize) -> PolicyPlace
         ensures { result ≡ next_place self bytes }
     {
-        TextPlace {
+        PolicyPlace {
             line: self.line,
             column: plus(self.column, bytes),
         }
@@ -60,7 +60,7 @@ pub(crate) fn components<'a>(
     list: &StartList,
     faults: &mut Vec<PolicyFault<'a>>,
     kind: NamedKind,
-    place: TextPlace,
+    place: PolicyPlace,
     paths: &'a [u8],
 ) -> Result<Vec<usize>, AllocError>
     ensures found { IfOk result (λ found. found.items ≡ found_in list.now kind (pieces 44 paths.now)) }
@@ -83,7 +83,7 @@ pub(crate) fn components<'a>(
 fn add_path<'a>(
     found: &mut Vec<usize>,
     faults: &mut Vec<PolicyFault<'a>>,
-    place: TextPlace,
+    place: PolicyPlace,
     read: Result<Vec<usize>, PolicyFlaw<'a>>,
 ) -> Result<(), AllocError>
     ensures found { OnOk result (found.new.items ≡ found.old.items ++ numbers_in

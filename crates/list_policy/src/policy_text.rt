@@ -7,11 +7,11 @@ ghost use Rattle.list_policy.specs.Line.{line_at};
 ghost use Rattle.list_policy.specs.Reading.{Reads, apart_or, faults_in_line, from_kind, head_of, isolates, line_from, line_of, lines_in_line, one_flaw, path_place, quoted_of, said, target_faults, targets_in};
 ghost use Rattle.list_policy.specs.Statement.{flaw_at, path_at, statement_at};
 
-use crate::components::{NamedKind, TextPlace, components};
+use crate::components::{NamedKind, PolicyPlace, components};
 use crate::cuts::{blanks, cut, plus};
 use crate::demand::{Demand, PolicyLine, are_separate};
 use crate::fault::{PolicyFault, PolicyFlaw};
-use crate::statement::{PathText, Statement, statement_of};
+use crate::statement::{PolicyPath, Statement, statement_of};
 use list_parser::StartList;
 use list_reach::{pieces, trimmed};
 use std::alloc::{AllocError, Global};
@@ -70,7 +70,7 @@ impl<'a> Policy<'a> {
         if head.is_empty() && quoted.is_none() {
             return Ok(());
         }
-        let place = TextPlace {
+        let place = PolicyPlace {
             line: number,
             column: plus(blanks(text), 1),
         };
@@ -89,7 +89,7 @@ type LineRead<'a> = Result<PolicyLine, Vec<PolicyFault<'a>>>;
 fn read_line<'a>(
     alloc: Global,
     list: &StartList,
-    place: TextPlace,
+    place: PolicyPlace,
     head: &'a [u8],
     quoted: Option<&'a [u8]>,
 ) -> Result<LineRead<'a>, AllocError>
@@ -106,7 +106,7 @@ fn read_line<'a>(
 // A line with one flaw.
 fn faulty<'a>(
     alloc: Global,
-    place: TextPlace,
+    place: PolicyPlace,
     flaw: PolicyFlaw<'a>,
 ) -> Result<LineRead<'a>, AllocError>
     ensures { IfOk result (λ read.
@@ -123,7 +123,7 @@ fn faulty<'a>(
 fn line_of<'a>(
     alloc: Global,
     list: &StartList,
-    place: TextPlace,
+    place: PolicyPlace,
     statement: Statement<'a>,
 ) -> Result<LineRead<'a>, AllocError>
     ensures { IfOk result (λ read.
@@ -154,8 +154,8 @@ fn targets<'a>(
     alloc: Global,
     list: &StartList,
     faults: &mut Vec<PolicyFault<'a>>,
-    place: TextPlace,
-    to: Option<PathText<'a>>,
+    place: PolicyPlace,
+    to: Option<PolicyPath<'a>>,
 ) -> Result<Vec<usize>, AllocError>
     ensures found { IfOk result (λ found. found.items ≡ targets_in list.now (option_map path_at to.entry)) }
     ensures faults { OnOk result (map fault_at faults.new.items ≡ map fault_at faults.old.items
@@ -175,10 +175,10 @@ fn targets<'a>(
 }
 
 // The place of paths in a line that begins at a place.
-fn path_place(place: TextPlace, paths: PathText<'_>) -> TextPlace
+fn path_place(place: PolicyPlace, paths: PolicyPath<'_>) -> PolicyPlace
     ensures { result ≡ path_place place (path_at paths.entry) }
 {
-    TextPlace {
+    PolicyPlace {
         line: place.line,
         column: plus(place.column, paths.at),
     }
@@ -198,7 +198,7 @@ fn from_kind(demand: &Demand) -> NamedKind
 fn apart_or<'a>(
     alloc: Global,
     list: &StartList,
-    place: TextPlace,
+    place: PolicyPlace,
     line: PolicyLine,
 ) -> Result<LineRead<'a>, AllocError>
     ensures { IfOk result (λ read.

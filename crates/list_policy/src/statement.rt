@@ -17,7 +17,7 @@ const AT_MOST: &[u8] = b" at most ";
 
 /// Paths of components, with the number of bytes before them in a line.
 #[derive(Clone, Copy)]
-pub(crate) struct PathText<'a> {
+pub(crate) struct PolicyPath<'a> {
     pub(crate) text: &'a [u8],
     pub(crate) at: usize,
 }
@@ -26,8 +26,8 @@ pub(crate) struct PathText<'a> {
 #[derive(Drop)]
 pub(crate) struct Statement<'a> {
     pub(crate) demand: Demand,
-    pub(crate) from: PathText<'a>,
-    pub(crate) to: Option<PathText<'a>>,
+    pub(crate) from: PolicyPath<'a>,
+    pub(crate) to: Option<PolicyPath<'a>>,
 }
 
 // The first word of a line with an arrow.
@@ -100,10 +100,10 @@ fn reach_of<'a>(
 }
 
 // Paths that begin where a last part of a line does.
-fn path_in<'a>(head: &[u8], last: &[u8], text: &'a [u8]) -> PathText<'a>
+fn path_in<'a>(head: &[u8], last: &[u8], text: &'a [u8]) -> PolicyPath<'a>
     ensures { path_at result ≡ path_in head.now last.now text.now }
 {
-    PathText {
+    PolicyPath {
         text,
         at: head.len().saturating_sub(last.len()),
     }
@@ -145,7 +145,7 @@ fn budget_of<'a>(head: &'a [u8], quoted: Option<&'a [u8]>) -> Result<Statement<'
         (None, None) => Err(PolicyFlaw::BadBudget),
         (None, Some(limit)) => Ok(Statement {
             demand: Demand::AtMost(limit),
-            from: PathText {
+            from: PolicyPath {
                 text: &head[..at],
                 at: 0,
             },

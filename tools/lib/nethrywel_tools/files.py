@@ -44,7 +44,10 @@ def write_whole(path, data):
         return
     folder = os.path.dirname(path)
     # (exclusive, with a name that nobody knows, and readable by its owner alone)
-    number, new = tempfile.mkstemp(prefix=f".{os.path.basename(path)[:200]}.", dir=folder)
+    try:
+        number, new = tempfile.mkstemp(prefix=f".{os.path.basename(path)[:200]}.", dir=folder)
+    except OSError as fault:
+        raise OSError(fault.errno, fault.strerror, path) from fault
     try:
         with open(number, "wb") as it:
             it.write(data)

@@ -56,10 +56,10 @@ def policy_lines(text, status, breaches, rules):
     faults = {it.line or 0: it.text for it in breaches}
     lines = []
     for number, line in enumerate(lines_in(text), 1):
-        told = faults.get(number)
-        kept = None if told or status == 2 or re.match(r"\s*(#|$)", line) else True
-        named = rules_named(told, told.split(" ")[0], rules) if told else []
-        lines.append({"text": line, "told": told, "kept": kept, "rules": named})
+        printed = faults.get(number)
+        kept = None if printed or status == 2 or re.match(r"\s*(#|$)", line) else True
+        named = rules_named(printed, printed.split(" ")[0], rules) if printed else []
+        lines.append({"text": line, "printed": printed, "kept": kept, "rules": named})
     return {"lines": lines, "fault": faults.get(0), "read": status != 2}
 
 
@@ -92,15 +92,15 @@ def budget_of(key, rows, given):
     name, session, line = key
     below = ("" if it.ram_below is None else f" below {amount(it.ram_below)}" for it in rows)
     said = "; ".join(f"ram from {amount(it.ram_from)}{less}, caps from {it.caps_from}" for it, less in zip(rows, below))
-    told, fits = [said or "no budget serves"], bool(given) and any(it.suffices(*given) for it in rows)
+    printed, fits = [said or "no budget serves"], bool(given) and any(it.suffices(*given) for it in rows)
     if given and rows:
         more = given[0] - rows[0].ram_from, given[1] - rows[0].caps_from
         gap = f"{amount(abs(more[0]))} and {abs(more[1])}"
         least = f"the least is {amount(rows[0].ram_from)} and {rows[0].caps_from}"
         end = least if min(more) < 0 else f"{gap} could be saved" if any(more) else "the least"
-        told.append(f"given {amount(given[0])} and {given[1]}: {end if fits else f'insufficient; {least}'}")
+        printed.append(f"given {amount(given[0])} and {given[1]}: {end if fits else f'insufficient; {least}'}")
     return {
-        "name": name, "session": session and str(session), "line": line, "given": given, "told": told,
+        "name": name, "session": session and str(session), "line": line, "given": given, "printed": printed,
         "rows": [[it.ram_from, it.ram_below, it.caps_from] for it in rows], "short": not rows or bool(given) and not fits,
     }
 
@@ -136,13 +136,13 @@ class PageData:
         found = places(self.list)
         self.rules = rules_in(self.list, found)
         status, out, err = self.ran("check", "--json", *(["--policy", "policy"] if self.policy else []), "list.json")
-        told = [*documents_in(out), *diagnostics_in(err)] if status != 1 else []
-        breaches = [it for it in told if it.file == "policy"]
-        for it in told:
+        printed = [*documents_in(out), *diagnostics_in(err)] if status != 1 else []
+        breaches = [it for it in printed if it.file == "policy"]
+        for it in printed:
             if it.file != "policy":
                 where = f"{it.line}:{it.column}: " if it.line else f"{it.part}: " if it.part and it.kind == "finding" else ""
                 place = range_of(it, self.list, found)
-                data["findings"].append({"told": where + it.text, "range": place, "advice": it.kind == "advice"})
+                data["findings"].append({"printed": where + it.text, "range": place, "advice": it.kind == "advice"})
         # (a policy with a fault, or a breach of it, is no fault of the list; without a check the run decides)
         data["boots"] = status in (0, 1) or bool(breaches)
         if self.policy and data["boots"] and status != 1:
@@ -185,16 +185,16 @@ class PageData:
         finished."""
         texts, transcript = lines_in(self.scenario), self.ran("run", *self.machine, "scenario")[1]
         self.outputs = list(outputs_in(self.calls, transcript))
-        told = {it.line: (it.component, it.reply, output[:-1]) for it, output in self.outputs}
+        printed = {it.line: (it.component, it.reply, output[:-1]) for it, output in self.outputs}
         if len(texts) <= WHOLE_LINES and len(self.scenario) + len(transcript) <= WHOLE_BYTES:
-            data["lines"] = [[i, text, *told.get(i, ())] for i, text in enumerate(texts, 1)]
+            data["lines"] = [[i, text, *printed.get(i, ())] for i, text in enumerate(texts, 1)]
             return
         count, refused = len(texts), list(dict.fromkeys(it.line for it in self.calls if it.is_refused))
         kept = {*range(1, min(ENDS, count) + 1), *range(max(count - ENDS, 0) + 1, count + 1)}
         wrong = sorted({it[0] for it in complaints if it[0] <= count})
         kept.update(wrong[:WRONG], some(refused, REFUSED), some(range(1, count + 1), EVENLY))
         for i in sorted(kept):
-            reply = [(name, clipped(text), list(map(clipped, logs[:8]))) for name, text, logs in [told[i]]] if i in told else [()]
+            reply = [(name, clipped(text), list(map(clipped, logs[:8]))) for name, text, logs in [printed[i]]] if i in printed else [()]
             data["lines"].append([i, clipped(texts[i - 1]), *reply[0]])
         data["left"]["lines"] = count - len(kept)
 
@@ -215,7 +215,7 @@ class PageData:
             said = f"{len(lines)} lines of {name}: {f'{len(differ)} differ' if differ else 'the same alone as in the whole run'}"
             ticks = sorted({*some(lines, TICKS), *refused})
             scripts.append({
-                "name": name, "told": said, "lines": ticks, "thinned": len(ticks) < len(lines), "refused": refused,
+                "name": name, "printed": said, "lines": ticks, "thinned": len(ticks) < len(lines), "refused": refused,
                 "differ": list(differ.items()),
             })
         missing = self.missing.get("alone", [])
@@ -257,8 +257,8 @@ class PageData:
         """Returns the route of one session request, as it is printed, with the rules that it names."""
         arguments = [f'label="{label}"'] if label else []
         _, out, err = self.ran("route", "--", "list.json", client, service, *arguments)
-        told = out or errors_in(err)
-        return {"told": told.splitlines(), "rules": rules_named(told, client, self.rules)}
+        printed = out or errors_in(err)
+        return {"printed": printed.splitlines(), "rules": rules_named(printed, client, self.rules)}
 
     def routes(self, reach):
         """Returns the route of each cell's request, by the script, the service and the label."""
@@ -268,6 +268,6 @@ class PageData:
     def diff(self, before):
         """Returns how the start list differs from one before, with the effect on the scenario's replies."""
         if self.list is None:
-            return {"told": [], "why": "the built-in machine has no text: write a start list"}
+            return {"printed": [], "why": "the built-in machine has no text: write a start list"}
         status, out, err = self.ran("diff", before, "list.json", "scenario")
-        return {"told": lines_in(out), "why": "" if status in (0, 4) else err}
+        return {"printed": lines_in(out), "why": "" if status in (0, 4) else err}

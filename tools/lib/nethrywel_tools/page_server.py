@@ -83,11 +83,11 @@ class Server(TcpWSGIServer):
     def app(self, asked, start):
         """Answers a request, as waitress calls it; one that fails is printed in a line."""
         try:
-            told = self.answer(asked)
+            answer = self.answer(asked)
         except Exception as fault:
             print(f"desk: a request failed: {type(fault).__name__}: {fault}", file=sys.stderr)
-            told = 500, {"why": "a fault of the desk"}
-        status, headers, body = Answer(*told).to_response()
+            answer = 500, {"why": "a fault of the desk"}
+        status, headers, body = Answer(*answer).to_response()
         start(status, headers)
         return [body]
 

@@ -5,7 +5,7 @@ const Page = (() => {
   const SVG = "http://www.w3.org/2000/svg";
   const page = document.getElementById("page");
   // What is drawn, at which line the cursor is, and which folds are open.
-  const state = { data: null, at: null, told: new Map(), called: [], open: new Set() };
+  const state = { data: null, at: null, printed: new Map(), called: [], open: new Set() };
   // What a desk does in the place of this page's own listing and lines.
   const hooks = { mark: null, select: null, route: null };
   const parts = [];
@@ -39,14 +39,14 @@ const Page = (() => {
   const patterns = () => {
     const hatch = (id, d) => svg("pattern", { id, width: 6, height: 6, patternUnits: "userSpaceOnUse" }, svg("rect", { width: 6, height: 6 }), svg("path", { d }));
     return svg("svg", { class: "patterns", width: 0, height: 0, "aria-hidden": "true" }, svg("defs", {},
-      hatch("given", "M0 6L6 0"), hatch("kept", "M0 3H6"), hatch("wants", "M0 0L6 6M0 6L6 0"), hatch("some", "M1 3H3")));
+      hatch("given", "M0 6L6 0"), hatch("kept", "M0 3H6"), hatch("short", "M0 0L6 6M0 6L6 0"), hatch("some", "M1 3H3")));
   };
 
-  // take DATA: what is told becomes what is drawn.
+  // take DATA: what is printed becomes what is drawn.
   const take = (data) => {
     state.data = data;
     state.at = null;
-    state.told = new Map(data.lines.map((it) => [it[0], it]));
+    state.printed = new Map(data.lines.map((it) => [it[0], it]));
     state.called = data.lines.filter((it) => it.length > 2).map((it) => it[0]);
   };
   const draw = (data) => {

@@ -1,5 +1,5 @@
 "use strict";
-// Budgets: of each account what it uses, donated, has left and in reserve; and every budget that serves, with the least.
+// Budgets: of each account what it uses, donated, has left and in reserve; and every budget that suffices, with the minimum.
 (() => {
   const { state, none, el, svg, note, amount, fold } = Page;
   const WIDE = 300;
@@ -8,8 +8,8 @@
     { key: "caps", what: "capabilities", shown: String, from: 2 },
   ];
 
-  const bar = (parts, peak, most, told) => {
-    const it = svg("svg", { class: "bar", viewBox: `0 0 ${WIDE} 14`, preserveAspectRatio: "none", role: "img" }, svg("title", {}, told));
+  const bar = (parts, peak, most, printed) => {
+    const it = svg("svg", { class: "bar", viewBox: `0 0 ${WIDE} 14`, preserveAspectRatio: "none", role: "img" }, svg("title", {}, printed));
     let x = 0;
     for (const [name, value] of parts) {
       const width = (WIDE * value) / most;
@@ -21,23 +21,23 @@
     return it;
   };
 
-  // The stretches of a strip, from and below in one kind: of RAM those of the rows, of capabilities what serves with some RAM and with
-  // each that serves.
+  // The stretches of a strip, from and below in one kind: of RAM those of the rows, of capabilities what suffices with some RAM and
+  // with each that suffices.
   const stretches = (rows, kind) => {
-    if (!kind.from || !rows.length) return rows.map(([from, below]) => ["serves", from, below]);
+    if (!kind.from || !rows.length) return rows.map(([from, below]) => ["suffices", from, below]);
     const needs = rows.map((it) => it[2]);
     const least = Math.min(...needs), all = Math.max(...needs);
-    return [...(least < all ? [["some", least, all]] : []), ["serves", all, null]];
+    return [...(least < all ? [["some", least, all]] : []), ["suffices", all, null]];
   };
   const strip = (rows, kind, most) => {
     const it = svg("svg", { class: "strip", viewBox: `0 0 ${WIDE} 8`, preserveAspectRatio: "none", "aria-hidden": "true" },
-      svg("rect", { class: "wants", width: WIDE, height: 8 }));
+      svg("rect", { class: "short", width: WIDE, height: 8 }));
     let before = 0;
     for (const [name, from, below] of stretches(rows, kind)) {
       const x = (WIDE * from) / most, end = (WIDE * Math.min(below === null ? most : below, most)) / most;
       it.append(svg("rect", { class: name, x, y: 0, width: Math.max(end - x, 1.5), height: 8 }));
       // (a gap is seen, however narrow)
-      if (from > before && x - (WIDE * before) / most < 1.5) it.append(svg("rect", { class: "wants", x: x - 1.5, y: 0, width: 1.5, height: 8 }));
+      if (from > before && x - (WIDE * before) / most < 1.5) it.append(svg("rect", { class: "short", x: x - 1.5, y: 0, width: 1.5, height: 8 }));
       before = below === null ? most : below;
     }
     return it;
@@ -50,7 +50,7 @@
     return box;
   };
 
-  // One account in one kind: its bar, where it has an account at the end, its strip, where it is told, and words.
+  // One account in one kind: its bar, where it has an account at the end, its strip, where it is printed, and words.
   const side = (row, kind, i) => {
     const { account, needs } = row;
     const rows = needs ? needs.rows : [];
@@ -74,8 +74,8 @@
     box.append(...said);
     return box;
   };
-  const words = (needs) => el("div", { class: "words serves" }, needs.rows.length ? "✓ serves: " : "✗ ", needs.told[0],
-    ...needs.told.slice(1).map((it) => el("div", {}, it)));
+  const words = (needs) => el("div", { class: "words suffices" }, needs.rows.length ? "✓ suffices: " : "✗ ", needs.printed[0],
+    ...needs.printed.slice(1).map((it) => el("div", {}, it)));
 
   // The rows: each account of the list with what it needs, the sessions that were closed before it, and those that are open after it.
   const rows = () => {
@@ -107,16 +107,16 @@
       svg("rect", { class: name, width: 26, height: 12 })), text);
     return el("div", { class: "legend" }, sample("bar", "used", "used at the end"), sample("bar", "given", "donated to sessions that are open"),
       sample("bar", "free", "slack"), sample("bar", "kept", "reserve"), el("span", {}, "▏ most ever used"),
-      sample("strip", "serves", "suffices"), sample("strip", "some", "suffices with some RAM only"), sample("strip", "wants", "some call is short of quota"),
+      sample("strip", "suffices", "suffices"), sample("strip", "some", "suffices with some RAM only"), sample("strip", "short", "some call is short of quota"),
       el("span", {}, "▲ the minimum"), el("span", {}, "△ given"));
   };
   Page.add("budgets", "Budgets", (part) => {
     const { data } = state;
     if (!data.accounts.length) return part.append(none("budgets", "There are no accounts."));
-    const told = data.least === null || data.least.stale ? `Which budgets suffice is being computed ..${data.least ? " The strips are those of the text before." : ""}` : !data.least.accounts.length ? "Which budgets suffice isn't known."
+    const printed = data.least === null || data.least.stale ? `Which budgets suffice is being computed ..${data.least ? " The strips are those of the text before." : ""}` : !data.least.accounts.length ? "Which budgets suffice isn't known."
       : `The strip below a bar is on the bar's scale: plain green if a budget suffices, hatched red if some call is short of quota. More RAM can be insufficient.${data.least.left ? ` The budgets of ${data.least.left} sessions are left out.` : ""}`;
     if (data.least && data.least.stale) part.className = "stale";
-    part.append(legend(), note(told));
+    part.append(legend(), note(printed));
     for (const row of rows()) part.append(drawn(row));
     if (data.least && data.least.text && data.least.text.length) {
       part.append(fold("least", {}, ["As nethrywel least prints them, with the lines that are refused"], () => el("pre", { class: "text wide" }, data.least.text.join("\n"))));

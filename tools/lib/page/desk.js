@@ -56,11 +56,11 @@
 
   const ask = async (what, body) => {
     const answer = await fetch(`/${what}`, { method: "POST", headers: { "Content-Type": "application/json", "X-Token": token }, body: JSON.stringify(body) });
-    const told = await answer.json();
-    if (!answer.ok) throw Object.assign(new Error(told.why), { told });
-    return told;
+    const value = await answer.json();
+    if (!answer.ok) throw Object.assign(new Error(value.why), { value });
+    return value;
   };
-  const tell = (text, bad) => {
+  const report = (text, bad) => {
     said.textContent = text;
     said.className = bad ? "bad" : "";
   };
@@ -74,7 +74,7 @@
   };
   const under = (one, line, kind, text) => {
     const at = Math.min(Math.max(line, 1), one.lineCount()) - 1;
-    shown.get(one).push(one.addLineWidget(at, el("div", { class: `told ${kind}` }, text)));
+    shown.get(one).push(one.addLineWidget(at, el("div", { class: `printed ${kind}` }, text)));
   };
   const lit = (one, from, to, className) => shown.get(one).push(one.markText(from, to, { className }));
   let ruled = [], here = null, edit = null, now = null, pinned = null, round = 0;
@@ -92,7 +92,7 @@
     try {
       return await ask("rest", { edit, what: "route", from, service, label });
     } catch (fault) {
-      tell(fault.message, true);
+      report(fault.message, true);
       return null;
     }
   };
@@ -110,19 +110,19 @@
     clear(list);
     for (const it of now.findings) {
       const kind = now.boots ? "finding" : "wrong";
-      if (!it.range) { under(list, 1, kind, it.told); continue; }
+      if (!it.range) { under(list, 1, kind, it.printed); continue; }
       const from = list.posFromIndex(it.range[0]), to = list.posFromIndex(it.range[1]);
       lit(list, from, to, now.boots ? "found" : "faulty");
-      under(list, to.line + 1, kind, `${now.boots ? "⚠" : "✗"} ${it.told}`);
+      under(list, to.line + 1, kind, `${now.boots ? "⚠" : "✗"} ${it.printed}`);
       if (!now.boots) list.scrollIntoView(from, 60);
     }
   });
   const write_policy = () => policy.operation(() => {
     clear(policy);
     if (now.policy && now.policy.fault) under(policy, 1, "wrong", `✗ ${now.policy.fault}`);
-    for (const [i, it] of (now.policy ? now.policy.lines : []).entries()) if (it.told) under(policy, i + 1, "wrong", `✗ ${it.told}`);
+    for (const [i, it] of (now.policy ? now.policy.lines : []).entries()) if (it.printed) under(policy, i + 1, "wrong", `✗ ${it.printed}`);
   });
-  // What is told under lines of the scenario, by the lines themselves: where it is as before, it stays.
+  // What is printed under lines of the scenario, by the lines themselves: where it is as before, it stays.
   let standing = new Map();
   const write_under = (rows) => {
     const wanted = new Map(), before = standing;
@@ -131,18 +131,18 @@
       wanted.set(at, [...(wanted.get(at) || []), [kind, text]]);
     }
     standing = new Map();
-    for (const [at, told] of wanted) {
-      const key = JSON.stringify(told), old = before.get(at);
+    for (const [at, printed] of wanted) {
+      const key = JSON.stringify(printed), old = before.get(at);
       if (old && old.key === key) {
         standing.set(at, old);
         before.delete(at);
       }
     }
     for (const { widgets } of before.values()) for (const it of widgets) it.clear();
-    for (const [at, told] of wanted) {
+    for (const [at, printed] of wanted) {
       if (standing.has(at)) continue;
-      const widgets = told.map(([kind, text]) => scenario.addLineWidget(at, el("div", { class: `told ${kind}` }, text)));
-      standing.set(at, { key: JSON.stringify(told), widgets });
+      const widgets = printed.map(([kind, text]) => scenario.addLineWidget(at, el("div", { class: `printed ${kind}` }, text)));
+      standing.set(at, { key: JSON.stringify(printed), widgets });
     }
   };
   const write_scenario = () => scenario.operation(() => {
@@ -168,17 +168,17 @@
     while (back < a.length - front && back < b.length - front && a[a.length - 1 - back] === b[b.length - 1 - back]) back++;
     const went = a.slice(front, a.length - back).map((it, i) => `- ${front + i + 1}: ${it}`);
     const came = b.slice(front, b.length - back).map((it, i) => `+ ${front + i + 1}: ${it}`);
-    const reply = (told, line) => { const it = told.get(line); return it && it.length > 2 ? [...it[4], it[3]].join(" / ") : "(nothing)"; };
+    const reply = (printed, line) => { const it = printed.get(line); return it && it.length > 2 ? [...it[4], it[3]].join(" / ") : "(nothing)"; };
     const otherwise = [];
     for (let i = 0; i < b.length; i++) {
       if (i >= front && i < b.length - back) continue;
-      const then = reply(pinned.told, i < front ? i + 1 : i + 1 - b.length + a.length), today = reply(state.told, i + 1);
+      const then = reply(pinned.printed, i < front ? i + 1 : i + 1 - b.length + a.length), today = reply(state.printed, i + 1);
       if (then !== today) otherwise.push(`~ ${i + 1}: ${b[i]} => ${today} (was: ${then})`);
     }
     return [...went, ...came, ...otherwise];
   };
-  const listed = (title, told) => [el("h3", {}, title), told.length ? el("ul", {}, ...told.slice(0, 200).map(item)) : note("nothing"),
-    ...(told.length > 200 ? [note(`the first 200 of ${told.length} are shown`)] : [])];
+  const listed = (title, items) => [el("h3", {}, title), items.length ? el("ul", {}, ...items.slice(0, 200).map(item)) : note("nothing"),
+    ...(items.length > 200 ? [note(`the first 200 of ${items.length} are shown`)] : [])];
   const compare = async () => {
     if (!pinned) return;
     pinned.now = texts();
@@ -186,19 +186,19 @@
     if (!now.boots) parts.push(note("The machine doesn't boot, so nothing is compared."));
     else if (!before.trim()) parts.push(note("A is the built-in machine, which has no text: write a start list and pin it."));
     else {
-      const told = await ask("rest", { edit, what: "diff", before });
-      parts.push(...(told.why ? [note(told.why)] : listed("By the start list, on this scenario (nethrywel diff)", told.told)));
+      const changes = await ask("rest", { edit, what: "diff", before });
+      parts.push(...(changes.why ? [note(changes.why)] : listed("By the start list, on this scenario (nethrywel diff)", changes.printed)));
     }
     if (now.boots && pinned.texts.scenario !== pinned.now.scenario) parts.push(...listed("By the scenario, and with it", edits()));
     since.replaceChildren(el("h2", {}, "Since A"), ...parts);
   };
   const pin = async () => {
-    if (!now || !now.boots) return tell("only what boots is pinned", true);
-    pinned = { texts: sent, told: new Map(state.told) };
+    if (!now || !now.boots) return report("only what boots is pinned", true);
+    pinned = { texts: sent, printed: new Map(state.printed) };
     try {
       await compare();
     } catch (fault) {
-      if (fault.message !== "a later edit") tell(fault.message, true);
+      if (fault.message !== "a later edit") report(fault.message, true);
     }
     return undefined;
   };
@@ -206,22 +206,22 @@
   // --- an edit and its answers
 
   let sent = texts();
-  const answer = (told, took) => {
+  const answer = (printed, took) => {
     const old = now;
-    now = told;
-    edit = told.edit;
-    if (old && old.least && told.boots) told.least = { ...old.least, stale: true };
-    if (old && old.alone && told.boots) told.alone = old.alone;
+    now = printed;
+    edit = printed.edit;
+    if (old && old.least && printed.boots) printed.least = { ...old.least, stale: true };
+    if (old && old.alone && printed.boots) printed.alone = old.alone;
     hooks.mark([]);
     here = null;
     // (the editors before the page, whose new parts would be laid out for each of them)
-    Page.take(told);
+    Page.take(printed);
     write_list();
     write_policy();
     write_scenario();
-    Page.draw(told);
+    Page.draw(printed);
     Page.page.prepend(since);
-    tell(`answered in ${took} ms`);
+    report(`answered in ${took} ms`);
     document.body.dataset.round = String(++round);
   };
   const whole = () => { document.body.dataset.whole = String(round); };
@@ -231,30 +231,30 @@
     await compare();
     if (!now.boots) return whole();
     for (const [what, part, command] of [["alone", "alone", "run --only"], ["least", "budgets", "least"]]) {
-      const told = await ask("rest", { edit: mine, what }).catch((fault) => {
+      const printed = await ask("rest", { edit: mine, what }).catch((fault) => {
         if (fault.message === "a later edit") throw fault;
         return { accounts: [], scripts: [], missing: [`nethrywel ${command}: ${fault.message}`] };
       });
       if (mine !== edit) return undefined;
-      now[what] = told;
-      now.missing[part] = told.missing;
+      now[what] = printed;
+      now.missing[part] = printed.missing;
       Page.redraw(part);
       Page.redraw("verdict");
     }
     const took = Math.round(performance.now() - began);
-    tell(`${said.textContent}, with all budgets in ${took} ms`);
+    report(`${said.textContent}, with all budgets in ${took} ms`);
     return whole();
   };
   const run = async () => {
     const began = performance.now();
-    tell("runs ..");
+    report("runs ..");
     try {
       sent = texts();
       answer(await ask("run", sent), Math.round(performance.now() - began));
       await rest(began);
     } catch (fault) {
       if (fault.message === "a later edit") return;
-      tell(fault.message, true);
+      report(fault.message, true);
       document.body.dataset.round = String(++round);
       whole();
     }
@@ -277,21 +277,21 @@
   const save = async (over) => {
     const generations = edited_files.map((it) => it.changeGeneration(true));
     try {
-      const told = await ask("save", { ...texts(), sums: over || sums });
-      keep(told.sums, generations);
-      tell(told.told);
+      const saved = await ask("save", { ...texts(), sums: over || sums });
+      keep(saved.sums, generations);
+      report(saved.printed);
     } catch (fault) {
-      tell(fault.message, true);
-      if (fault.told && fault.told.sums) choose(fault.message, fault.told.sums);
+      report(fault.message, true);
+      if (fault.value && fault.value.sums) choose(fault.message, fault.value.sums);
     }
   };
   const reload = async () => {
     try {
-      const told = await ask("read", {});
-      fill({ ...texts(), ...told.texts });
-      keep(told.sums, edited_files.map((it) => it.changeGeneration(true)));
+      const read = await ask("read", {});
+      fill({ ...texts(), ...read.texts });
+      keep(read.sums, edited_files.map((it) => it.changeGeneration(true)));
     } catch (fault) {
-      tell(fault.message, true);
+      report(fault.message, true);
     }
   };
   window.addEventListener("beforeunload", (event) => { if (!is_saved()) event.preventDefault(); });
@@ -302,18 +302,18 @@
     waits = setTimeout(run, 20);
   };
   for (const it of [list, policy, scenario]) it.on("change", edited);
-  const fill = (told) => {
-    list.setValue(told.list);
-    policy.setValue(told.policy);
-    scenario.setValue(told.scenario);
-    folded.open = told.policy !== "";
+  const fill = (given) => {
+    list.setValue(given.list);
+    policy.setValue(given.policy);
+    scenario.setValue(given.scenario);
+    folded.open = given.policy !== "";
   };
   menu.addEventListener("change", async () => {
     if (!menu.value) return;
     try {
       fill(await ask("example", { name: menu.value }));
     } catch (fault) {
-      tell(fault.message, true);
+      report(fault.message, true);
     }
   });
   folded.open = start.policy !== "";

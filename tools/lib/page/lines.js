@@ -18,8 +18,8 @@
       it.setAttribute("x1", place(line));
       it.setAttribute("x2", place(line));
     }
-    const told = state.told.get(line), now = document.getElementById("now");
-    if (now) now.textContent = told ? `${line}: ${told[1]}` + (told.length > 2 ? `   (${told[2]}: ${told[3]})` : "") : `${line}: left out of this page`;
+    const printed = state.printed.get(line), now = document.getElementById("now");
+    if (now) now.textContent = printed ? `${line}: ${printed[1]}` + (printed.length > 2 ? `   (${printed[2]}: ${printed[3]})` : "") : `${line}: left out of this page`;
     for (const it of values) it(line);
     light(line);
     if (hooks.select) hooks.select(line);
@@ -116,7 +116,7 @@
     const others = state.called.filter((it) => it > before && it < line);
     const row = el("tr", { class: "fold" });
     const open = () => row.replaceWith(...others.map((it) => {
-      const [, text, , reply, logs] = state.told.get(it);
+      const [, text, , reply, logs] = state.printed.get(it);
       return el("tr", { class: "fold" }, el("td", {}, String(it)), el("td", {}, text), el("td", {}, [...logs, reply].join("\n")), el("td", {}, "(not run)"));
     }));
     const said = `⋯ ${others.length === 1 ? "a line" : `${others.length} lines`} of others` + (state.data.left.lines ? " that are shown" : "");
@@ -124,14 +124,14 @@
     return others.length ? [row] : [];
   };
   const table = (it) => {
-    const differ = new Map(it.differ), mine = state.called.filter((line) => state.told.get(line)[2] === it.name);
+    const differ = new Map(it.differ), mine = state.called.filter((line) => state.printed.get(line)[2] === it.name);
     const rows = el("table", {}, el("tr", {}, ...["line", "call", "whole", "alone"].map((head) => el("th", {}, head))));
     let before = 0;
     for (const line of mine.slice(0, FEW)) {
-      const [, text, , reply, logs] = state.told.get(line);
-      const told = [...logs, reply].join("\n");
-      rows.append(...between(before, line), el("tr", {}, el("td", {}, String(line)), el("td", {}, text), el("td", {}, told),
-        el("td", { class: differ.has(line) ? "bad" : "" }, differ.has(line) ? differ.get(line) : told)));
+      const [, text, , reply, logs] = state.printed.get(line);
+      const printed = [...logs, reply].join("\n");
+      rows.append(...between(before, line), el("tr", {}, el("td", {}, String(line)), el("td", {}, text), el("td", {}, printed),
+        el("td", { class: differ.has(line) ? "bad" : "" }, differ.has(line) ? differ.get(line) : printed)));
       before = line;
     }
     if (mine.length > FEW) rows.append(el("tr", { class: "fold" }, el("td", {}), el("td", { colspan: 3 }, `⋯ the first ${FEW} of ${mine.length} are shown`)));
@@ -144,7 +144,7 @@
     part.append(note("The replies to each script in the whole run, above, and in a run of its own lines alone, below: a tall tick is a reply, a short red one a refusal. By proof they are the same."));
     if (alone.thinned) part.append(note("Strips of many lines are thinned: some of the ticks are drawn, evenly."));
     for (const it of alone.scripts) {
-      const head = [el("b", { class: it.differ.length ? "bad" : "" }, it.differ.length ? "≠ " : "= "), it.told, ticks(it)];
+      const head = [el("b", { class: it.differ.length ? "bad" : "" }, it.differ.length ? "≠ " : "= "), it.printed, ticks(it)];
       part.append(fold(`alone ${it.name}`, {}, head, () => table(it)));
     }
     return true;
@@ -158,10 +158,10 @@
     return found;
   };
   const answers = ([line, , , reply, logs], wrong) => {
-    const told = (logs || []).map((it) => ["log", `│ ${it}`, line]);
-    if (reply !== undefined) told.push([refuses(reply) ? "refusal" : "reply", `${refuses(reply) ? "✗" : "→"} ${reply}`, line]);
-    for (const [column, what] of wrong || []) told.push(["wrong", `! ${column}: ${what}`, line]);
-    return told;
+    const printed = (logs || []).map((it) => ["log", `│ ${it}`, line]);
+    if (reply !== undefined) printed.push([refuses(reply) ? "refusal" : "reply", `${refuses(reply) ? "✗" : "→"} ${reply}`, line]);
+    for (const [column, what] of wrong || []) printed.push(["wrong", `! ${column}: ${what}`, line]);
+    return printed;
   };
   // The rows under lines, for who has the lines already.
   const under = () => {
@@ -176,7 +176,7 @@
       found.push([/^\s*(#|$)/.test(it[1]) ? "comment" : "call", it[1], it[0]], ...answers(it, wrong.get(it[0])));
       before = it[0];
     }
-    for (const [line, told] of wrong) if (!state.told.has(line)) found.push(...answers([line], told));
+    for (const [line, printed] of wrong) if (!state.printed.has(line)) found.push(...answers([line], printed));
     return found;
   };
   const drawn = ([kind, text, line]) => {
@@ -188,10 +188,10 @@
   };
   const left = () => {
     const { data } = state;
-    const told = [];
-    if (data.left.lines) told.push(note(`Thinned: ${data.lines.length} of ${data.count} lines are shown, and ${data.left.lines} left out. Kept are the first 300 and the last 300, the first 400 that aren't answered as they expect, of refused lines some, and of all lines some, evenly; of each at most 120 signs.`));
-    if (data.left.complaints) told.push(note(`Left out: ${data.left.complaints} complaints.`));
-    return told;
+    const printed = [];
+    if (data.left.lines) printed.push(note(`Thinned: ${data.lines.length} of ${data.count} lines are shown, and ${data.left.lines} left out. Kept are the first 300 and the last 300, the first 400 that aren't answered as they expect, of refused lines some, and of all lines some, evenly; of each at most 120 signs.`));
+    if (data.left.complaints) printed.push(note(`Left out: ${data.left.complaints} complaints.`));
+    return printed;
   };
   Page.add("scenario", "Scenario", (part) => {
     const said = [...state.data.faults.slice(0, 50).map((it) => el("p", { class: "bad" }, it)), ...left()];

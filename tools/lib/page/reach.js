@@ -37,23 +37,23 @@
 
   // --- the matrix
 
-  const press = (button, told, route) => {
+  const press = (button, printed, route) => {
     for (const it of Page.page.querySelectorAll(".cell[aria-pressed='true']")) it.setAttribute("aria-pressed", "false");
     button.setAttribute("aria-pressed", "true");
-    document.getElementById("decided").replaceChildren(el("p", {}, told),
-      el("ol", { class: "text" }, ...route.told.map((it) => el("li", {}, it))));
+    document.getElementById("decided").replaceChildren(el("p", {}, printed),
+      el("ol", { class: "text" }, ...route.printed.map((it) => el("li", {}, it))));
     mark(route.rules);
   };
-  const cell = (text, told, route) => {
+  const cell = (text, printed, route) => {
     const button = el("button", { class: "cell", type: "button", "aria-pressed": "false" }, text);
     button.addEventListener("click", async () => {
       const found = await route();
-      if (found) press(button, told, found);
+      if (found) press(button, printed, found);
     });
     return button;
   };
   const SHOWN = { always: () => "● always", none: () => "– never", some: (label) => `◐ "${label}"` };
-  const TOLD = {
+  const LABELS = {
     always: () => "with every label. The route of a request without a label:",
     none: () => "with no label. The route of a request without a label:",
     some: (label) => `with the label "${label}", and not with every label. The route of this request:`,
@@ -70,33 +70,33 @@
     const row = (name) => el("tr", {}, el("th", { class: "name", scope: "row" }, name), ...to.map((head) => {
       const it = found.get(`${name} ${head}`);
       const verb = it.reach === "none" ? "never reaches" : "reaches";
-      const told = `${it.from} ${verb} ${it.to} (${it.service}) ${TOLD[it.reach](it.label)}`;
-      return el("td", { class: it.reach }, cell(SHOWN[it.reach](it.label), told, () => route(it)));
+      const printed = `${it.from} ${verb} ${it.to} (${it.service}) ${LABELS[it.reach](it.label)}`;
+      return el("td", { class: it.reach }, cell(SHOWN[it.reach](it.label), printed, () => route(it)));
     }));
     return el("div", { class: "wide" }, el("table", { id: "matrix" },
       el("tr", {}, el("th", {}, "from \\ to"), ...to.map((it) => el("th", { scope: "col" }, it))), ...from.map(row)));
   };
   const ways = () => el("div", { class: "wide" }, el("table", {}, ...state.data.ways.map((it) =>
     el("tr", {}, el("th", { class: "name", scope: "row" }, it.name), el("td", {}, ...it.ways.map((way) => el("div", {},
-      cell(`${way.service} → ${way.to} by ${way.by}`, `${it.name}: ${way.service} leads to ${way.to}`, async () => ({ told: [`by ${way.by}`], rules: way.rules })))))))));
+      cell(`${way.service} → ${way.to} by ${way.by}`, `${it.name}: ${way.service} leads to ${way.to}`, async () => ({ printed: [`by ${way.by}`], rules: way.rules })))))))));
 
   // --- findings and the policy
 
   const findings = () => state.data.findings.map((it) => {
-    const told = el("p", { class: state.data.boots ? "finding" : "bad" }, !state.data.boots ? "✗ fault: " : it.advice ? "advice: " : "⚠ finding: ", it.told, " ");
-    if (it.range) told.append(show([it.range]));
-    return told;
+    const printed = el("p", { class: state.data.boots ? "finding" : "bad" }, !state.data.boots ? "✗ fault: " : it.advice ? "advice: " : "⚠ finding: ", it.printed, " ");
+    if (it.range) printed.append(show([it.range]));
+    return printed;
   });
   const demand = (it) => {
-    const sign = it.told ? "✗ " : it.kept ? "✓ " : "  ";
-    const row = el("div", { class: it.told ? "demand broken" : it.kept ? "demand kept" : "demand" }, el("span", {}, sign), it.text || " ");
-    if (it.told) row.append(el("div", { class: "bad" }, `${it.told} `, ...(it.rules.length ? [show(it.rules)] : [])));
+    const sign = it.printed ? "✗ " : it.kept ? "✓ " : "  ";
+    const row = el("div", { class: it.printed ? "demand broken" : it.kept ? "demand kept" : "demand" }, el("span", {}, sign), it.text || " ");
+    if (it.printed) row.append(el("div", { class: "bad" }, `${it.printed} `, ...(it.rules.length ? [show(it.rules)] : [])));
     return row;
   };
   const policy = () => {
     const { policy } = state.data;
     if (!policy) return [];
-    const broken = policy.lines.filter((it) => it.told).length;
+    const broken = policy.lines.filter((it) => it.printed).length;
     const verdict = policy.fault ? policy.fault : !policy.read ? "the policy has a fault" : broken ? (broken === 1 ? "a line of the policy is broken" : `${broken} lines of the policy are broken`) : "the policy is kept";
     return [el("h3", {}, "Policy"), el("p", { class: broken || !policy.read ? "bad" : "good", id: "policy-kept" }, broken || !policy.read ? `✗ ${verdict}` : `✓ ${verdict}`),
       el("div", { class: "text policy" }, ...policy.lines.map(demand))];

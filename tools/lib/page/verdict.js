@@ -13,7 +13,7 @@
     : line("good", "each line is a call, and answered as it expects", "scenario")];
   const of_policy = ({ policy }) => {
     if (!policy) return [];
-    const broken = policy.lines.filter((it) => it.told).length;
+    const broken = policy.lines.filter((it) => it.printed).length;
     if (policy.fault || !policy.read) return [line("bad", policy.fault || "the policy has a fault", "reach")];
     return [broken ? line("bad", many(broken, "a line of the policy is broken", "lines of the policy are broken"), "reach") : line("good", "the policy is kept", "reach")];
   };
@@ -33,7 +33,7 @@
     if (!least.accounts.length) return [line("note", "which budgets suffice isn't known", "budgets")];
     const short = least.accounts.filter((it) => it.short);
     if (!short.length) return [line("good", "each budget and each donation suffices", "budgets")];
-    return short.slice(0, 12).map((it) => line("bad", `${it.session ? `${it.name}/${it.session} (line ${it.line})` : it.name}: ${it.told.find((one) => one.startsWith("given ")) || it.told[0]}`, "budgets"))
+    return short.slice(0, 12).map((it) => line("bad", `${it.session ? `${it.name}/${it.session} (line ${it.line})` : it.name}: ${it.printed.find((one) => one.startsWith("given ")) || it.printed[0]}`, "budgets"))
       .concat(short.length > 12 ? [line("bad", `${short.length - 12} more budgets fall short`, "budgets")] : []);
   };
 
@@ -43,9 +43,9 @@
     const said = new Set();
     const lacks = (id) => missing(id).filter((it) => !said.has(it) && said.add(it)).map((it) => line("bad", `left out: ${it}`, id));
     const whole = (id, of) => (missing(id).length ? lacks(id) : of(data));
-    const told = data.boots ? [...whole("scenario", of_lines), ...of_policy(data), ...whole("reach", of_findings), ...whole("alone", of_alone), ...whole("budgets", of_budgets)]
+    const printed = data.boots ? [...whole("scenario", of_lines), ...of_policy(data), ...whole("reach", of_findings), ...whole("alone", of_alone), ...whole("budgets", of_budgets)]
       : [line("bad", "the machine doesn't boot, so no line was answered", "reach")];
-    part.append(el("ul", { class: "verdict" }, ...told),
+    part.append(el("ul", { class: "verdict" }, ...printed),
       el("nav", { "aria-label": "contents" }, ...parts.filter((it) => it.id !== "verdict").map((it) => el("a", { href: at(it.id) }, it.title))));
   });
 })();
