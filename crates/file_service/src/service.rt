@@ -65,6 +65,7 @@ impl Service for FileService {
 
     ghost step = { λ service. service_step };
 
+    #[inline(always)]
     fn open(&self, heap: SlicedHeap, label: &[u8]) -> FileSession {
         FileSession::open(heap, label)
     }
@@ -86,11 +87,15 @@ impl Service for FileService {
         answer(session, memory, map, request, reply)
     }
 
-    fn end(&self, session: FileSession, memory: &mut Memory, map: &mut RegionMap) -> SlicedHeap {
+    fn end(
+        &self,
+        session: &mut FileSession,
+        memory: &mut Memory,
+        map: &mut RegionMap,
+    ) -> SlicedHeap {
         map.lies_apart();
-        let FileSession { rooms, buffer, .. } = session;
-        rooms.give_any(memory, map, buffer);
-        rooms.end(memory, map)
+        session.rooms.give_any(memory, map, session.buffer);
+        session.rooms.end(memory, map)
     }
 
     ghost pays = { λ session account share kept. kept.rooms.payer };

@@ -16,6 +16,7 @@ use dataspace_core::Memory;
 use heap_core::Heap;
 use region_map::RegionMap;
 use sliced_heap::SlicedHeap;
+use std::mem;
 use trade_base::AccountId;
 
 /// The two heaps of a session, both of its account.
@@ -29,6 +30,7 @@ pub struct SessionHeaps {
 
 impl SessionHeaps {
     /// Returns heaps without a node, for an account that has only sliced blocks and no buffer.
+    #[inline(always)]
     pub fn new(contents: SlicedHeap) -> SessionHeaps
         ensures kept { (share : Share) → HasBlocksAlone share → IsLinked share contents.first
             → AreKept result (payer_of contents) share }
@@ -47,25 +49,22 @@ impl SessionHeaps {
     }
 
     /// Frees the blocks of all nodes of a session without a buffer, and credits the account with all that was charged for
-    /// them. Returns the sliced heap.
-    pub fn end(self, memory: &mut Memory, map: &mut RegionMap) -> SlicedHeap
-        requires furnished { AreSoundHeaps self memory.old map.old }
-        requires alone { lent_regions (holding_of self.contents memory.old map.old) ≡ empty }
-        ensures same { result ≡ self.contents }
-        ensures blocks { HasBlocksAlone (holding_of self.contents memory.new map.new) }
-        ensures session { IsSessionHeap self.contents memory.new map.new }
-        ensures ram { (account_in memory.new (payer_of self.contents)).ram_limit
-            ≡ (account_in memory.old (payer_of self.contents)).ram_limit }
-        ensures caps { (account_in memory.new (payer_of self.contents)).caps_limit
-            ≡ (account_in memory.old (payer_of self.contents)).caps_limit }
-        ensures others { KeepsOthers (payer_of self.contents)
+    /// them. Returns the sliced heap, in whose place an empty one remains.
+    pub fn end(&mut self, memory: &mut Memory, map: &mut RegionMap) -> SlicedHeap
+        requires furnished { AreSoundHeaps self.old memory.old map.old }
+        requires alone { lent_regions (holding_of self.old.contents memory.old map.old) ≡ empty }
+        ensures same { result ≡ self.old.contents }
+        ensures blocks { HasBlocksAlone (holding_of self.old.contents memory.new map.new) }
+        ensures session { IsSessionHeap self.old.contents memory.new map.new }
+        ensures ram { (account_in memory.new (payer_of self.old.contents)).ram_limit
+            ≡ (account_in memory.old (payer_of self.old.contents)).ram_limit }
+        ensures caps { (account_in memory.new (payer_of self.old.contents)).caps_limit
+            ≡ (account_in memory.old (payer_of self.old.contents)).caps_limit }
+        ensures others { KeepsOthers (payer_of self.old.contents)
             memory.old memory.new map.old map.new }
     {
-        let SessionHeaps {
-            mut nodes,
-            contents,
-        } = self;
-        nodes.end(memory, map);
-        contents
+        self.nodes.end(memory, map);
+        let empty = SlicedHeap::new(self.contents.account());
+        mem::replace(&mut self.contents, empty)
     }
 }

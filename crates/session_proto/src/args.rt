@@ -140,7 +140,7 @@ impl<'a> Pairs<'a> {
     }
 
     /// Adds a pair whose key is known, as `with` does.
-    #[inline]
+    #[inline(always)]
     fn with_plain(self, pair: PlainPair<'a>) -> Option<Pairs<'a>>
         ensures { option_map known result ≡ with_pair (known self.entry) (plain_pair pair.entry) }
     {
@@ -152,7 +152,7 @@ impl<'a> Pairs<'a> {
     }
 
     /// Adds the RAM of a value, unless there is one already.
-    #[inline]
+    #[inline(always)]
     fn with_ram(self, value: Value<'_>) -> Option<Pairs<'a>>
         ensures { option_map known result
             ≡ option_map (λ ram. record (known self.entry) { ram = ram })
@@ -171,7 +171,7 @@ impl<'a> Pairs<'a> {
     }
 
     /// Adds the capabilities of a value, unless there are some already.
-    #[inline]
+    #[inline(always)]
     fn with_caps(self, value: Value<'_>) -> Option<Pairs<'a>>
         ensures { option_map known result
             ≡ option_map (λ caps. record (known self.entry) { caps = caps })
@@ -190,7 +190,7 @@ impl<'a> Pairs<'a> {
     }
 
     /// Adds the label of a value, unless there is one already.
-    #[inline]
+    #[inline(always)]
     fn with_label(self, value: Value<'a>) -> Option<Pairs<'a>>
         ensures { option_map known result
             ≡ option_map (λ label. record (known self.entry) { label = label })

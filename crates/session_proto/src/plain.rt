@@ -24,7 +24,7 @@ pub(crate) enum PlainPair<'a> {
 
 /// Parses the first pair of a text if it has the usual form. Returns the pair, and the text after its comma if there is
 /// one.
-#[inline]
+#[inline(always)]
 pub(crate) fn read_plain(text: &[u8]) -> Option<(PlainPair<'_>, Option<&[u8]>)>
     ensures first { IfSome result (λ found.
         BeginsWith text.now (plain_pair found.0) (option_copied found.1)) }
@@ -38,7 +38,7 @@ pub(crate) fn read_plain(text: &[u8]) -> Option<(PlainPair<'_>, Option<&[u8]>)>
 }
 
 /// Parses the first pair as `read_plain` does, without a leading space.
-#[inline]
+#[inline(always)]
 fn read_unspaced(text: &[u8]) -> Option<(PlainPair<'_>, Option<&[u8]>)>
     ensures first { IfSome result (λ found.
         BeginsWith text.now (plain_pair found.0) (option_copied found.1)) }
@@ -68,7 +68,7 @@ fn read_unspaced(text: &[u8]) -> Option<(PlainPair<'_>, Option<&[u8]>)>
 
 /// Splits a value without quotes from a text, at the text's end or a comma. Returns the value, and the text after the
 /// comma if there is one.
-#[inline]
+#[inline(always)]
 fn split_bare(text: &[u8]) -> Option<(&[u8], Option<&[u8]>)>
     ensures parts { IfSome result (λ parts.
         text.now ≡ parts.0.now ++ after_comma (option_copied parts.1)) }
@@ -88,7 +88,7 @@ fn split_bare(text: &[u8]) -> Option<(&[u8], Option<&[u8]>)>
 
 /// Splits a value from a text at its closing quote, if the text ends there or a comma follows. Returns the value, and the
 /// text after the comma if there is one.
-#[inline]
+#[inline(always)]
 fn split_quoted(text: &[u8]) -> Option<(&[u8], Option<&[u8]>)>
     ensures parts { IfSome result (λ parts.
         text.now ≡ parts.0.now ++ 34 ∷ after_comma (option_copied parts.1)) }
@@ -107,7 +107,7 @@ fn split_quoted(text: &[u8]) -> Option<(&[u8], Option<&[u8]>)>
 }
 
 /// Returns the text after a leading comma, `Some(None)` for the empty text, or `None` for any other text.
-#[inline]
+#[inline(always)]
 fn split_comma(text: &[u8]) -> Option<Option<&[u8]>>
     ensures comma { IfSome result (λ rest. text.now ≡ after_comma (option_copied rest)) }
     ensures shorter { IfSome result (λ found.
