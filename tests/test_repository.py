@@ -81,6 +81,23 @@ def test_documents(nethrywel, words):
     tool(f"dev/{name}")(*words).ok()
 
 
+@pytest.mark.parametrize("edit", [*TOP.glob("attacks/*/*.edit"), *TOP.glob("crates/*/must-fail/*.edit")],
+                         ids=lambda it: it.relative_to(TOP).as_posix())
+def test_mutant(edit):
+    """The texts that a mutant replaces are in its crate, each once."""
+    crate, texts = TOP / "crates" / (edit.parts[-3] if edit.parts[-2] == "must-fail" else edit.parts[-2]), {}
+    for line in edit.read_text().splitlines():
+        word, _, text = line.partition(": ")
+        if word == "file":
+            path = crate / text
+            texts.setdefault(path, path.read_text())
+        elif word == "old":
+            assert texts[path].count(text) == 1
+            before = text
+        elif word == "new" or line == "new:":
+            texts[path] = texts[path].replace(before, text)
+
+
 @needs("jsonschema")
 def test_schema(nethrywel):
     """The schema of start lists and the program agree on all start lists of the repository."""
