@@ -10,7 +10,8 @@ from test_sweep import small
 CLOSED = [*(f"dev/{it}" for it in "attack check-documents crate-graph schema setup steps theorems tour".split()), "tools/sweep"]
 TOOLS = [*CLOSED, *(f"dev/{it}" for it in ("package", "pictures")),
          *(f"tools/{it}" for it in ("desk", "graph", "install", "picture", "report")),
-         "tests/run", "examples/statuses", "examples/compare", "bench/measure", "bench/browse"]
+         "tests/run", "examples/statuses", "examples/compare", "bench/measure",
+         *(f"bench/{it}" for it in "browse generate.py least.py needs.py profile reach.py reach_worst.py release.py".split())]
 NOTES = "friendly/notes.scenario"
 
 
