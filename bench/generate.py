@@ -1,5 +1,5 @@
 #!/usr/bin/env python3
-"""Writes a large scenario to standard output: generate.py SHAPE LINES [SEED].
+"""Writes a large scenario to standard output.
 
 A shape `NAME:SIZE` is one in steady state, on the machine `largest.json`: first so many things are taken, by lines that
 aren't among the LINES, and then one of them, at random, is given back and one taken in turn. NAME is live (dataspaces of
@@ -26,6 +26,9 @@ call, by both scripts in turn, some refused; at the end both hold something of e
 import bisect
 import random
 import sys
+
+from command import SEED, argument, run
+from nethrywel_tools.command_line import Fault
 
 
 def quota(lines, _):
@@ -683,11 +686,11 @@ SHAPES = {
 }
 
 
-def main():
-    shape, lines = sys.argv[1], int(sys.argv[2])
-    rng = random.Random(int(sys.argv[3]) if len(sys.argv) > 3 else 1)
-    out = []
-    name, _, size = shape.partition(":")
+def write(given):
+    lines, rng, out = given.LINES, random.Random(given.SEED), []
+    name, _, size = given.SHAPE.partition(":")
+    if name not in (STEADY if size else SHAPES):
+        raise Fault(f"unknown shape `{given.SHAPE}`", 2)
     for line in STEADY[name](lines, rng, int(size)) if size else SHAPES[name](lines, rng):
         out.append(line)
         if len(out) == 10000:
@@ -698,4 +701,5 @@ def main():
 
 
 if __name__ == "__main__":
-    main()
+    run("generate.py SHAPE LINES [SEED]", __doc__, write, argument("SHAPE", help="what the lines do"),
+        argument("LINES", type=int, help="how many lines"), SEED)

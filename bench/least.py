@@ -1,9 +1,11 @@
 #!/usr/bin/env python3
-"""least.py PROGRAM [SCENARIOS] [SEED]: draws scenarios of one script, and compares the rows of `PROGRAM least --csv` with what
+"""Draws scenarios of one script, and compares the rows of `PROGRAM least --csv` with what
 `PROGRAM run` answers under many budgets: all page counts, the bytes at, one below and one above each row's ends, and
 capabilities from 0 to 20. Of a session the donation varies, and every other account has enough. The same scenario with names for
 its selectors has the same rows, also on a list whose budgets rarely suffice."""
-import csv, io, json, os, random, re, subprocess, sys, tempfile
+import csv, io, json, os, random, re, subprocess, tempfile
+
+from command import PROGRAM, SEED, number, run
 
 PAGE = 4096
 SIDE_BY_SIDE = 24
@@ -255,22 +257,19 @@ def check(nethrywel, draw):
     return None, looked
 
 
-def main():
-    program = os.path.abspath(sys.argv[1])
-    count = int(sys.argv[2]) if len(sys.argv) > 2 else 1000
-    seed = int(sys.argv[3]) if len(sys.argv) > 3 else 1
-    looked = 0
+def compare(given):
+    count, seed, looked = given.SCENARIOS, given.SEED, 0
     with tempfile.TemporaryDirectory() as folder:
-        nethrywel = Nethrywel(program, folder)
-        for number in range(count):
-            differs, more = check(nethrywel, random.Random(f"{seed} {number}"))
+        nethrywel = Nethrywel(given.PROGRAM, folder)
+        for at in range(count):
+            differs, more = check(nethrywel, random.Random(f"{seed} {at}"))
             looked += more
             if differs:
-                print(f"scenario {number} of seed {seed} differs {differs}")
+                print(f"scenario {at} of seed {seed} differs {differs}")
                 return 1
     print(f"{count} scenarios, {looked} budgets: no difference")
     return 0
 
 
 if __name__ == "__main__":
-    sys.exit(main())
+    run("least.py PROGRAM [SCENARIOS] [SEED]", __doc__, compare, PROGRAM, number("SCENARIOS", 1000, "how many are drawn"), SEED)

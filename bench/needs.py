@@ -1,10 +1,11 @@
 #!/usr/bin/env python3
-"""needs.py PROGRAM [SCENARIOS] [SEED]: draws scenarios of one script, and takes from `accounts --plain` what its account and its
+"""Draws scenarios of one script, and takes from `accounts --plain` what its account and its
 sessions need. From just that budget, or that opening donation, `PROGRAM run` has to answer each line as before, except for the
 limits that STAT reports; of a session while its client has enough. It ends with how many budgets of a byte or a capability less
 are answered otherwise: all but those that a growth with two sizes was tested at, which no reply shows."""
-import os, random, re, sys, tempfile
+import random, re, tempfile
 
+from command import PROGRAM, SEED, number, run
 from least import PAGE, Nethrywel, amount, calls_of, donating, machine
 
 ENOUGH = (1000 * PAGE, 1000)
@@ -102,25 +103,22 @@ def check_sessions(nethrywel, calls, looked):
     return None
 
 
-def main():
-    program = os.path.abspath(sys.argv[1])
-    count = int(sys.argv[2]) if len(sys.argv) > 2 else 1000
-    seed = int(sys.argv[3]) if len(sys.argv) > 3 else 1
-    looked = Looked()
+def compare(given):
+    count, seed, looked = given.SCENARIOS, given.SEED, Looked()
     with tempfile.TemporaryDirectory() as folder:
-        nethrywel = Nethrywel(program, folder)
-        for number in range(count):
-            draw = random.Random(f"{seed} {number}")
+        nethrywel = Nethrywel(given.PROGRAM, folder)
+        for at in range(count):
+            draw = random.Random(f"{seed} {at}")
             calls = calls_of(draw)
             if "exit" in calls:
                 del calls[calls.index("exit") + 1 :]
             differs = calls and (check_script(nethrywel, draw, calls, looked) or check_sessions(nethrywel, calls, looked))
             if differs:
-                print("\n".join([f"scenario {number} of seed {seed}:", *calls, differs]))
+                print("\n".join([f"scenario {at} of seed {seed}:", *calls, differs]))
                 return 1
     print(f"{count} scenarios, {looked.needs} needs: no difference; of {looked.below} budgets below, {looked.otherwise} are answered otherwise")
     return 0
 
 
 if __name__ == "__main__":
-    sys.exit(main())
+    run("needs.py PROGRAM [SCENARIOS] [SEED]", __doc__, compare, PROGRAM, number("SCENARIOS", 1000, "how many are drawn"), SEED)

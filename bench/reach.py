@@ -1,8 +1,10 @@
 #!/usr/bin/env python3
-"""reach.py PROGRAM [LISTS] [SEED]: draws start lists whose rules ask for pieces of what their lists see, and of each list a changed
+"""Draws start lists whose rules ask for pieces of what their lists see, and of each list a changed
 one. A second reading of the rules routes all labels of at most four bytes of a small alphabet, and some labels drawn at random. The
 sets of labels and the witnesses of `PROGRAM reach --json` and `PROGRAM diff --json` are compared with these routes."""
-import copy, itertools, json, os, random, subprocess, sys, tempfile
+import copy, itertools, json, os, random, subprocess, tempfile
+
+import command
 
 GIVEN = [chr(b) for b in range(32, 127) if chr(b) not in '"\\']
 SMALL = ["".join(x) for size in range(5) for x in itertools.product("ab> ", repeat=size)]
@@ -271,10 +273,8 @@ def compare(program, draw, before, after):
     return wrong, sum(1 for cell in run(program, "reach", "--json", before)[1] if cell["reach"] == "some")
 
 
-def main():
-    program = os.path.abspath(sys.argv[1])
-    lists = int(sys.argv[2]) if len(sys.argv) > 2 else 100
-    draw = random.Random(int(sys.argv[3]) if len(sys.argv) > 3 else 1)
+def compare_lists(given):
+    program, lists, draw = given.PROGRAM, given.LISTS, random.Random(given.SEED)
     some = differing = 0
     with tempfile.TemporaryDirectory() as folder:
         before, after = (os.path.join(folder, name) for name in ("before.json", "after.json"))
@@ -293,4 +293,5 @@ def main():
 
 
 if __name__ == "__main__":
-    sys.exit(main())
+    lists = command.number("LISTS", 100, "how many are drawn")
+    command.run("reach.py PROGRAM [LISTS] [SEED]", __doc__, compare_lists, command.PROGRAM, lists, command.SEED)

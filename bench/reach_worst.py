@@ -1,9 +1,11 @@
 #!/usr/bin/env python3
-"""reach_worst.py KIND: a start list of 27 scripts, each of which meets 128 rules that ask how a label begins and ends, as much as a
+"""Writes a start list of 27 scripts, each of which meets 128 rules that ask how a label begins and ends, as much as a
 list may hold. KIND is `apart` (texts of which none begins or ends another), `chain` (each front begins longer ones, and each end ends
 longer ones), `bytes` (the same, with all bytes after fronts, so that few of them are between two texts), `full` (no byte does) or
 `blocked` (the same, with long fronts and ends, which all rules share)."""
 import json, random, sys
+
+from command import argument, run
 
 GIVEN = [chr(b) for b in range(32, 127) if chr(b) not in '"\\']
 LISTS = 4
@@ -42,9 +44,8 @@ def blocked(draw, at):
 KINDS = {"apart": apart, "chain": chain, "bytes": every_byte, "full": full, "blocked": blocked}
 
 
-def main():
-    draw = random.Random(1)
-    texts = KINDS[sys.argv[1]]
+def write(given):
+    draw, texts = random.Random(1), KINDS[given.KIND]
     scripts = [f"s{number:02}" for number in range(27)]
     names = ["", "s00 -> ", "c -> s00 -> ", "b -> c -> s00 -> "]
     rules = []
@@ -63,4 +64,4 @@ def main():
 
 
 if __name__ == "__main__":
-    main()
+    run("reach_worst.py KIND", __doc__, write, argument("KIND", choices=KINDS, help="how texts begin and end"))

@@ -1,5 +1,5 @@
 #!/usr/bin/env python3
-"""release.py [TAIL] [RAM] <SCENARIO: what a heap's words cost a line, now and with a tree of used blocks in their headers.
+"""Counts what a heap's words cost a line of a scenario, now and with a tree of used blocks in their headers.
 
 Reads lines of `new`, `del`, `peek` and `poke` of one script, whose heap may have so many bytes of RAM (16 MiB if no
 number is given), and follows them by a second reading of best fit and of the balanced tree. Of the last TAIL lines (all if no number is
@@ -10,6 +10,8 @@ hole between them begins.
 """
 import bisect
 import sys
+
+from command import number, run
 
 PAGE, LARGE = 4096, 65536
 
@@ -263,12 +265,12 @@ def merged(gaps):
     return out
 
 
-def main(tail="0", ram=str(1 << 24)):
+def count_words(given):
     lines = sys.stdin.read().split("\n")[:-1]
-    heap, start = Heap(int(ram)), len(lines) - int(tail) if int(tail) else 0
+    heap, start = Heap(given.RAM), len(lines) - given.TAIL if given.TAIL else 0
     was = (0, (0, 0), (0, 0))
-    for number, line in enumerate(lines):
-        if number == start:
+    for at, line in enumerate(lines):
+        if at == start:
             was = (heap.walked, tuple(heap.hole_count), tuple(heap.used_count))
         words = line.split()[1:]
         if words[0] == "new":
@@ -287,4 +289,6 @@ def main(tail="0", ram=str(1 << 24)):
         print(f"{each(now[0], before[0])} loads, {each(now[1], before[1])} stores of the tree of {name}")
 
 
-main(*sys.argv[1:])
+if __name__ == "__main__":
+    run("release.py [TAIL] [RAM] <SCENARIO", __doc__, count_words, number("TAIL", 0, "how many last lines count; 0 is all"),
+        number("RAM", 1 << 24, "bytes of the heap"))

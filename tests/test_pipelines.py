@@ -7,7 +7,7 @@ import shutil
 from xml.etree import ElementTree
 
 import pytest
-from commands import CASES, CRAWLER, limited
+from commands import CASES, CRAWLER, limited, on_terminal
 
 FILES = CASES / "nethrywel/test/files"
 SCENARIO = [*CRAWLER, "friendly/crawler.scenario"]
@@ -36,6 +36,13 @@ def test_unwritten_junit(nethrywel, tmp_path):
     ran = nethrywel("test", "good", "--junit", tmp_path / "junit.xml", cwd=FILES / "all", **limit)
     assert ran.status == 1 and f"cannot write {tmp_path}/junit.xml: " in ran.err
     assert [(it.name, it.read_text()) for it in tmp_path.iterdir()] == [("junit.xml", "old")]
+
+
+def test_progress_of_tests(nethrywel):
+    """`nethrywel test` counts the tests on a terminal, whose line is empty at the end, if its lines are printed elsewhere."""
+    ran, seen = nethrywel("test", "all", cwd=FILES), on_terminal(nethrywel.path, "test", "all", cwd=FILES)
+    assert (ran.err, seen.status, seen.out) == ("", ran.status, ran.out)
+    assert re.fullmatch(r"(\r\d of 4)+\r\x1b\[K", seen.err)
 
 
 def rows_of(text):

@@ -10,7 +10,8 @@ from test_sweep import small
 CLOSED = [*(f"dev/{it}" for it in "attack check-documents crate-graph schema setup steps theorems tour".split()), "tools/sweep"]
 TOOLS = [*CLOSED, *(f"dev/{it}" for it in ("package", "pictures")),
          *(f"tools/{it}" for it in ("desk", "graph", "install", "picture", "report")),
-         "tests/run", "examples/statuses", "examples/compare", "bench/measure", "bench/browse"]
+         "tests/run", "examples/statuses", "examples/compare", "bench/measure",
+         *(f"bench/{it}" for it in "browse generate.py least.py needs.py profile reach.py reach_worst.py release.py".split())]
 NOTES = "friendly/notes.scenario"
 
 
@@ -79,6 +80,23 @@ def test_documents(nethrywel, words):
     """Links, words, quotes and scenarios of documents, step lists, the picture of the crates, and the places of the theorems."""
     name, *words = words.format(nethrywel.path).split()
     tool(f"dev/{name}")(*words).ok()
+
+
+@pytest.mark.parametrize("edit", [*TOP.glob("attacks/*/*.edit"), *TOP.glob("crates/*/must-fail/*.edit")],
+                         ids=lambda it: it.relative_to(TOP).as_posix())
+def test_mutant(edit):
+    """The texts that a mutant replaces are in its crate, each once."""
+    crate, texts = TOP / "crates" / (edit.parts[-3] if edit.parts[-2] == "must-fail" else edit.parts[-2]), {}
+    for line in edit.read_text().splitlines():
+        word, _, text = line.partition(": ")
+        if word == "file":
+            path = crate / text
+            texts.setdefault(path, path.read_text())
+        elif word == "old":
+            assert texts[path].count(text) == 1
+            before = text
+        elif word == "new" or line == "new:":
+            texts[path] = texts[path].replace(before, text)
 
 
 @needs("jsonschema")
