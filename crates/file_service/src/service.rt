@@ -65,7 +65,6 @@ impl Service for FileService {
 
     ghost step = { λ service. service_step };
 
-    #[inline(always)]
     fn open(&self, heap: SlicedHeap, label: &[u8]) -> FileSession {
         FileSession::open(heap, label)
     }

@@ -39,7 +39,6 @@ impl FileSession {
     ghost use Rattle.file_service.specs.Session.{value_of, files_in, HasFiles, IsSession};
 
     /// Creates a session without files and without a buffer.
-    #[inline(always)]
     pub(crate) fn open(heap: SlicedHeap, label: &[u8]) -> FileSession
         requires { length label.now ≤ LONGEST_LABEL }
         ensures first { (share : Share) → HasBlocksAlone share

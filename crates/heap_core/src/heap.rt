@@ -52,7 +52,6 @@ pub struct Heap {
 
 impl Heap {
     /// Creates an empty heap that charges the account for its blocks.
-    #[inline(always)]
     pub fn new(account: AccountId) -> Heap
         ensures payer { payer_of result ≡ account.0 }
         ensures sound { (store : Store) (regions : Regions) → IsOpenIn store account.0 →

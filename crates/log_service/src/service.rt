@@ -62,7 +62,6 @@ impl Service for LogService {
 
     ghost step = { λ service. service_step };
 
-    #[inline(always)]
     fn open(&self, heap: SlicedHeap, label: &[u8]) -> LogSession {
         LogSession::open(heap, label)
     }

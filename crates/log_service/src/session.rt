@@ -45,7 +45,6 @@ impl Model for LogSession {
 
 impl LogSession {
     /// Creates a session of this label with an empty line.
-    #[inline(always)]
     pub(crate) fn open(heap: SlicedHeap, label: &[u8]) -> LogSession
         requires { length label.now ≤ LONGEST_LABEL }
         ensures { result ≡ record { label = label.now; partial = []; heap = heap } }

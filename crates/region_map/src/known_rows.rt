@@ -150,7 +150,6 @@ impl KnownRows {
     }
 
     /// Returns what is known after an insertion of a row that overlaps no other row.
-    #[inline(always)]
     pub fn with_row(self, at: usize, rows: &RegionRows, low: u64) -> KnownRows
         requires short { self.until + 1 < 2 ^ 64 }
         requires small { low ≤ 2 ^ 45 }
@@ -187,7 +186,6 @@ impl KnownRows {
     }
 
     /// Returns what is known after the removal of the row at an index.
-    #[inline(always)]
     pub fn without_row(self, at: usize, rows: &RegionRows, low: u64) -> KnownRows
         requires small { low ≤ 2 ^ 45 }
         requires known { IsRemoved low self at rows.now.items }

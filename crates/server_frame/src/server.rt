@@ -104,9 +104,6 @@ impl<S: Service + Drop> Server<S> {
     /// Refuses with `OutOfRam`, then `OutOfCaps`, if the client's account does not cover the donation. Then refuses with
     /// `InsufficientRamQuota`, then `InsufficientCapQuota`, if the donation is less than a session uses from the start. A
     /// refused call changes nothing.
-    ///
-    /// The function is not inlined, because each call of its caller would clear a place for a session of this service.
-    #[inline(never)]
     pub fn open(
         &mut self,
         memory: &mut Memory,
@@ -214,7 +211,7 @@ impl<S: Service + Drop> Server<S> {
     }
 
     /// Closes a session: frees all that it has and returns its account's limits to its client's account. The function is
-    /// not inlined, for the same reason as `open`.
+    /// not inlined, because each call of its caller would clear a place for a session of this service.
     #[inline(never)]
     pub fn close(&mut self, memory: &mut Memory, id: SessionId)
         requires server { IsServer S.IsKept self.old.sessions memory.old self.old.map }

@@ -30,7 +30,6 @@ pub struct SessionHeaps {
 
 impl SessionHeaps {
     /// Returns heaps without a node, for an account that has only sliced blocks and no buffer.
-    #[inline(always)]
     pub fn new(contents: SlicedHeap) -> SessionHeaps
         ensures kept { (share : Share) → HasBlocksAlone share → IsLinked share contents.first
             → AreKept result (payer_of contents) share }
