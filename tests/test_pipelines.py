@@ -71,7 +71,7 @@ def labels_of(shapes):
 TRACE = ("line component call reply ram_used ram_limit caps_used caps_limit session session_ram_used session_ram_limit"
          " session_caps_used session_caps_limit text").split()
 REACH = "from service to reach label labels witness".split()
-LEAST = "component session line ram_from ram_below caps_from unmeasured".split()
+LEAST = "component session line ram_from ram_below caps_from unmeasured safe_ram safe_caps count".split()
 
 
 @pytest.mark.parametrize("columns, words", [
@@ -80,7 +80,7 @@ LEAST = "component session line ram_from ram_below caps_from unmeasured".split()
 ], ids=lambda it: it[-1] if "/" in it[-1] or "." in it[-1] else it[0])
 def test_rows_as_json(nethrywel, columns, words):
     """A table has the same rows as JSON and as comma-separated values."""
-    found = documents(nethrywel, *words)
+    found = [it for it in documents(nethrywel, *words) if it.get("kind") != "machine"]
     for it in found:
         if columns is REACH:
             it["labels"] = labels_of(it["labels"])

@@ -164,7 +164,7 @@ abbrev pub least : Shape
 least =
     with_rules (codes "least")
     (option_rule (codes "machine") ∷ flag_rule (codes "as-donated") ∷ flag_rule (codes "csv") ∷ flag_rule (codes "json")
-    ∷ flag_rule (codes "list") ∷ flag_rule (codes "scenario") ∷ set ∷ file_rule (codes "played") ∷ [])
+    ∷ flag_rule (codes "list") ∷ flag_rule (codes "scenario") ∷ flag_rule (codes "safe") ∷ set ∷ file_rule (codes "played") ∷ [])
 
 -- the program itself
 abbrev pub program : App
@@ -254,6 +254,7 @@ Asks (command.Least asked) name rows = (name ≡ codes "least")
     × (asked.json ≡ is_set (codes "json") rows)
     × (asked.list ≡ is_set (codes "list") rows)
     × (asked.donations ≡ is_set (codes "scenario") rows)
+    × (asked.safe ≡ is_set (codes "safe") rows)
     × (asked.scenario.now ≡ first_or (codes "-") (codes "played") rows)
 Asks (command.Diff asked) name rows = (name ≡ codes "diff")
     × (asked.json ≡ is_set (codes "json") rows)

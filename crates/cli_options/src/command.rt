@@ -189,10 +189,12 @@ pub struct LeastOptions<'a> {
     pub csv: bool,
     /// Whether a document of JSON is written in place of a text.
     pub json: bool,
-    /// Whether the start list with the minimum budgets is written.
+    /// Whether the start list with the budgets in place is written.
     pub list: bool,
-    /// Whether the scenario with the minimum donations is written.
+    /// Whether the scenario with the donations in place is written.
     pub donations: bool,
+    /// Whether the safe budget of each account is written in place of the minimum.
+    pub safe: bool,
     /// The path of the scenario.
     pub scenario: &'a str,
 }
@@ -479,6 +481,7 @@ impl<'a> Command<'a> {
             json: is_set(found, "json"),
             list: is_set(found, "list"),
             donations: is_set(found, "scenario"),
+            safe: is_set(found, "safe"),
             scenario: path(found, "played"),
         })
     }

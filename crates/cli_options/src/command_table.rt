@@ -160,6 +160,7 @@ pub(crate) const COMMANDS: &[CommandForm<'static>] = &[
             JSON,
             ArgumentForm::Flag("list", help::LEAST_LIST),
             ArgumentForm::Flag("scenario", help::LEAST_SCENARIO),
+            ArgumentForm::Flag("safe", help::SAFE),
             SET,
             ArgumentForm::Needed("played", "SCENARIO", help::SCENARIO),
         ],

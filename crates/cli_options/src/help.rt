@@ -150,6 +150,9 @@ pub(crate) const LEAST_LIST: &str = "Write the start list with the minimum budge
 
 pub(crate) const LEAST_SCENARIO: &str = "Write the scenario with the minimum donations";
 
+pub(crate) const SAFE: &str =
+    "Write safe budgets and donations, from which on all suffice, in place of the minimum";
+
 pub(crate) const SCENARIO: &str = "The path of a scenario; - is standard input";
 
 pub(crate) const LIST: &str = "The path of a start list in JSON; - is standard input";
