@@ -4,6 +4,7 @@ import io
 import json
 import re
 import shutil
+from decimal import Decimal
 from xml.etree import ElementTree
 
 import pytest
@@ -23,6 +24,9 @@ def test_junit(nethrywel, tmp_path):
     suite = ElementTree.parse(tmp_path / "junit.xml").find(".//testsuite")
     tests, failures = suite.findall("testcase"), suite.findall("testcase/failure")
     assert (len(tests), len(failures), suite.get("tests"), suite.get("failures")) == (4, 2, "4", "2")
+    times = [it.get("time") for it in [suite, *tests]]
+    assert all(re.fullmatch(r"\d+\.\d{3}", it) for it in times)
+    assert Decimal(times[0]) == sum(Decimal(it) for it in times[1:])
     faults = [it[2:] for it in ran.out.splitlines() if it.startswith(f"# {name}:")]
     assert len(faults) == 3 and tests[2].get("name") == name
     assert (failures[0].get("message"), failures[0].text.strip().splitlines()) == (faults[0], faults)

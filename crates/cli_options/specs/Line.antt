@@ -138,7 +138,8 @@ route =
 abbrev pub test : Shape
 test =
     with_rules (codes "test")
-    (option_rule (codes "machine") ∷ option_rule (codes "junit") ∷ flag_rule (codes "strict") ∷ flag_rule (codes "coverage") ∷ flag_rule (codes "json")
+    (option_rule (codes "machine") ∷ option_rule (codes "junit") ∷ options_rule (codes "filter") ∷ flag_rule (codes "strict")
+    ∷ flag_rule (codes "coverage") ∷ flag_rule (codes "coverage-calls") ∷ option_rule (codes "threshold") ∷ flag_rule (codes "json")
     ∷ set ∷ option_rule (codes "color") ∷ words_rule (codes "path") ∷ [])
 
 -- the command that compares two start lists
@@ -264,8 +265,11 @@ Asks (command.Diff asked) name rows = (name ≡ codes "diff")
 Asks (command.Test asked) name rows = (name ≡ codes "test")
     × (option_map (λ t. t.now) asked.machine ≡ first_of (codes "machine") rows)
     × (option_map (λ t. t.now) asked.junit ≡ first_of (codes "junit") rows)
+    × (map (λ t. t.now) asked.filters.items ≡ unwrap_or (all_of (codes "filter") rows) [])
     × (asked.strict ≡ is_set (codes "strict") rows)
     × (asked.coverage ≡ is_set (codes "coverage") rows)
+    × (asked.coverage_calls ≡ is_set (codes "coverage-calls") rows)
+    × (option_map (λ t. t.now) asked.threshold ≡ first_of (codes "threshold") rows)
     × (asked.json ≡ is_set (codes "json") rows)
     × IsColor asked.color (first_or (codes "auto") (codes "color") rows)
     × (map (λ t. t.now) asked.paths.items ≡ unwrap_or (all_of (codes "path") rows) [])

@@ -236,10 +236,16 @@ pub struct TestOptions<'a> {
     pub machine: Option<&'a str>,
     /// The path of the JUnit document of all results, or none.
     pub junit: Option<&'a str>,
+    /// The texts of which the path of a test has one, or nothing for all tests.
+    pub filters: Vec<&'a str>,
     /// Whether a warning fails its scenario.
     pub strict: bool,
     /// Whether the coverage of the scenarios is printed.
     pub coverage: bool,
+    /// Whether the coverage has refusals and errors too, and is printed.
+    pub coverage_calls: bool,
+    /// The percentage of rules and session requests that scenarios must cover, as text, or none.
+    pub threshold: Option<&'a str>,
     /// Whether the coverage is printed as a document of JSON, in place of all lines.
     pub json: bool,
     /// The condition under which lines are coloured.
@@ -337,8 +343,11 @@ impl<'a> Command<'a> {
         Ok(Command::Test(TestOptions {
             machine: found.get_str("machine"),
             junit: found.get_str("junit"),
+            filters: words(alloc, found, "filter")?,
             strict: is_set(found, "strict"),
             coverage: is_set(found, "coverage"),
+            coverage_calls: is_set(found, "coverage-calls"),
+            threshold: found.get_str("threshold"),
             json: is_set(found, "json"),
             color: colored(found),
             paths: words(alloc, found, "path")?,

@@ -171,8 +171,11 @@ pub(crate) const COMMANDS: &[CommandForm<'static>] = &[
         words: &[
             ArgumentForm::Value("machine", "FILE", help::OTHER_MACHINE),
             ArgumentForm::Value("junit", "FILE", help::JUNIT),
+            ArgumentForm::Values("filter", "TEXT", help::FILTER),
             STRICT,
             ArgumentForm::Flag("coverage", help::COVERAGE),
+            ArgumentForm::Flag("coverage-calls", help::COVERAGE_CALLS),
+            ArgumentForm::Value("threshold", "N", help::THRESHOLD),
             JSON,
             SET,
             COLOR,

@@ -29,8 +29,8 @@ Exit status:
   1    a failed read or write, too many lines, or no memory during a run
   2    a refused command line, file or start list; with --strict also a finding
   3    a reply that isn't as expected, a line that is no call, a failed test, a
-       broken policy, a denied request, or an unknown component; with --strict
-       also a warning about a line
+       broken policy, coverage below a threshold, a denied request, or an unknown
+       component; with --strict also a warning about a line
   4    `diff` found a difference
   141  the reader of the output closed it
 docs/reference/ has the formats of scenarios, start lists, policies and output.";
@@ -216,6 +216,14 @@ pub(crate) const OTHER_MACHINE: &str =
     "A start list in JSON for scenarios without their own, instead of the built-in machine";
 
 pub(crate) const COVERAGE: &str =
-    "Report which rules decide a request, and which refusals and errors occur";
+    "Report which rules decide a session request, and which script requests which service";
+
+pub(crate) const COVERAGE_CALLS: &str = "Report the coverage, and which refusals and errors occur";
+
+pub(crate) const THRESHOLD: &str =
+    "Report the coverage, and exit with status 3 if less than N percent of the rules and session requests are covered";
+
+pub(crate) const FILTER: &str =
+    "Run only the tests with TEXT in their paths; repeatable, and then one of the texts is enough";
 
 pub(crate) const JUNIT: &str = "Write the results to FILE as JUnit's XML";

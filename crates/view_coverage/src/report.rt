@@ -1,35 +1,97 @@
-//! The coverage of all scenarios: which rules decide a session request, and which refusals and errors are met, in total and by
-//! file.
-ghost use Rattle.std.specs.Prelude.{◌≡◌, ◌&&◌, ◌==◌, count_by, length, string_bytes, IfOk, IfSome, OnOk, Some};
+//! The coverage of all scenarios: which rules decide a session request, which script requests which service, and which refusals
+//! and errors are met, in total and by file.
+ghost use Rattle.std.specs.Prelude.{◌≡◌, ◌&&◌, ◌==◌, ◌++◌, ◌∷◌, [], count_by, if◌then◌else◌, is_some, length, map, string_bytes, IfOk, IfSome, OnOk, Some};
 ghost use Rattle.std.specs.Str.{bytes_eq};
-ghost use Rattle.view_coverage.specs.Reported.{is_met_in, list_at, list_of_scenario};
+ghost use Rattle.view_coverage.specs.Reported.{is_covered, is_event_of_list, is_met_in, is_of_list, list_at, list_of_scenario, part_places};
 
-use crate::event::{CoverageEvent, RouteOwner, RulePlace};
+use crate::event::{CoverageEvent, RouteOwner, RulePlace, ScriptService};
 use crate::row::CoverageRow;
 use crate::scenario_coverage::Coverage;
 use list_parser::StartList;
 use std::alloc::{AllocError, Global};
+use trade_base::Service;
 
 /// A report on the coverage of the scenarios of some files.
 #[derive(Drop)]
 pub struct CoverageReport {
     alloc: Global,
-    pub(crate) lists: Vec<ListRules>,
+    /// Whether the text and the document have the refusals and errors too.
+    pub(crate) calls: bool,
+    /// The paths of the start lists.
+    pub(crate) lists: Vec<String>,
+    /// The parts of each start list, in the order of the start lists.
+    pub(crate) parts: Vec<CoveragePart>,
     pub(crate) sheets: Vec<CoverageSheet>,
 }
 
-/// The rules of a start list.
+/// A part of a start list that scenarios cover.
 #[derive(Drop)]
-pub(crate) struct ListRules {
-    pub path: String,
-    pub rules: Vec<NamedRule>,
+pub(crate) struct CoveragePart {
+    /// The place of the start list.
+    pub list: usize,
+    /// The place of the part's row.
+    pub place: usize,
+    pub name: PartName,
 }
 
-/// A rule by its name, and the place of its row.
+/// The kind of a part of a start list.
+#[derive(Clone, Copy, PartialEq, Eq)]
+pub(crate) enum PartKind {
+    /// A rule of a route.
+    Rule,
+    /// The session requests of a script for a service.
+    Request,
+}
+
+impl CoveragePart {
+    ghost use Rattle.std.specs.Prelude.{◌≡◌};
+    ghost use Rattle.view_coverage.specs.Reported.{is_covered};
+
+    /// Returns whether the part is of this kind, and of the start list at this place.
+    pub(crate) fn is_of(&self, list: usize, kind: PartKind) -> bool {
+        let own = match self.name {
+            PartName::Rule(_) => PartKind::Rule,
+            PartName::Request(_, _) => PartKind::Request,
+        };
+        self.list == list && own == kind
+    }
+
+    /// Returns whether one of these scenarios is of the part's start list and meets the part's row.
+    pub(crate) fn is_covered(&self, sheets: &[CoverageSheet]) -> bool
+        ensures { result ≡ is_covered sheets.now self.now }
+    {
+        sheets
+            .iter()
+            .any(|sheet| sheet.list == self.list && sheet.meets(self.place))
+    }
+}
+
+/// The name of a part of a start list.
 #[derive(Drop)]
-pub(crate) struct NamedRule {
-    pub place: usize,
-    pub name: String,
+pub(crate) enum PartName {
+    /// A rule, by its place in its route and the owner of the route.
+    Rule(String),
+    /// The session requests of the script with this path for a service.
+    Request(String, Service),
+}
+
+/// The number of rules and session requests of all start lists, and the number of those that scenarios cover.
+#[derive(Clone, Copy)]
+pub struct CoverageCount {
+    pub covered: usize,
+    pub all: usize,
+}
+
+impl CoverageCount {
+    ghost use Rattle.std.specs.Prelude.{◌≡◌};
+    ghost use Rattle.view_coverage.specs.Reported.{falls_short};
+
+    /// Returns whether fewer than this percentage are covered.
+    pub fn falls_short(self, percent: u8) -> bool
+        ensures { result ≡ falls_short percent self.covered self.all }
+    {
+        self.covered as u128 * 100 < percent as u128 * self.all as u128
+    }
 }
 
 /// The coverage of one scenario.
@@ -42,11 +104,13 @@ pub(crate) struct CoverageSheet {
 }
 
 impl CoverageReport {
-    /// Returns a report without scenarios, to which scenarios are added.
-    pub fn new(alloc: Global) -> CoverageReport {
+    /// Returns a report without scenarios, to which scenarios are added. It has the refusals and errors if `calls` is set.
+    pub fn new(alloc: Global, calls: bool) -> CoverageReport {
         CoverageReport {
             alloc,
+            calls,
             lists: Vec::new(alloc),
+            parts: Vec::new(alloc),
             sheets: Vec::new(alloc),
         }
     }
@@ -72,7 +136,19 @@ impl CoverageReport {
         Ok(())
     }
 
-    // Returns the place of the start list of this path, which is added if it isn't there.
+    /// Returns how many rules and session requests the start lists have, and how many of them their scenarios cover.
+    pub fn count(&self) -> CoverageCount
+        ensures all { result.all ≡ length self.now.parts.items }
+        ensures covered { result.covered
+            ≡ count_by (is_covered self.now.sheets.items) self.now.parts.items }
+    {
+        CoverageCount {
+            all: self.parts.len(),
+            covered: covered_in(self.sheets.as_slice(), self.parts.as_slice()),
+        }
+    }
+
+    // Returns the place of the start list of this path, which is added with its parts if it isn't there.
     #[tactic(auto, using(crate::proofs::PlaceLemmas::last_is))]
     fn place_of(
         &mut self,
@@ -87,11 +163,8 @@ impl CoverageReport {
             return Ok(place);
         }
         let place = self.lists.len();
-        let rules = ListRules {
-            path: String::from_str(self.alloc, path)?,
-            rules: rules_named(self.alloc, list, rows)?,
-        };
-        self.lists.push(rules)?;
+        add_parts(self.alloc, list, place, rows, &mut self.parts)?;
+        self.lists.push(String::from_str(self.alloc, path)?)?;
         Ok(place)
     }
 
@@ -110,8 +183,8 @@ impl CoverageReport {
         times_in(self.sheets.as_slice(), place)
     }
 
-    /// Returns in how many scenarios of a start list the rule decides whose row is at a place.
-    pub(crate) fn times_decided(&self, list: usize, place: usize) -> usize
+    /// Returns how many scenarios of a start list meet the row at a place.
+    pub(crate) fn times_in_list(&self, list: usize, place: usize) -> usize
         ensures { result ≡ count_by
             (λ sheet. (sheet.list == list) && is_met_in sheet place) self.now.sheets.items }
     {
@@ -135,7 +208,7 @@ impl CoverageSheet {
 }
 
 // Returns the place of the start list of a path, if it is there.
-fn place_in(lists: &[ListRules], path: &str) -> Option<usize>
+fn place_in(lists: &[String], path: &str) -> Option<usize>
     ensures { IfSome result (λ place. list_at lists.now place ≡ Some path.now) }
 {
     for place in 0..lists.len() {
@@ -146,11 +219,18 @@ fn place_in(lists: &[ListRules], path: &str) -> Option<usize>
     None
 }
 
-// Returns whether rules are those of the start list of a path.
-fn is_of(rules: &ListRules, path: &str) -> bool
-    ensures { result ≡ bytes_eq (string_bytes rules.now.path) path.now }
+// Returns whether a start list's path is this one.
+fn is_of(list: &String, path: &str) -> bool
+    ensures { result ≡ bytes_eq (string_bytes list.now) path.now }
 {
-    rules.path.as_str() == path
+    list.as_str() == path
+}
+
+// Returns how many of these parts are covered by these scenarios.
+fn covered_in(sheets: &[CoverageSheet], parts: &[CoveragePart]) -> usize
+    ensures { result ≡ count_by (is_covered sheets.now) parts.now }
+{
+    parts.iter().filter(|part| part.is_covered(sheets)).count()
 }
 
 // The number of these scenarios that meet the row at a place.
@@ -171,30 +251,86 @@ fn times_of(sheets: &[CoverageSheet], list: usize, place: usize) -> usize
         .count()
 }
 
-/// Returns the rows before the first row of a rule.
+/// Returns the rows before the first row of a start list: those of both tables.
 pub(crate) fn tables_of(rows: &[CoverageRow]) -> &[CoverageRow] {
-    match rows.iter().position(|row| row.is_of_a_rule()) {
+    match rows.iter().position(|row| row.is_of_list()) {
         Some(end) => &rows[..end],
         None => rows,
     }
 }
 
-// The rules among rows.
-fn rules_named(
+// Adds the parts of the start list at a place: one for each row of a rule or of a script and a service.
+fn add_parts(
     alloc: Global,
     list: &StartList,
+    number: usize,
     rows: &[CoverageRow],
-) -> Result<Vec<NamedRule>, AllocError> {
-    let mut rules = Vec::new(alloc);
-    for (place, row) in rows.iter().enumerate() {
-        if let CoverageEvent::Decided(rule) = row.event {
-            rules.push(NamedRule {
-                place,
-                name: rule_name(alloc, list, rule)?,
-            })?;
+    parts: &mut Vec<CoveragePart>,
+) -> Result<(), AllocError>
+    ensures { OnOk result (map (λ part. part.place) parts.new.items
+        ≡ map (λ part. part.place) parts.old.items ++ part_places 0 rows.now) }
+{
+    for place in 0..rows.len() {
+        add_part(alloc, list, number, place, &rows[place], parts)?;
+    }
+    Ok(())
+}
+
+// Adds the part of the row at a place, if the row is of a start list.
+fn add_part(
+    alloc: Global,
+    list: &StartList,
+    number: usize,
+    place: usize,
+    row: &CoverageRow,
+    parts: &mut Vec<CoveragePart>,
+) -> Result<(), AllocError>
+    ensures { OnOk result (map (λ part. part.place) parts.new.items
+        ≡ map (λ part. part.place) parts.old.items
+        ++ (if is_of_list row.now then place ∷ [] else [])) }
+{
+    let Some(name) = part_name(alloc, list, row.event)? else {
+        return Ok(());
+    };
+    parts.push(CoveragePart {
+        list: number,
+        place,
+        name,
+    })?;
+    Ok(())
+}
+
+// Returns the name of the part of an event, if the event is of a start list.
+fn part_name(
+    alloc: Global,
+    list: &StartList,
+    event: CoverageEvent,
+) -> Result<Option<PartName>, AllocError>
+    ensures { IfOk result (λ name. is_some name ≡ is_event_of_list event) }
+{
+    match event {
+        CoverageEvent::Refused(_, _) | CoverageEvent::Failed(_, _) => Ok(None),
+        CoverageEvent::Decided(rule) => {
+            let name = rule_name(alloc, list, rule)?;
+            Ok(Some(PartName::Rule(name)))
+        }
+        CoverageEvent::Requested(asked) => {
+            let path = script_path(alloc, list, asked)?;
+            Ok(Some(PartName::Request(path, asked.service)))
         }
     }
-    Ok(rules)
+}
+
+// Returns the path of a script.
+fn script_path(
+    alloc: Global,
+    list: &StartList,
+    asked: ScriptService,
+) -> Result<String, AllocError> {
+    match list.entries().get(asked.client) {
+        Some(entry) => format!(in alloc; "{}", entry.to_path()),
+        None => Ok(String::new(alloc)),
+    }
 }
 
 // The name of a rule: its place in its route, and whose route that is, unless it is the machine's.
