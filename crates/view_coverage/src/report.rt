@@ -1,8 +1,7 @@
 //! The coverage of all scenarios: which rules decide a session request, which script requests which service, and which refusals
 //! and errors are met, in total and by file.
 ghost use Rattle.std.specs.Prelude.{◌≡◌, ◌&&◌, ◌==◌, ◌++◌, ◌∷◌, [], count_by, if◌then◌else◌, is_some, length, map, string_bytes, IfOk, IfSome, OnOk, Some};
-ghost use Rattle.std.specs.Str.{bytes_eq};
-ghost use Rattle.view_coverage.specs.Reported.{is_covered, is_event_of_list, is_met_in, is_of_list, list_at, list_of_scenario, part_places};
+ghost use Rattle.view_coverage.specs.Reported.{if_new, is_covered, is_event_of_list, is_met_in, is_of_list, list_at, list_of_scenario, numbers_of, parts_from, parts_in, parts_with, paths_in, paths_with, place_of, rows_in};
 
 use crate::event::{CoverageEvent, RouteOwner, RulePlace, ScriptService};
 use crate::row::CoverageRow;
@@ -115,7 +114,8 @@ impl CoverageReport {
         }
     }
 
-    /// Adds the coverage of a scenario on the machine of a start list, each with its path. Fails if the host is out of memory.
+    /// Adds the coverage of a scenario on the machine of a start list, each with its path. A start list that is new adds its parts.
+    /// Fails if the host is out of memory.
     #[tactic(auto, using(crate::proofs::PlaceLemmas::added_on))]
     pub fn add(
         &mut self,
@@ -124,8 +124,12 @@ impl CoverageReport {
         scenario: &str,
         coverage: Coverage,
     ) -> Result<(), AllocError>
-        ensures { OnOk result
+        ensures list { OnOk result
             (list_of_scenario self.new (length self.old.sheets.items) ≡ Some path.now) }
+        ensures rows { OnOk result (rows_in self.new ≡ rows_in self.old ++ coverage.rows.items ∷ []) }
+        ensures paths { OnOk result (paths_in self.new ≡ paths_with self.old path.now) }
+        ensures parts { OnOk result
+            (parts_in self.new ≡ parts_with self.old path.now coverage.rows.items) }
     {
         let place = self.place_of(list, path, coverage.rows.as_slice())?;
         self.sheets.push(CoverageSheet {
@@ -149,7 +153,7 @@ impl CoverageReport {
     }
 
     // Returns the place of the start list of this path, which is added with its parts if it isn't there.
-    #[tactic(auto, using(crate::proofs::PlaceLemmas::last_is))]
+    #[tactic(auto, using(crate::proofs::PlaceLemmas::found_at, crate::proofs::PlaceLemmas::last_is))]
     fn place_of(
         &mut self,
         list: &StartList,
@@ -158,6 +162,8 @@ impl CoverageReport {
     ) -> Result<usize, AllocError>
         ensures sheets { self.new.sheets ≡ self.old.sheets }
         ensures place { IfOk result (λ place. list_at self.new.lists.items place ≡ Some path.now) }
+        ensures paths { OnOk result (paths_in self.new ≡ paths_with self.old path.now) }
+        ensures parts { OnOk result (parts_in self.new ≡ parts_with self.old path.now rows.now) }
     {
         if let Some(place) = place_in(self.lists.as_slice(), path) {
             return Ok(place);
@@ -209,21 +215,9 @@ impl CoverageSheet {
 
 // Returns the place of the start list of a path, if it is there.
 fn place_in(lists: &[String], path: &str) -> Option<usize>
-    ensures { IfSome result (λ place. list_at lists.now place ≡ Some path.now) }
+    ensures { result ≡ place_of lists.now path.now }
 {
-    for place in 0..lists.len() {
-        if is_of(&lists[place], path) {
-            return Some(place);
-        }
-    }
-    None
-}
-
-// Returns whether a start list's path is this one.
-fn is_of(list: &String, path: &str) -> bool
-    ensures { result ≡ bytes_eq (string_bytes list.now) path.now }
-{
-    list.as_str() == path
+    lists.iter().position(|list| list.as_str() == path)
 }
 
 // Returns how many of these parts are covered by these scenarios.
@@ -267,8 +261,8 @@ fn add_parts(
     rows: &[CoverageRow],
     parts: &mut Vec<CoveragePart>,
 ) -> Result<(), AllocError>
-    ensures { OnOk result (map (λ part. part.place) parts.new.items
-        ≡ map (λ part. part.place) parts.old.items ++ part_places 0 rows.now) }
+    ensures { OnOk result (map numbers_of parts.new.items
+        ≡ map numbers_of parts.old.items ++ parts_from number 0 rows.now) }
 {
     for place in 0..rows.len() {
         add_part(alloc, list, number, place, &rows[place], parts)?;
@@ -285,9 +279,8 @@ fn add_part(
     row: &CoverageRow,
     parts: &mut Vec<CoveragePart>,
 ) -> Result<(), AllocError>
-    ensures { OnOk result (map (λ part. part.place) parts.new.items
-        ≡ map (λ part. part.place) parts.old.items
-        ++ (if is_of_list row.now then place ∷ [] else [])) }
+    ensures { OnOk result (map numbers_of parts.new.items ≡ map numbers_of parts.old.items
+        ++ (if is_of_list row.now then (number, place) ∷ [] else [])) }
 {
     let Some(name) = part_name(alloc, list, row.event)? else {
         return Ok(());
