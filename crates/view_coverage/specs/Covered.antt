@@ -1,7 +1,7 @@
 -- The coverage of a machine by the answered calls of a scenario: which of its rows are met.
 use Rattle.std.specs.Prelude.{ℕ, ◌+◌, ◌&&◌, ◌==◌, ◌||◌, zero, suc, Bool, true, false, List, [], ◌∷◌, ◌++◌, if◌then◌else◌, map, length, Option, Some, None}
 use Rattle.std.specs.List.{flat_map, list_any}
-use Rattle.std.specs.Option.{option_copied, option_map, option_map_or}
+use Rattle.std.specs.Option.{option_copied, option_map}
 use Rattle.std.specs.Str.{bytes_eq}
 use Rattle.trade_base.specs.Refusal.{refusal_name}
 use Rattle.trade_base.specs.Service.{service_name, services}
