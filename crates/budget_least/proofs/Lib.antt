@@ -1,7 +1,11 @@
 pub mod RowLemmas
 pub mod OrderLemmas
+pub mod SafeLemmas
 pub mod ItemLemmas
+pub mod ChangeLemmas
 pub mod InitNeedLemmas
+pub mod NeededLemmas
+pub mod MachineLemmas
 pub mod RunLemmas
 pub mod AlikeLemmas
 pub mod HeldLemmas

@@ -1,20 +1,16 @@
 -- Intervals that are found from the highest RAM on, and their minimum.
 use Rattle.std.proofs.lemmas.Bool.Decides.{nat_tests}
 use Rattle.std.proofs.lemmas.List.{reverse-append}
-use Rattle.std.proofs.Common.{arith, ◌≡◌, ℕ, suc, ◌-◌, ◌<◌, ◌≤◌, ◌&&◌, ◌||◌, Bool, true, false, List, [], ◌∷◌, ◌++◌, nat_le, reverse, refl, sym, ap, ◌∙◌, subst}
-use Rattle.std.proofs.lemmas.Option.{same_Some}
-use Rattle.std.specs.List.{slice_get}
-use Rattle.own_model.specs.Listed.{Listed}
-use Rattle.std.specs.Prelude.{if◌then◌else◌, not, max, Option, Some, None}
+use Rattle.std.proofs.Common.{arith, ◌≡◌, ℕ, suc, ◌<◌, ◌≤◌, ◌&&◌, ◌||◌, Bool, true, false, List, [], ◌∷◌, ◌++◌, nat_le, reverse, refl, sym, ap, ◌∙◌, subst}
+use Rattle.std.specs.List.{AllByRecursion}
+use Rattle.std.specs.Prelude.{if◌then◌else◌, max, Option, Some, None, IfSome}
 use Rattle.own_model.specs.Amounts.{Amounts}
 use Rattle.budget_theorems.proofs.CellLemmas.{in_own_cell}
 use Rattle.budget_theorems.specs.Need.{Need, IsBelow, cell_by, covers_ram, greatest_choice}
 use Rattle.budget_least.proofs.RowLemmas.{starts_below}
-use Rattle.budget_least.specs.Alike.{most_in}
-use Rattle.budget_least.specs.BudgetIntervals.{is_below, covers, serves, lowest_of, AreOrdered, AreRows, BeginFrom, IsMinimum, IsRun}
-use Rattle.budget_least.specs.Own.{is_short_with, AreExact, HasLeast, IsWithin}
+use Rattle.budget_least.specs.BudgetIntervals.{is_below, covers, serves, lowest_of, AreOrdered, ArePast, AreRows, BeginFrom, EndsAbove, IsRowWithin, IsRun}
+use Rattle.budget_least.specs.Sufficient.{HasLeast, IsLeast}
 use Rattle.budget_least.specs.declared.budget_intervals.BudgetInterval.{BudgetInterval}
-use Rattle.budget_least.specs.declared.lines_by_component.ComponentLine.{ComponentLine}
 use Rattle.budget_least.specs.declared.trial.BudgetTrial.{BudgetTrial}
 
 -- ---- one interval more, below the others
@@ -23,37 +19,48 @@ pub from_less : (n m : ℕ) (rows : List BudgetInterval) → n ≤ m → BeginFr
 from_less n m [] less from = tt
 from_less n m (row ∷ rows) less from = let first = from.0 in (omega (arith, less, first), from_less n m rows less from.1)
 
+-- past an end is above what begins below it
+pub past_from : (from : ℕ) (end : Option ℕ) (rows : List BudgetInterval) → IsBelow from end → ArePast end rows → BeginFrom (suc from) rows
+past_from from end [] below past = tt
+past_from from None (row ∷ rows) below past = absurd past.0
+past_from from (Some end) (row ∷ rows) below past = let first = past.0 in (omega (arith, below, first), past_from from (Some end) rows below past.1)
+
 module _ (caps top : ℕ) where
-  ordered_more : (row : BudgetInterval) (rows : List BudgetInterval) → AreOrdered caps top rows → BeginFrom (suc row.ram_from) rows → AreRows (row ∷ []) →
-      row.ram_from ≤ top → row.caps_from ≤ caps → AreOrdered caps top (row ∷ rows) × BeginFrom row.ram_from (row ∷ rows)
-  ordered_more row rows is above begins up few = (
-    record { ascending = (above, is.ascending); begin = (begins.0, is.begin); within = ((up, few), is.within) },
-    (omega arith, from_less row.ram_from (suc row.ram_from) rows (omega arith) above),
+  ordered_more : (row : BudgetInterval) (rows : List BudgetInterval) → AreOrdered caps top rows → ArePast row.ram_below rows → AreRows (row ∷ []) →
+      IsRowWithin caps top row → AreOrdered caps top (row ∷ rows) × BeginFrom row.ram_from (row ∷ rows)
+  ordered_more row rows is past begins within = (
+    record { apart = (past, is.apart); begin = (begins.0, is.begin); within = (within, is.within) },
+    (omega arith, from_less row.ram_from (suc row.ram_from) rows (omega arith) (past_from row.ram_from row.ram_below rows begins.0 past)),
   )
 
-  ordered_rest : (row : BudgetInterval) (rows : List BudgetInterval) → AreOrdered caps top (row ∷ rows) → AreOrdered caps top rows
-  ordered_rest row rows is = record { ascending = is.ascending.1; begin = is.begin.1; within = is.within.1 }
+  pub ordered_rest : (row : BudgetInterval) (rows : List BudgetInterval) → AreOrdered caps top (row ∷ rows) → AreOrdered caps top rows
+  ordered_rest row rows is = record { apart = is.apart.1; begin = is.begin.1; within = is.within.1 }
 
   abbrev Adds : List BudgetInterval → List BudgetInterval → BudgetInterval → Type 0
   Adds old new row =
-      AreOrdered caps top (reverse old) → BeginFrom (suc row.ram_from) (reverse old) → AreRows (row ∷ []) → row.ram_from ≤ top → row.caps_from ≤ caps →
+      AreOrdered caps top (reverse old) → ArePast row.ram_below (reverse old) → AreRows (row ∷ []) → IsRowWithin caps top row →
       AreOrdered caps top (reverse new) × BeginFrom row.ram_from (reverse new)
 
   -- by itself
   pub row_last : (old new : List BudgetInterval) (row : BudgetInterval) → new ≡ old ++ row ∷ [] → Adds old new row
-  row_last old new row is ordered above begins up few =
+  row_last old new row is ordered past begins within =
       subst (λ rows. AreOrdered caps top rows × BeginFrom row.ram_from rows) (sym (ap reverse is ∙ reverse-append old (row ∷ [])))
-      (ordered_more row (reverse old) ordered above begins up few)
+      (ordered_more row (reverse old) ordered past begins within)
 
   -- or in one with the last
   pub row_joined : (old rest new : List BudgetInterval) (above row both : BudgetInterval) → old ≡ rest ++ above ∷ [] → new ≡ rest ++ both ∷ [] →
-      (AreRows (above ∷ []) → AreRows (row ∷ []) → AreRows (both ∷ [])) → both.ram_from ≡ row.ram_from → both.caps_from ≡ row.caps_from → Adds old new row
-  row_joined old rest new above row both was is joins from needs ordered before begins up few =
+      (AreRows (above ∷ []) → AreRows (row ∷ []) → AreRows (both ∷ [])) → both.ram_from ≡ row.ram_from → both.caps_from ≡ row.caps_from →
+      both.ram_below ≡ above.ram_below → Adds old new row
+  row_joined old rest new above row both was is joins from needs ends ordered past begins within =
       let last : reverse old ≡ above ∷ reverse rest = ap reverse was ∙ reverse-append rest (above ∷ []) in
       let ordered' = subst (AreOrdered caps top) last ordered in
-      let before' = subst (BeginFrom (suc row.ram_from)) last before in
-      let made = ordered_more both (reverse rest) (ordered_rest above (reverse rest) ordered') (subst (λ n. BeginFrom (suc n) (reverse rest)) (sym from) before'.1)
-      (joins (ordered'.begin.0, tt) begins) (subst (λ n. n ≤ top) (sym from) up) (subst (λ n. n ≤ caps) (sym needs) few) in
+      let made = ordered_more both (reverse rest) (ordered_rest above (reverse rest) ordered') (subst (λ end. ArePast end (reverse rest)) (sym ends) ordered'.apart.0)
+      (joins (ordered'.begin.0, tt) begins)
+      (record {
+        ram = subst (λ n. n ≤ top) (sym from) within.ram;
+        end = subst (λ end. IfSome end (λ e. e ≤ top)) (sym ends) ordered'.within.0.end;
+        few = subst (λ n. n ≤ caps) (sym needs) within.few;
+      }) in
       subst (λ rows. AreOrdered caps top rows × BeginFrom row.ram_from rows) (sym (ap reverse is ∙ reverse-append rest (both ∷ [])))
       (made.0, subst (λ n. BeginFrom n (both ∷ reverse rest)) from made.1)
 
@@ -71,6 +78,20 @@ chosen_within budget [] = omega arith
 chosen_within budget (need ∷ rest) =
     chosen_by need.choice (covers_ram budget need) need.ram (greatest_choice budget rest) (cell_by budget rest).ram_from (chosen_within budget rest)
 
+end_within : (ram top : ℕ) (end : Option ℕ) → EndsAbove ram top end → IfSome end (λ e. e ≤ top)
+end_within ram top None is = tt
+end_within ram top (Some end) is = let ends = is.0 in let order = is.1 in omega (arith, ends, order)
+
+-- intervals that begin above a run are past the end of its own
+all_past : (ram caps top : ℕ) (end : Option ℕ) (rows : List BudgetInterval) → EndsAbove ram top end → AllByRecursion (λ row. IsRowWithin caps top row) rows →
+    BeginFrom (suc ram) rows → ArePast end rows
+all_past ram caps top end [] is within above = tt
+all_past ram caps top None (row ∷ rows) is within above = let first = above.0 in let up = within.0.ram in absurd (omega (arith, is, first, up))
+all_past ram caps top (Some end) (row ∷ rows) is within above =
+    let ends = is.0 in
+    let first = above.0 in
+    (omega (arith, ends, first), all_past ram caps top (Some end) rows is within.1 above.1)
+
 module _ (ram caps top : ℕ) (needs : List Need) (want : Bool) (trial : BudgetTrial) (is : IsRun needs want (record { ram = ram; caps = caps }) trial) (order : ram ≤ top) where
   abbrev one : Amounts
   one = record { ram = ram; caps = caps }
@@ -86,9 +107,9 @@ module _ (ram caps top : ℕ) (needs : List Need) (want : Bool) (trial : BudgetT
 
   -- and any other its interval
   pub granted_order : (old new : List BudgetInterval) (row : BudgetInterval) → row.ram_from ≡ trial.meter.least.ram → row.caps_from ≡ trial.meter.least.caps →
-      IsBelow ram row.ram_below → Adds caps top old new row → AreOrdered caps top (reverse old) → BeginFrom (suc ram) (reverse old) →
+      IsBelow ram row.ram_below → EndsAbove ram top row.ram_below → Adds caps top old new row → AreOrdered caps top (reverse old) → BeginFrom (suc ram) (reverse old) →
       AreOrdered caps top (reverse new) × BeginFrom trial.meter.choice (reverse new)
-  granted_order old new row from needed below adds ordered above =
+  granted_order old new row from needed below ends adds ordered above =
       let begins = ap (λ shown. shown.ram) is.shown in
       let uses = ap (λ shown. shown.caps) is.shown in
       let same = ap (λ shown. shown.choice) is.shown in
@@ -96,8 +117,8 @@ module _ (ram caps top : ℕ) (needs : List Need) (want : Bool) (trial : BudgetT
       let within = (in_own_cell one needs).ram.enough in
       let few = (in_own_cell one needs).caps.enough in
       let here : row.ram_from ≤ ram = omega (arith, from, begins, within) in
-      let added = adds ordered (from_less (suc row.ram_from) (suc ram) (reverse old) (omega (arith, here)) above) (starts_below row.ram_from ram row.ram_below here below, tt)
-      (omega (arith, here, order)) (omega (arith, needed, uses, few)) in
+      let added = adds ordered (all_past ram caps top row.ram_below (reverse old) ends ordered.within above) (starts_below row.ram_from ram row.ram_below here below, tt)
+      (record { ram = omega (arith, here, order); end = end_within ram top row.ram_below ends; few = omega (arith, needed, uses, few) }) in
       (added.0, from_less trial.meter.choice row.ram_from (reverse new) (omega (arith, from, begins, same, first)) added.1)
 
 -- ---- the minimum
@@ -111,8 +132,8 @@ or_true true b is = refl
 or_true false b is = absurd (cc)
 
 module _ (row : BudgetInterval) (rows : List BudgetInterval) where
-  abbrev least : Amounts
-  least = record { ram = row.ram_from; caps = row.caps_from }
+  abbrev pub begin_of : Amounts
+  begin_of = record { ram = row.ram_from; caps = row.caps_from }
 
   -- what others cover has more RAM
   above_only : (others : List BudgetInterval) (budget : Amounts) → BeginFrom (suc row.ram_from) others → serves others budget ≡ true → row.ram_from < budget.ram
@@ -124,55 +145,24 @@ module _ (row : BudgetInterval) (rows : List BudgetInterval) where
         | false ↦ λ _ there. above_only others budget from.1 there
       ] refl served
 
-  pub first_is_minimum : (caps top : ℕ) → AreOrdered caps top (row ∷ rows) → IsMinimum (row ∷ rows) least
-  first_is_minimum caps top is =
+  pub first_is_least : (most : Amounts) → AreOrdered most.caps most.ram (row ∷ rows) → IsLeast (serves (row ∷ rows)) most begin_of
+  first_is_least most is =
       let begins = is.begin.0 in
-      let above = is.ascending.0 in
+      let above = past_from row.ram_from row.ram_below rows begins is.apart.0 in
       record {
-        covered = or_true (covers row least) (serves rows least) (begin_covered row.ram_from row.caps_from row.ram_below begins);
-        ram = λ budget served. elim (covers row budget) as (λ b. covers row budget ≡ b → (b || serves rows budget) ≡ true → row.ram_from ≤ budget.ram) [
+        within = record { ram = is.within.0.ram; caps = is.within.0.few };
+        sufficient = or_true (covers row begin_of) (serves rows begin_of) (begin_covered row.ram_from row.caps_from row.ram_below begins);
+        ram = λ budget _ served. elim (covers row budget) as (λ b. covers row budget ≡ b → (b || serves rows budget) ≡ true → row.ram_from ≤ budget.ram) [
           | true ↦ λ here _. grind (arith, nat_tests, here)
           | false ↦ λ _ there. let more = above_only rows budget above there in omega (arith, more)
         ] refl served;
-        caps = λ budget served same. elim (covers row budget) as (λ b. covers row budget ≡ b → (b || serves rows budget) ≡ true → row.caps_from ≤ budget.caps) [
+        caps = λ budget _ served same. elim (covers row budget) as (λ b. covers row budget ≡ b → (b || serves rows budget) ≡ true → row.caps_from ≤ budget.caps) [
           | true ↦ λ here _. grind (arith, nat_tests, here)
           | false ↦ λ _ there. let more = above_only rows budget above there in absurd (omega (arith, more, same))
         ] refl served;
       }
 
--- of a list whose first interval was read
-pub minimum_of : (caps top : ℕ) (rows : List BudgetInterval) (row : BudgetInterval) → slice_get rows 0 ≡ Some row → AreOrdered caps top rows →
-    IsMinimum rows (record { ram = row.ram_from; caps = row.caps_from })
-minimum_of caps top [] row found is = absurd (cc)
-minimum_of caps top (first ∷ rest) row found is =
-    subst (λ r. IsMinimum (first ∷ rest) (record { ram = r.ram_from; caps = r.caps_from })) (same_Some first row found) (first_is_minimum first rest caps top is)
-
--- ---- the minimum of a script's lines
-
-granted : (short : Bool) → true ≡ not short → short ≡ false
-granted true is = absurd (cc)
-granted false is = refl
-
-refused : (short : Bool) → false ≡ not short → short ≡ true
-refused true is = refl
-refused false is = absurd (cc)
-
-pub has_least : (list : Listed) (component : ℕ) (steps : List ComponentLine) (rows : List BudgetInterval) →
-    AreOrdered (most_in list component).caps (most_in list component).ram rows →
-    AreExact list component steps (most_in list component).caps (most_in list component).ram rows → HasLeast list component steps (lowest_of rows)
-has_least list component steps [] is exact = λ budget within. refused (is_short_with list component steps budget) (exact budget within.caps within.ram)
-has_least list component steps (row ∷ rows) is exact =
-    let top = (most_in list component).ram in
-    let caps = (most_in list component).caps in
-    let least : Amounts = record { ram = row.ram_from; caps = row.caps_from } in
-    let minimum = first_is_minimum row rows caps top is in
-    let up = is.within.0.0 in
-    let few = is.within.0.1 in
-    let served = λ (budget : Amounts) (within : IsWithin (most_in list component) budget) (fine : is_short_with list component steps budget ≡ false).
-    exact budget within.caps within.ram ∙ ap not fine in
-    record {
-      within = record { ram = up; caps = few };
-      sufficient = granted (is_short_with list component steps least) (sym minimum.covered ∙ exact least few up);
-      ram = λ budget within fine. minimum.ram budget (served budget within fine);
-      caps = λ budget within fine same. minimum.caps budget (served budget within fine) same;
-    }
+-- of a list of intervals
+pub least_of : (most : Amounts) (rows : List BudgetInterval) → AreOrdered most.caps most.ram rows → HasLeast (serves rows) most (lowest_of rows)
+least_of most [] is = λ budget within. refl
+least_of most (row ∷ rows) is = first_is_least row rows most is

@@ -1,11 +1,13 @@
 -- The budgets that intervals cover, and the runs from which they are made.
-use Rattle.std.specs.Prelude.{◌≡◌, ◌≤◌, ℕ, suc, ◌&&◌, ◌||◌, Bool, true, List, [], ◌∷◌, ⊤, nat_le, nat_lt, is_some, if◌then◌else◌, Option, Some, None, IfSome}
+use Rattle.std.specs.Prelude.{◌≡◌, ◌≤◌, ◌<◌, ℕ, suc, ◌&&◌, ◌||◌, Bool, true, List, [], ◌∷◌, ⊤, max, nat_eq, nat_le, nat_lt, is_some, if◌then◌else◌, Option, Some, None, IfSome}
 use Rattle.std.specs.List.{AllByRecursion, list_any}
 use Rattle.std.specs.Str.{bytes_eq}
 use Rattle.own_model.specs.Amounts.{Amounts}
 use Rattle.budget_theorems.specs.Need.{Need, IsBelow}
 use Rattle.budget_theorems.specs.Intervals.{is_covered, stretches}
 use Rattle.budget_meter.specs.Needs.{shown_by, shown_in}
+use Rattle.budget_least.specs.declared.budget_intervals.BudgetChoice.{BudgetChoice}
+use Rattle.budget_least.specs.declared.budget_intervals.BudgetChoice.TheVariants.{Minimum, Safe}
 use Rattle.budget_least.specs.declared.budget_intervals.BudgetInterval.{BudgetInterval}
 use Rattle.budget_least.specs.declared.budget_intervals.Likeness.{Likeness}
 use Rattle.budget_least.specs.declared.budget_intervals.Likeness.TheVariants.{Same, Other}
@@ -34,27 +36,56 @@ AreRows rows = AllByRecursion (λ row. IsBelow row.ram_from row.ram_below) rows
 abbrev pub BeginFrom : ℕ → List BudgetInterval → Type 0
 BeginFrom ram rows = AllByRecursion (λ row. ram ≤ row.ram_from) rows
 
--- each interval begins above those before it
-abbrev pub AreAscending : List BudgetInterval → Type 0
-AreAscending [] = ⊤
-AreAscending (row ∷ rows) = BeginFrom (suc row.ram_from) rows × AreAscending rows
+-- an interval is within so many capabilities and bytes
+pub record IsRowWithin (caps top : ℕ) (row : BudgetInterval) : Type 0 where
+  pub ram : row.ram_from ≤ top
+  pub end : IfSome row.ram_below (λ end. end ≤ top)
+  pub few : row.caps_from ≤ caps
+
+-- so much RAM is where an interval ends, or above; if it has no end, there is none
+abbrev pub IsPast : Option ℕ → ℕ → Type 0
+IsPast None ram = ⊥
+IsPast (Some end) ram = end ≤ ram
+
+-- all intervals begin there
+abbrev pub ArePast : Option ℕ → List BudgetInterval → Type 0
+ArePast end rows = AllByRecursion (λ row. IsPast end row.ram_from) rows
+
+-- each interval ends where the next one begins, or below
+abbrev pub AreApart : List BudgetInterval → Type 0
+AreApart [] = ⊤
+AreApart (row ∷ rows) = ArePast row.ram_below rows × AreApart rows
 
 -- intervals from the lowest RAM on, each of which begins below its end, and within so many capabilities and bytes
 pub record AreOrdered (caps top : ℕ) (rows : List BudgetInterval) : Type 0 where
-  pub ascending : AreAscending rows
+  pub apart : AreApart rows
   pub begin : AreRows rows
-  pub within : AllByRecursion (λ row. (row.ram_from ≤ top) × (row.caps_from ≤ caps)) rows
+  pub within : AllByRecursion (λ row. IsRowWithin caps top row) rows
 
 -- the beginning of the first interval, if there is one
 abbrev pub lowest_of : List BudgetInterval → Option Amounts
 lowest_of [] = None
 lowest_of (row ∷ rows) = Some (record { ram = row.ram_from; caps = row.caps_from })
 
--- a budget is the minimum of intervals: they cover it, and none with less RAM, and with its RAM none with fewer capabilities
-pub record IsMinimum (rows : List BudgetInterval) (least : Amounts) : Type 0 where
-  pub covered : serves rows least ≡ true
-  pub ram : (budget : Amounts) → serves rows budget ≡ true → least.ram ≤ budget.ram
-  pub caps : (budget : Amounts) → serves rows budget ≡ true → budget.ram ≡ least.ram → least.caps ≤ budget.caps
+-- ---- the safe budget
+
+-- with an interval before others: it begins the last ones that leave no RAM between them, of which the last has no end. So many
+-- capabilities suffice for each of these
+abbrev pub safe_before : BudgetInterval → Option ℕ → Option Amounts → Option Amounts
+safe_before row None None = Some (record { ram = row.ram_from; caps = row.caps_from })
+safe_before row (Some end) None = None
+safe_before row None (Some safe) = Some safe
+safe_before row (Some end) (Some safe) =
+    if nat_eq end safe.ram then Some (record { ram = row.ram_from; caps = max row.caps_from safe.caps }) else Some safe
+
+abbrev pub safe_of : List BudgetInterval → Option Amounts
+safe_of [] = None
+safe_of (row ∷ rows) = safe_before row row.ram_below (safe_of rows)
+
+-- the budget that is written
+abbrev pub chosen_of : BudgetChoice → List BudgetInterval → Option Amounts
+chosen_of Minimum rows = lowest_of rows
+chosen_of Safe rows = safe_of rows
 
 -- ---- replies
 
@@ -64,6 +95,11 @@ likeness_of replies None = Same
 likeness_of replies (Some given) = if bytes_eq replies given then Same else Other
 
 -- ---- runs
+
+-- a run from this RAM, of at most so much, has an interval that ends directly above it, or has no end
+abbrev pub EndsAbove : ℕ → ℕ → Option ℕ → Type 0
+EndsAbove ram top None = ram ≡ top
+EndsAbove ram top (Some end) = (end ≡ suc ram) × (ram < top)
 
 -- a run from a budget has these needs, and is short of quota or not
 pub record IsRun (needs : List Need) (wanting : Bool) (budget : Amounts) (trial : BudgetTrial) : Type 0 where

@@ -114,8 +114,12 @@ pub record AreSessionRuns (world : World) (client : ℕ) (opening : Option Compo
   pub needs : each ≡ opened_needs sent session
   pub want : wanting ≡ opened_in_want sent session
 
+-- a donation suffices: the session opens with it, and its own run isn't short of quota
+abbrev pub suffices_of : List Sent → Session → Amounts → Bool
+suffices_of sent session donation = not (opened_in_want sent session donation)
+
 -- intervals are exactly the donations, of at most these bytes and capabilities, with which a session opens and its own run isn't
 -- short of quota
 abbrev pub AreExactOf : List Sent → Session → ℕ → ℕ → List BudgetInterval → Type 0
 AreExactOf sent session caps top rows =
-    (donation : Amounts) → donation.caps ≤ caps → donation.ram ≤ top → serves rows donation ≡ not (opened_in_want sent session donation)
+    (donation : Amounts) → donation.caps ≤ caps → donation.ram ≤ top → serves rows donation ≡ suffices_of sent session donation

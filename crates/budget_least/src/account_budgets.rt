@@ -1,11 +1,14 @@
 //! The budgets of one account.
 
-ghost use Rattle.std.specs.Prelude.{◌≡◌, ℕ, IfSome};
+ghost use Rattle.std.specs.Prelude.{◌≡◌, IfOk, OnOk};
 ghost use Rattle.std.specs.Option.{option_map};
+ghost use Rattle.own_model.specs.Amounts.{Amounts};
 ghost use Rattle.budget_meter.specs.Needs.{amounts_of};
-ghost use Rattle.budget_least.specs.BudgetIntervals.{lowest_of, AreOrdered, IsMinimum};
+ghost use Rattle.budget_least.specs.BudgetIntervals.{chosen_of, lowest_of, safe_of, serves, AreOrdered};
+ghost use Rattle.budget_least.specs.InitNeeds.{need_rows, IsChanged};
+ghost use Rattle.budget_least.specs.Sufficient.{HasLeast, HasSafe};
 
-use crate::budget_intervals::{BudgetGap, BudgetInterval, BudgetIntervals, Likeness};
+use crate::budget_intervals::{BudgetChoice, BudgetGap, BudgetInterval, BudgetIntervals, Likeness};
 use crate::trial::{RefusedLine, SkippedLine};
 use budget_meter::Budget;
 use std::alloc::{AllocError, Global};
@@ -20,7 +23,7 @@ pub struct SessionKey {
 }
 
 /// The given budget, and the first line that is short of quota under it.
-#[derive(Clone, Copy)]
+#[derive(Clone, Copy, PartialEq, Eq)]
 pub struct GivenBudget {
     /// The given budget, in bytes and capabilities.
     pub budget: Budget,
@@ -35,6 +38,8 @@ pub struct AccountBudgets {
     pub(crate) component: usize,
     /// The session of the account, unless it is the component's own account.
     pub(crate) session: Option<SessionKey>,
+    /// The number of sessions that its line opens and that have these budgets: 1 for a component's own account.
+    pub(crate) count: u64,
     pub(crate) given: GivenBudget,
     /// The reserve of the component, in addition to its account.
     pub(crate) reserve: Budget,
@@ -42,26 +47,17 @@ pub struct AccountBudgets {
 }
 
 impl AccountBudgets {
-    /// Returns the account of a component that makes no calls, with the budget that it needs for others, if that is known. The
-    /// error is that the host is out of memory.
+    /// Returns the account of a component that makes no calls, and needs nothing. The error is that the host is out of memory.
     pub(crate) fn idle(
         alloc: Global,
         component: usize,
         given: Budget,
-        needed: Option<Budget>,
     ) -> Result<AccountBudgets, AllocError> {
-        let mut rows = Vec::new(alloc);
-        if let Some(needed) = needed {
-            rows.push(BudgetInterval {
-                ram_from: needed.ram,
-                ram_below: None,
-                caps_from: needed.caps,
-                likeness: Likeness::Same,
-            })?;
-        }
+        let rows = rows_from(alloc, Some(Budget { ram: 0, caps: 0 }))?;
         Ok(AccountBudgets {
             component,
             session: None,
+            count: 1,
             given: GivenBudget {
                 budget: given,
                 refused: None,
@@ -76,15 +72,23 @@ impl AccountBudgets {
         })
     }
 
-    /// Sets the budget that the account needs for others; without one no budget is sufficient.
-    pub(crate) fn need(&mut self, needed: Option<Budget>) {
-        match (needed, self.found.rows.first_mut()) {
-            (Some(needed), Some(row)) => {
-                row.ram_from = needed.ram;
-                row.caps_from = needed.caps;
-            }
-            _ => self.found.rows.clear(),
+    /// Sets what the account needs for others, if it is one of this component; without a budget no budget is sufficient. The error
+    /// is that the host is out of memory.
+    pub(crate) fn need(
+        &mut self,
+        alloc: Global,
+        component: usize,
+        needed: Option<Budget>,
+    ) -> Result<(), AllocError>
+        ensures { OnOk result
+            (IsChanged component (option_map amounts_of needed) self.old self.new) }
+    {
+        if self.component != component {
+            return Ok(());
         }
+        let rows = rows_from(alloc, needed)?;
+        self.found.rows = rows;
+        Ok(())
     }
 
     /// Returns the number of the component in the start list.
@@ -99,6 +103,24 @@ impl AccountBudgets {
         ensures { result ≡ self.now.session }
     {
         self.session
+    }
+
+    /// Returns the number of sessions that one line opens and that have these budgets; 1 for a component's own account.
+    pub fn count(&self) -> u64
+        ensures { result ≡ self.now.count }
+    {
+        self.count
+    }
+
+    /// Returns whether two sessions are opened by one line and alike in all that a report has of them, except their selectors.
+    pub(crate) fn is_alike(&self, other: &AccountBudgets) -> bool {
+        let (Some(one), Some(two)) = (self.session, other.session) else {
+            return false;
+        };
+        one.line == two.line
+            && self.component == other.component
+            && self.given == other.given
+            && self.found.is_alike(&other.found)
     }
 
     /// Returns the given budget, and the first line that is short of quota under it.
@@ -132,21 +154,43 @@ impl AccountBudgets {
     /// Returns the minimum RAM under which the account isn't short of quota, with the capabilities that it needs there.
     pub fn least(&self) -> Option<Budget>
         ensures value { option_map amounts_of result ≡ lowest_of self.now.found.rows.items }
-        ensures minimum { (caps top : ℕ) → AreOrdered caps top self.now.found.rows.items →
-            IfSome result (λ least. IsMinimum self.now.found.rows.items (amounts_of least)) }
+        ensures least { (most : Amounts) →
+            AreOrdered most.caps most.ram self.now.found.rows.items →
+            HasLeast (serves self.now.found.rows.items) most (option_map amounts_of result) }
     {
         self.found.least()
     }
 
-    /// Returns the minimum of the last interval, which has no end: no larger budget is short of quota.
-    pub(crate) fn safe(&self) -> Option<Budget> {
-        let last = self.rows().last()?;
-        if last.ram_below.is_some() {
-            return None;
-        }
-        Some(Budget {
-            ram: last.ram_from,
-            caps: last.caps_from,
-        })
+    /// Returns the lowest RAM from which on no budget is short of quota that has the capabilities returned with it, and no fewer.
+    pub fn safe(&self) -> Option<Budget>
+        ensures value { option_map amounts_of result ≡ safe_of self.now.found.rows.items }
+        ensures safe { (most : Amounts) →
+            AreOrdered most.caps most.ram self.now.found.rows.items →
+            HasSafe (serves self.now.found.rows.items) most (option_map amounts_of result) }
+    {
+        self.found.safe()
     }
+
+    /// Returns the budget that is written by a choice.
+    pub(crate) fn chosen(&self, choice: BudgetChoice) -> Option<Budget>
+        ensures { option_map amounts_of result ≡ chosen_of choice self.now.found.rows.items }
+    {
+        self.found.chosen(choice)
+    }
+}
+
+// Returns the intervals of an account that needs so much for others: one without an end, or none.
+fn rows_from(alloc: Global, needed: Option<Budget>) -> Result<Vec<BudgetInterval>, AllocError>
+    ensures { IfOk result (λ rows. rows.items ≡ need_rows (option_map amounts_of needed)) }
+{
+    let mut rows = Vec::new(alloc);
+    if let Some(needed) = needed {
+        rows.push(BudgetInterval {
+            ram_from: needed.ram,
+            ram_below: None,
+            caps_from: needed.caps,
+            likeness: Likeness::Same,
+        })?;
+    }
+    Ok(rows)
 }

@@ -4,7 +4,6 @@ ghost use Rattle.core_calls.specs.Call.{IsWellFormed};
 use crate::donation::args_with;
 use budget_meter::{Budget, named_by};
 use core_calls::{Call, FileError, Outcome, Reply, ServiceOutcome};
-use list_parser::BootFault;
 use pd_core::{Core, Router};
 use std::alloc::{AllocError, Global};
 use trade_base::PAGE;
@@ -26,17 +25,13 @@ pub(crate) struct AmpleClient<R: Router + Drop> {
 impl<R: Router + Drop> AmpleClient<R> {
     ghost use Rattle.core_calls.specs.Call.{IsWellFormed};
 
-    /// Returns the client for a component of a core that has made no call. The error is that the host is out of memory.
-    pub(crate) fn new(
-        alloc: Global,
-        core: Core<R>,
-        component: usize,
-    ) -> Result<AmpleClient<R>, BootFault> {
-        Ok(AmpleClient {
+    /// Returns the client for a component of a core that has made no call, with the reply that its calls write.
+    pub(crate) fn new(core: Core<R>, component: usize, reply: Reply) -> AmpleClient<R> {
+        AmpleClient {
             core,
             component,
-            reply: Reply::boot(alloc)?,
-        })
+            reply,
+        }
     }
 
     /// Makes a call. A session opens with a donation that suffices for its opening, and gets upgrades while its account refuses a

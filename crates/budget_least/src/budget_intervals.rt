@@ -1,11 +1,11 @@
 //! All budgets under which an account isn't short of quota, from a few runs.
-ghost use Rattle.std.specs.Prelude.{◌≡◌, ◌≤◌, ◌||◌, ◌∷◌, [], nat_le, suc, ℕ, Bool, List, true, reverse, IfOk, IfSome, IfNone, OnOk};
+ghost use Rattle.std.specs.Prelude.{◌≡◌, ◌≤◌, ◌||◌, ◌∷◌, [], nat_le, suc, ℕ, Bool, List, true, reverse, IfOk, IfSome, OnOk};
 ghost use Rattle.std.specs.Option.{option_copied, option_map};
 ghost use Rattle.own_model.specs.Amounts.{Amounts};
 ghost use Rattle.budget_theorems.specs.Need.{Need, IsBelow};
 ghost use Rattle.budget_theorems.specs.Intervals.{is_covered, interval_of, stretches};
 ghost use Rattle.budget_meter.specs.Needs.{amounts_of};
-ghost use Rattle.budget_least.specs.BudgetIntervals.{covers, is_below, likeness_of, lowest_of, serves, AreOrdered, AreRows, BeginFrom, Follows, IsMinimum, IsRun};
+ghost use Rattle.budget_least.specs.BudgetIntervals.{chosen_of, covers, is_below, likeness_of, lowest_of, safe_before, safe_of, serves, AreOrdered, ArePast, AreRows, BeginFrom, EndsAbove, Follows, IsRowWithin, IsRun};
 
 use crate::trial::{BudgetTrial, RefusedLine, SkippedLine};
 use budget_meter::Budget;
@@ -21,6 +21,15 @@ pub enum Likeness {
     Mixed,
     /// They differ.
     Other,
+}
+
+/// Which of the sufficient budgets is written.
+#[derive(Clone, Copy, PartialEq, Eq)]
+pub enum BudgetChoice {
+    /// The minimum.
+    Minimum,
+    /// The safe budget: the lowest from which on all suffice.
+    Safe,
 }
 
 /// An interval of budgets under which an account isn't short of quota.
@@ -56,6 +65,7 @@ impl BudgetInterval {
             covers both budget ≡ (covers self budget || covers below budget))) }
         ensures from { IfSome result (λ both. both.ram_from ≡ below.ram_from) }
         ensures needs { IfSome result (λ both. both.caps_from ≡ below.caps_from) }
+        ensures ends { IfSome result (λ both. both.ram_below ≡ self.ram_below) }
     {
         if below.ram_below != Some(self.ram_from) || below.caps_from != self.caps_from {
             return None;
@@ -70,6 +80,24 @@ impl BudgetInterval {
             likeness,
             ..self
         })
+    }
+
+    // Returns the safe budget of intervals, if this one is before others with this safe budget.
+    fn safe_before(self, safe: Option<Budget>) -> Option<Budget>
+        ensures { option_map amounts_of result
+            ≡ safe_before self self.ram_below (option_map amounts_of safe) }
+    {
+        match (self.ram_below, safe) {
+            (None, None) => Some(Budget {
+                ram: self.ram_from,
+                caps: self.caps_from,
+            }),
+            (Some(end), Some(safe)) if end == safe.ram => Some(Budget {
+                ram: self.ram_from,
+                caps: self.caps_from.max(safe.caps),
+            }),
+            (_, safe) => safe,
+        }
     }
 }
 
@@ -245,8 +273,8 @@ impl BudgetIntervals {
             ≡ (serves self.old.rows.items budget || covers row budget))) }
         ensures ordered { OnOk result ((caps top : ℕ) →
             AreOrdered caps top (reverse self.old.rows.items) →
-            BeginFrom (suc row.ram_from) (reverse self.old.rows.items) →
-            AreRows (row ∷ []) → row.ram_from ≤ top → row.caps_from ≤ caps →
+            ArePast row.ram_below (reverse self.old.rows.items) →
+            AreRows (row ∷ []) → IsRowWithin caps top row →
             AreOrdered caps top (reverse self.new.rows.items)
             × BeginFrom row.ram_from (reverse self.new.rows.items)) }
     {
@@ -288,9 +316,7 @@ impl BudgetIntervals {
 
     /// Returns the minimum RAM, with the minimum capabilities that are sufficient there.
     pub(crate) fn least(&self) -> Option<Budget>
-        ensures value { option_map amounts_of result ≡ lowest_of self.now.rows.items }
-        ensures minimum { (caps top : ℕ) → AreOrdered caps top self.now.rows.items →
-            IfSome result (λ least. IsMinimum self.now.rows.items (amounts_of least)) }
+        ensures { option_map amounts_of result ≡ lowest_of self.now.rows.items }
     {
         let row = self.rows.first()?;
         Some(Budget {
@@ -298,12 +324,45 @@ impl BudgetIntervals {
             caps: row.caps_from,
         })
     }
+
+    /// Returns the lowest RAM from which on all budgets are sufficient that have the capabilities returned with it, and no fewer.
+    pub(crate) fn safe(&self) -> Option<Budget>
+        ensures { option_map amounts_of result ≡ safe_of self.now.rows.items }
+    {
+        let rows = self.rows.as_slice();
+        let mut safe = None;
+        let mut place = rows.len();
+        while place > 0 {
+            place -= 1;
+            safe = rows[place].safe_before(safe);
+        }
+        safe
+    }
+
+    /// Returns whether all that is found is the same.
+    pub(crate) fn is_alike(&self, other: &BudgetIntervals) -> bool {
+        self.rows.as_slice() == other.rows.as_slice()
+            && self.holes.as_slice() == other.holes.as_slice()
+            && self.left_out.as_slice() == other.left_out.as_slice()
+            && self.refused == other.refused
+    }
+
+    /// Returns the budget that is written by a choice.
+    pub(crate) fn chosen(&self, choice: BudgetChoice) -> Option<Budget>
+        ensures { option_map amounts_of result ≡ chosen_of choice self.now.rows.items }
+    {
+        match choice {
+            BudgetChoice::Minimum => self.least(),
+            BudgetChoice::Safe => self.safe(),
+        }
+    }
 }
 
 // Returns the end of an interval up to this RAM: none, if the RAM is the maximum of the search.
 fn end_above(ram: u64, top: u64) -> Option<u64>
     ensures ends { ram ≤ top → (n : ℕ) → n ≤ top → is_below n result ≡ nat_le n ram }
     ensures within { ram ≤ top → IsBelow ram result }
+    ensures above { ram ≤ top → EndsAbove ram top result }
 {
     if ram == top {
         None

@@ -2,7 +2,7 @@
 ghost use Rattle.std.specs.Prelude.{◌≡◌, Some};
 ghost use Rattle.core_calls.specs.Call.{model_call, IsWellFormed};
 ghost use Rattle.std.specs.Option.{option_copied};
-ghost use Rattle.budget_least.specs.ComponentLines.{expects_refusal};
+ghost use Rattle.budget_least.specs.ComponentLines.{expects_refusal, line_of};
 ghost use Rattle.budget_least.specs.Steps.{with_args};
 
 use crate::binding_run::{BindingBudgets, BindingRun};
@@ -139,6 +139,7 @@ impl LinesByComponent {
     ghost use Rattle.line_steps.specs.ResolvedLines.{is_unread};
     ghost use Rattle.line_steps.specs.ResolvedViews.{resolved_view, HasParsedCall};
     ghost use Rattle.line_grammar.specs.Read.{IsReadAs};
+    ghost use Rattle.budget_least.specs.ComponentLines.{line_of, lines_in, with_call, with_line, with_resolved};
     ghost use Rattle.budget_least.specs.Measured.{counted};
 
     /// Reads the unfolded text of a scenario, by the components of a list, and fills its lines with what a run with these budgets
@@ -270,8 +271,10 @@ impl LinesByComponent {
         resolved: ResolvedLine<'_>,
     ) -> Result<(), BootFault>
         requires { HasParsedCall resolved }
-        ensures { OnOk result (length self.new.unmeasured.items
+        ensures unmeasured { OnOk result (length self.new.unmeasured.items
             ≡ counted (is_unread (resolved_view resolved.entry)) (length self.old.unmeasured.items)) }
+        ensures lines { OnOk result (lines_in self.new
+            ≡ with_resolved run.old.list.now number resolved.entry (lines_in self.old)) }
     {
         match resolved.unread() {
             Some(why) => self.leave(alloc, run.list, line, number, why),
@@ -288,8 +291,9 @@ impl LinesByComponent {
         number: u64,
         why: UnreadReason,
     ) -> Result<(), BootFault>
-        ensures { OnOk result (length self.new.unmeasured.items
+        ensures unmeasured { OnOk result (length self.new.unmeasured.items
             ≡ suc (length self.old.unmeasured.items)) }
+        ensures lines { self.new.steps ≡ self.old.steps }
     {
         let (name, _) = next_word(trimmed_line(line));
         let token = token_at(line, why.column());
@@ -313,7 +317,9 @@ impl LinesByComponent {
         resolved: ResolvedLine<'_>,
     ) -> Result<(), BootFault>
         requires { HasParsedCall resolved }
-        ensures { OnOk result (self.new.unmeasured ≡ self.old.unmeasured) }
+        ensures unmeasured { OnOk result (self.new.unmeasured ≡ self.old.unmeasured) }
+        ensures lines { OnOk result (lines_in self.new
+            ≡ with_resolved run.old.list.now number resolved.entry (lines_in self.old)) }
     {
         match resolved {
             ResolvedLine::Directive(directive) => {
@@ -335,7 +341,9 @@ impl LinesByComponent {
         call: &ScenarioCall<'_>,
     ) -> Result<(), BootFault>
         requires { IsReadAs call.now.line.now call.now.call }
-        ensures { OnOk result (self.new.unmeasured ≡ self.old.unmeasured) }
+        ensures unmeasured { OnOk result (self.new.unmeasured ≡ self.old.unmeasured) }
+        ensures lines { OnOk result (lines_in self.new
+            ≡ with_call run.old.list.now number call.now (lines_in self.old)) }
     {
         let Some(said) = call.call else {
             return Ok(());
@@ -343,6 +351,7 @@ impl LinesByComponent {
         let Some(component) = run.list.find(said.name) else {
             return Ok(());
         };
+        let may_be_short = may_be_short(call.reply) && is_routed(run.list, component, said.call);
         let is_left_out = expects_refusal(call.reply);
         if !is_left_out {
             let place = self.of(component).len();
@@ -350,17 +359,32 @@ impl LinesByComponent {
         }
         let mut kept = Vec::new(alloc);
         kept.extend_from_slice(call.line)?;
-        if let Some(steps) = self.steps.get_mut(component) {
-            steps.push(ComponentLine {
+        self.push(
+            component,
+            ComponentLine {
                 number,
                 is_left_out,
-                may_be_short: may_be_short(call.reply) && is_routed(run.list, component, said.call),
+                may_be_short,
                 line: kept,
                 can_donate: can_donate(line),
                 donation: None,
                 args: None,
-            })?;
+            },
+        )?;
+        Ok(())
+    }
+
+    // Adds a line to those of a component, if it is there.
+    fn push(&mut self, component: usize, line: ComponentLine) -> Result<(), AllocError>
+        ensures unmeasured { self.new.unmeasured ≡ self.old.unmeasured }
+        ensures lines { OnOk result (lines_in self.new
+            ≡ with_line component (line_of line) (lines_in self.old)) }
+    {
+        if component >= self.steps.len() {
+            return Ok(());
         }
+        let steps = &mut self.steps[component];
+        steps.push(line)?;
         Ok(())
     }
 }

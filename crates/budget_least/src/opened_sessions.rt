@@ -1,10 +1,15 @@
 //! The lines of a component that reach each of its sessions, if every account is ample.
-ghost use Rattle.core_calls.specs.Call.{IsWellFormed};
+ghost use Rattle.std.specs.Prelude.{◌≡◌, ◌∷◌, ◌+◌, true, false, length, List, if◌then◌else◌, None, OnOk, IfOk};
+ghost use Rattle.core_calls.specs.Call.{model_call, IsWellFormed};
+ghost use Rattle.own_model.specs.SessionArgs.{arguments_of};
+ghost use Rattle.budget_least.specs.ReachedSessions.{after_call, after_left_out, named_in, names, opens, reaches, sessions_of, unopened, Came, Reach, Sessions};
+ghost use Rattle.budget_least.specs.declared.lines_by_component.ComponentLine.{ComponentLine};
 
 use crate::ample_client::AmpleClient;
 use crate::lines_by_component::ComponentLine;
+use crate::own_run::is_exit;
 use budget_meter::{Budget, named_by};
-use core_calls::Call;
+use core_calls::{Call, Reply};
 use init_core::boot;
 use list_parser::{BootFault, StartList};
 use pd_core::Router;
@@ -44,16 +49,21 @@ impl OpenedSessions {
         list: &StartList,
         component: usize,
         steps: &[ComponentLine],
-    ) -> Result<OpenedSessions, BootFault> {
-        let core = boot(alloc, list)?;
-        let mut client = AmpleClient::new(alloc, core, component)?;
+    ) -> Result<OpenedSessions, BootFault>
+        ensures { IfOk result (λ sessions. Reach steps.now 0 unopened (sessions_of sessions)) }
+    {
         let mut sessions = OpenedSessions::none(alloc)?;
+        let reply = Reply::boot(alloc)?;
+        let core = boot(alloc, list)?;
+        let mut client = AmpleClient::new(core, component, reply);
         sessions.follow(alloc, &mut client, steps)?;
         Ok(sessions)
     }
 
     // Returns the sessions before the first line: none.
-    fn none(alloc: Global) -> Result<OpenedSessions, AllocError> {
+    fn none(alloc: Global) -> Result<OpenedSessions, AllocError>
+        ensures { IfOk result (λ sessions. sessions_of sessions ≡ unopened) }
+    {
         Ok(OpenedSessions {
             opened: Vec::new(alloc),
             owners: vec![in alloc; None; SELECTORS]?,
@@ -66,21 +76,45 @@ impl OpenedSessions {
         alloc: Global,
         client: &mut AmpleClient<R>,
         steps: &[ComponentLine],
-    ) -> Result<(), BootFault> {
-        for (place, step) in steps.iter().enumerate() {
-            let Some(call) = step.said() else {
-                continue;
-            };
-            if matches!(call, Call::Exit) {
-                break;
-            }
-            if step.is_left_out {
-                self.leave_out(call, place)?;
-            } else {
-                self.go_on(alloc, client, call, place)?;
+    ) -> Result<(), BootFault>
+        ensures { OnOk result (Reach steps.now 0 (sessions_of self.old) (sessions_of self.new)) }
+    {
+        for place in 0..steps.len() {
+            if !self.goes_on(alloc, client, &steps[place], place)? {
+                return Ok(());
             }
         }
         Ok(())
+    }
+
+    // Takes the line at a place, and returns whether the run continues.
+    fn goes_on<R: Router + Drop>(
+        &mut self,
+        alloc: Global,
+        client: &mut AmpleClient<R>,
+        step: &ComponentLine,
+        place: usize,
+    ) -> Result<bool, BootFault>
+        ensures on { IfOk result (λ goes_on. goes_on ≡ true →
+            (steps : List ComponentLine) (end : Sessions) →
+            Reach steps (place + 1) (sessions_of self.new) end →
+            Reach (step.now ∷ steps) place (sessions_of self.old) end) }
+        ensures ends { IfOk result (λ goes_on. goes_on ≡ false →
+            (steps : List ComponentLine) →
+            Reach (step.now ∷ steps) place (sessions_of self.old) (sessions_of self.new)) }
+    {
+        let Some(call) = step.said() else {
+            return Ok(true);
+        };
+        if is_exit(call) {
+            return Ok(false);
+        }
+        if step.is_left_out {
+            self.leave_out(call, place)?;
+            return Ok(true);
+        }
+        self.go_on(alloc, client, call, place)?;
+        Ok(true)
     }
 
     // Makes a call, and records the session that it reaches.
@@ -92,25 +126,58 @@ impl OpenedSessions {
         place: usize,
     ) -> Result<(), BootFault>
         requires { IsWellFormed call }
+        ensures { OnOk result ((came : Came)
+            × (sessions_of self.new ≡ after_call came place (model_call call.entry) (sessions_of self.old))) }
     {
         client.make(alloc, call)?;
         match call {
             Call::Open { args, .. } => self.open(alloc, client, args, place),
             Call::CallSession { selector, .. } => self.reach(selector, place),
-            Call::Upgrade { selector, args } if client.is_done() => {
-                self.raise(selector, args);
-                self.reach(selector, place)
+            Call::Upgrade { selector, args } => {
+                self.upgrade(client.is_done(), selector, args, place)
             }
-            Call::Close(selector) if client.is_done() => {
-                self.set_owner(selector, None);
+            Call::Close(selector) => {
+                self.close(client.is_done(), selector);
                 Ok(())
             }
             _ => Ok(()),
         }
     }
 
+    // Records an upgrade of the session that a selector names, if it is done.
+    fn upgrade(
+        &mut self,
+        is_done: bool,
+        selector: u64,
+        args: &[u8],
+        place: usize,
+    ) -> Result<(), BootFault>
+        ensures { OnOk result (sessions_of self.new
+            ≡ (if is_done then reaches selector place (sessions_of self.old) else sessions_of self.old)) }
+    {
+        if !is_done {
+            return Ok(());
+        }
+        self.raise(selector, args);
+        self.reach(selector, place)
+    }
+
+    // Records that a selector names no session any more, if its session is closed.
+    fn close(&mut self, is_closed: bool, selector: u64)
+        ensures { sessions_of self.new
+            ≡ (if is_closed then names selector None (sessions_of self.old) else sessions_of self.old) }
+    {
+        if is_closed {
+            self.set_owner(selector, None);
+        }
+    }
+
     // Records a request that isn't made.
-    fn leave_out(&mut self, call: Call<'_>, place: usize) -> Result<(), BootFault> {
+    fn leave_out(&mut self, call: Call<'_>, place: usize) -> Result<(), BootFault>
+        requires { IsWellFormed call }
+        ensures { OnOk result (sessions_of self.new
+            ≡ after_left_out place (model_call call.entry) (sessions_of self.old)) }
+    {
         match call {
             Call::CallSession { selector, .. } => self.reach(selector, place),
             _ => Ok(()),
@@ -124,8 +191,14 @@ impl OpenedSessions {
         client: &AmpleClient<R>,
         args: &[u8],
         step: usize,
-    ) -> Result<(), BootFault> {
-        let (Some(donation), Some(selector)) = (named_by(args), client.selector()) else {
+    ) -> Result<(), BootFault>
+        ensures { OnOk result ((came : Came)
+            × (sessions_of self.new ≡ opens (arguments_of args.now) came.selector (sessions_of self.old))) }
+    {
+        let Some(donation) = named_by(args) else {
+            return Ok(());
+        };
+        let Some(selector) = client.selector() else {
             return Ok(());
         };
         let count = self.count();
@@ -141,39 +214,57 @@ impl OpenedSessions {
     }
 
     // Returns the number of sessions that were opened.
-    fn count(&self) -> usize {
+    fn count(&self) -> usize
+        ensures { result ≡ length (sessions_of self.now).places }
+    {
         self.opened.len()
     }
 
     // Returns the session that a selector names, if it names one.
-    fn owner(&mut self, selector: u64) -> Option<&mut OpenedSession> {
-        let place = usize::try_from(selector).ok()?;
-        let owner = *self.owners.get(place)?;
-        self.opened.get_mut(owner?)
+    fn owner(&self, selector: u64) -> Option<usize>
+        ensures { result ≡ named_in (sessions_of self.now) selector }
+    {
+        *self.owners.get(selector as usize)?
     }
 
     // Records the session that a selector names from now on.
-    fn set_owner(&mut self, selector: u64, owner: Option<usize>) {
-        if let Ok(place) = usize::try_from(selector) {
-            if let Some(named) = self.owners.get_mut(place) {
-                *named = owner;
-            }
+    fn set_owner(&mut self, selector: u64, owner: Option<usize>)
+        ensures { sessions_of self.new ≡ names selector owner (sessions_of self.old) }
+    {
+        let place = selector as usize;
+        if place < self.owners.len() {
+            self.owners[place] = owner;
         }
     }
 
     // Records that a line reaches the session that a selector names.
-    fn reach(&mut self, selector: u64, place: usize) -> Result<(), BootFault> {
-        if let Some(opened) = self.owner(selector) {
-            opened.steps.push(place)?;
+    fn reach(&mut self, selector: u64, place: usize) -> Result<(), BootFault>
+        ensures { OnOk result (sessions_of self.new
+            ≡ reaches selector place (sessions_of self.old)) }
+    {
+        let Some(owner) = self.owner(selector) else {
+            return Ok(());
+        };
+        if owner >= self.opened.len() {
+            return Ok(());
         }
+        let opened = &mut self.opened[owner];
+        opened.steps.push(place)?;
         Ok(())
     }
 
     // Records the donation of an upgrade for the session that a selector names.
-    fn raise(&mut self, selector: u64, args: &[u8]) {
-        if let (Some(opened), Some(more)) = (self.owner(selector), named_by(args)) {
-            opened.raised.ram = opened.raised.ram.saturating_add(more.ram);
-            opened.raised.caps = opened.raised.caps.saturating_add(more.caps);
+    fn raise(&mut self, selector: u64, args: &[u8])
+        ensures { sessions_of self.new ≡ sessions_of self.old }
+    {
+        let (Some(owner), Some(more)) = (self.owner(selector), named_by(args)) else {
+            return;
+        };
+        if owner >= self.opened.len() {
+            return;
         }
+        let opened = &mut self.opened[owner];
+        opened.raised.ram = opened.raised.ram.saturating_add(more.ram);
+        opened.raised.caps = opened.raised.caps.saturating_add(more.caps);
     }
 }

@@ -167,7 +167,8 @@ impl<'a, R: Router + Drop> OwnRun<'a, R> {
     }
 }
 
-fn is_exit(call: Call<'_>) -> bool
+/// Returns whether a call is the exit of its component.
+pub(crate) fn is_exit(call: Call<'_>) -> bool
     ensures { result ≡ is_exit (model_call call.entry) }
 {
     matches!(call, Call::Exit)

@@ -6,13 +6,15 @@ use crate::funded::{ample, most_beside, reserve_of};
 use crate::lines_by_component::ComponentLine;
 use crate::opened_sessions::{OpenedSession, OpenedSessions};
 use crate::own_trials::{funded_trial, own_rows};
+use crate::session_accounts::SessionAccounts;
 use crate::session_intervals::session_rows;
 use crate::session_trial::{SessionClient, SessionLines};
 use crate::trial::BudgetTrial;
 use budget_meter::Budget;
+use core_calls::Reply;
 use init_core::boot;
 use list_parser::{BootFault, StartList};
-use pd_core::{Core, Router};
+use pd_core::Router;
 use std::alloc::Global;
 
 /// A script of a list.
@@ -31,7 +33,7 @@ pub(crate) struct ScriptSearch<'a> {
 pub(crate) struct ScriptSessions {
     /// The run of the script's own account from its given budget, with the donations of the scenario.
     pub(crate) given: BudgetTrial,
-    /// The accounts of the sessions, in the order of their openings.
+    /// The accounts of the sessions, in the order of their first openings.
     pub(crate) accounts: Vec<AccountBudgets>,
 }
 
@@ -40,8 +42,9 @@ impl ScriptSearch<'_> {
     ghost use Rattle.budget_meter.specs.Needs.{amounts_of};
     ghost use Rattle.own_model.specs.StartList.Kind.{Script as AScript};
     ghost use Rattle.budget_least.specs.Alike.{most_in, own_entry, reserve_in};
-    ghost use Rattle.budget_least.specs.BudgetIntervals.{lowest_of};
-    ghost use Rattle.budget_least.specs.Own.{AreExact, HasLeast};
+    ghost use Rattle.budget_least.specs.BudgetIntervals.{lowest_of, safe_of};
+    ghost use Rattle.budget_least.specs.Own.{suffices_with, AreExact};
+    ghost use Rattle.budget_least.specs.Sufficient.{HasLeast, HasSafe};
 
     /// Returns what its sessions need, each by its opening donation with every other account ample.
     pub(crate) fn sessions(
@@ -50,28 +53,63 @@ impl ScriptSearch<'_> {
         steps: &[ComponentLine],
     ) -> Result<ScriptSessions, BootFault> {
         let given = funded_trial(alloc, self.list, self.component, steps, self.given)?;
-        let ample = ample(alloc, self.list, self.component)?;
-        let opened = OpenedSessions::of(alloc, &ample, self.component, steps)?;
-        let core = boot(alloc, &ample)?;
-        let accounts = self.needs(alloc, core, steps, opened.opened.as_slice())?;
+        let accounts = self.session_accounts(alloc, steps)?;
         Ok(ScriptSessions { given, accounts })
     }
 
-    // Returns the needs of the sessions that it opens on a machine where every account is ample.
-    fn needs<R: Router + Drop>(
+    // Returns the accounts of its sessions.
+    fn session_accounts(
         &self,
         alloc: Global,
-        core: Core<R>,
+        steps: &[ComponentLine],
+    ) -> Result<Vec<AccountBudgets>, BootFault> {
+        let ample = ample(alloc, self.list, self.component)?;
+        let opened = OpenedSessions::of(alloc, &ample, self.component, steps)?;
+        self.opened_accounts(alloc, &ample, steps, opened.opened.as_slice())
+    }
+
+    // Returns the accounts of the sessions that it opens on the machine of a list where every account is ample.
+    fn opened_accounts(
+        &self,
+        alloc: Global,
+        ample: &StartList,
         steps: &[ComponentLine],
         sessions: &[OpenedSession],
     ) -> Result<Vec<AccountBudgets>, BootFault> {
-        let mut accounts = Vec::new(alloc);
-        let mut client = SessionClient::new(alloc, core, self.component)?;
+        let reply = Reply::boot(alloc)?;
+        let core = boot(alloc, ample)?;
+        let client = SessionClient::new(core, self.component, reply);
+        self.needs(alloc, client, steps, sessions)
+    }
+
+    // Returns the needs of the sessions that a client opens.
+    fn needs<R: Router + Drop>(
+        &self,
+        alloc: Global,
+        client: SessionClient<R>,
+        steps: &[ComponentLine],
+        sessions: &[OpenedSession],
+    ) -> Result<Vec<AccountBudgets>, BootFault> {
+        let mut client = client;
+        let mut accounts = SessionAccounts::new(alloc);
         for opened in sessions {
-            let account = self.session(alloc, &mut client, steps, opened)?;
-            accounts.push(account)?;
+            self.add_session(alloc, &mut client, steps, opened, &mut accounts)?;
         }
-        Ok(accounts)
+        Ok(accounts.accounts)
+    }
+
+    // Adds the need of a session to those before it.
+    fn add_session<R: Router + Drop>(
+        &self,
+        alloc: Global,
+        client: &mut SessionClient<R>,
+        steps: &[ComponentLine],
+        opened: &OpenedSession,
+        accounts: &mut SessionAccounts,
+    ) -> Result<(), BootFault> {
+        let account = self.session(alloc, client, steps, opened)?;
+        accounts.add(account)?;
+        Ok(())
     }
 
     /// Returns the need of its own account: exactly the budgets under which none of its calls is short of quota, up to the largest
@@ -94,8 +132,14 @@ impl ScriptSearch<'_> {
             (most_in self.now.list.now self.now.component).ram account.found.rows.items) }
         ensures least { IfOk result (λ account.
             (own_entry self.now.list.now self.now.component).kind ≡ AScript →
-            HasLeast self.now.list.now self.now.component steps.now
+            HasLeast (suffices_with self.now.list.now self.now.component steps.now)
+            (most_in self.now.list.now self.now.component)
             (lowest_of account.found.rows.items)) }
+        ensures safe { IfOk result (λ account.
+            (own_entry self.now.list.now self.now.component).kind ≡ AScript →
+            HasSafe (suffices_with self.now.list.now self.now.component steps.now)
+            (most_in self.now.list.now self.now.component)
+            (safe_of account.found.rows.items)) }
     {
         let reserve = reserve_of(self.list, self.component);
         let most = most_beside(reserve);
@@ -110,6 +154,7 @@ impl ScriptSearch<'_> {
         Ok(AccountBudgets {
             component: self.component,
             session: None,
+            count: 1,
             given: GivenBudget {
                 budget: self.given,
                 refused: given.refused,
@@ -141,6 +186,7 @@ impl ScriptSearch<'_> {
                 selector: opened.selector,
                 line: number_of(steps, opened.step),
             }),
+            count: 1,
             given: GivenBudget {
                 budget: opened.donation,
                 refused: given.refused,

@@ -2,7 +2,10 @@
 ghost use Rattle.std.specs.Prelude.{◌≡◌, Some, slice_get, IfOk};
 ghost use Rattle.own_model.specs.Session.{Session};
 ghost use Rattle.own_model.specs.Transcript.{entry_at};
-ghost use Rattle.budget_least.specs.OpenedSessions.{AreExactOf, AreSessionRuns, IsReady, opened_with, sent_at};
+ghost use Rattle.budget_meter.specs.Needs.{amounts_of};
+ghost use Rattle.budget_least.specs.BudgetIntervals.{lowest_of, safe_of};
+ghost use Rattle.budget_least.specs.OpenedSessions.{AreExactOf, AreSessionRuns, IsReady, opened_with, sent_at, suffices_of};
+ghost use Rattle.budget_least.specs.Sufficient.{HasLeast, HasSafe};
 
 use crate::budget_intervals::{BudgetIntervals, BudgetTrials};
 use crate::session_trial::{SessionClient, SessionLines};
@@ -21,12 +24,24 @@ pub(crate) fn session_rows<R: Router + Drop>(
     most: Budget,
     given: Option<&[u8]>,
 ) -> Result<BudgetIntervals, BootFault>
-    ensures { IfOk result (λ found. (session : Session) →
+    ensures exact { IfOk result (λ found. (session : Session) →
         IsReady client.old.core client.old.client →
         opened_with (entry_at client.old.core.entries client.old.client)
         (slice_get reached.entry.steps.now reached.entry.opened.now.step) ≡ Some session →
         AreExactOf (sent_at reached.entry.steps.now reached.entry.opened.now.steps.items) session most.caps
         most.ram found.rows.items) }
+    ensures least { IfOk result (λ found. (session : Session) →
+        IsReady client.old.core client.old.client →
+        opened_with (entry_at client.old.core.entries client.old.client)
+        (slice_get reached.entry.steps.now reached.entry.opened.now.step) ≡ Some session →
+        HasLeast (suffices_of (sent_at reached.entry.steps.now reached.entry.opened.now.steps.items) session)
+        (amounts_of most) (lowest_of found.rows.items)) }
+    ensures safe { IfOk result (λ found. (session : Session) →
+        IsReady client.old.core client.old.client →
+        opened_with (entry_at client.old.core.entries client.old.client)
+        (slice_get reached.entry.steps.now reached.entry.opened.now.step) ≡ Some session →
+        HasSafe (suffices_of (sent_at reached.entry.steps.now reached.entry.opened.now.steps.items) session)
+        (amounts_of most) (safe_of found.rows.items)) }
 {
     let mut trials = SessionTrials {
         caps: most.caps,

@@ -199,23 +199,16 @@ impl<R: Router + Drop> SessionClient<R> {
     ghost use Rattle.budget_least.specs.OpenedSessions.{HasEnded, HasLeft, sends, sent_at, sent_by};
     ghost use Rattle.budget_least.specs.Steps.{call_said};
 
-    /// Returns the client for a component of a core that has made no call. The error is that the host is out of memory.
-    pub(crate) fn new(
-        alloc: Global,
-        core: Core<R>,
-        client: usize,
-    ) -> Result<SessionClient<R>, BootFault>
-        ensures core { IfOk result (λ made. made.core ≡ core) }
-        ensures client { IfOk result (λ made. made.client ≡ client) }
+    /// Returns the client for a component of a core that has made no call, with the reply that its calls write.
+    pub(crate) fn new(core: Core<R>, client: usize, reply: Reply) -> SessionClient<R>
+        ensures core { result.core ≡ core }
+        ensures client { result.client ≡ client }
     {
-        if client >= core.count() {
-            return Err(UNLIKE);
-        }
-        Ok(SessionClient {
+        SessionClient {
             core,
             client,
-            reply: Reply::boot(alloc)?,
-        })
+            reply,
+        }
     }
 
     // The session's account, while it is open.

@@ -2,6 +2,7 @@
 ghost use Rattle.std.specs.Prelude.{◌≡◌, IfOk, OnOk};
 ghost use Rattle.std.specs.Option.{option_copied, unwrap_or};
 ghost use Rattle.line_names.specs.NameTable.{nothing};
+ghost use Rattle.line_steps.specs.RunPosition.{first_position};
 ghost use Rattle.cli_base.specs.Given.{given_by, given_by_all, name_in, value_in};
 
 use crate::reports::{Spot, report_error};
@@ -63,7 +64,10 @@ impl<'a> Settings<'a> {
         self,
         alloc: Global,
         marks: &'m [RoundMark],
-    ) -> Result<RunPosition<'m>, AllocError> {
+    ) -> Result<RunPosition<'m>, AllocError>
+        ensures { IfOk result (λ start. start
+            ≡ first_position (unwrap_or (option_copied self.entry.known) nothing) marks.now) }
+    {
         RunPosition::new(self.known(alloc)?, marks)
     }
 

@@ -1,5 +1,8 @@
 //! The streams of a run: what a scenario is read from, and what replies and diagnostics are written to.
+ghost use Rattle.std.specs.Prelude.{◌≡◌, false};
+
 use cli_engine::{Input, Output};
+use run_lines::Sink;
 use std::alloc::Global;
 use std::fs::File;
 use std::io;
@@ -77,7 +80,9 @@ pub type Reader<'a> = Input<Origin<'a>>;
 pub type Writer<'a> = ColorSink<Output<OutputStream<'a>>>;
 
 /// Returns a writer to a destination whose lines have no colours.
-pub fn plain_writer<'a>(rt: &HostRuntime, place: OutputStream<'a>) -> Writer<'a> {
+pub fn plain_writer<'a>(rt: &HostRuntime, place: OutputStream<'a>) -> Writer<'a>
+    ensures { ⟦<Writer<'a> as Sink>⟧.has_failed result ≡ false }
+{
     ColorSink::plain(rt.alloc(), Output::new(place))
 }
 

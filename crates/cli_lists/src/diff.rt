@@ -2,7 +2,7 @@
 ghost use Rattle.std.specs.Prelude.{◌≡◌, if◌then◌else◌};
 
 use crate::review::review;
-use budget_least::{AccountBudgets, Budget, BudgetQuery, BudgetReport};
+use budget_least::{AccountBudgets, Budget, BudgetChoice, BudgetQuery, BudgetReport};
 use cli_base::{
     Origin, OutputStream, REFUSED, ReadFailure, Settings, Spot, StopMessage, UNWRITTEN,
     made_or_status, plain_writer, report_error, spot_of, status_of, unfolded,
@@ -226,6 +226,7 @@ fn needs<'a>(
     let question = BudgetQuery {
         list,
         scenario: run.lines.bytes(),
+        choice: BudgetChoice::Minimum,
         as_donated: true,
     };
     match BudgetReport::of(alloc, question, start) {

@@ -1,31 +1,43 @@
 //! The coverage of the scenarios that are run as tests.
-use cli_base::Machine;
+use cli_base::{Machine, Spot, report_error};
+use cli_options::TestOptions;
 use run_exchanges::Exchange;
 use std::alloc::AllocError;
 use std::io;
 use std::io::Write;
 use view_coverage::{CoverageReport, cover};
+use view_diagnostics::DiagnosticForm;
 
 /// The name of the machine of scenarios without a start list.
 const BUILT_IN: &str = "built-in machine";
 
-/// The coverage of all scenarios, and the form in which it is printed.
+/// The coverage of all scenarios, the form in which it is printed, and how much of it is expected.
 #[derive(Drop)]
 pub(crate) struct CoveragePrinter {
     // None if coverage isn't asked for.
     report: Option<CoverageReport>,
     json: bool,
+    threshold: Option<u8>,
 }
 
 impl CoveragePrinter {
-    /// Returns the coverage of no scenario yet. If `coverage` isn't set, none is added later.
-    pub(crate) fn new(rt: &HostRuntime, coverage: bool, json: bool) -> CoveragePrinter {
-        let report = if coverage {
-            Some(CoverageReport::new(rt.alloc()))
+    /// Returns the coverage of no scenario yet, with the percentage that is expected of it. If the options don't ask for coverage,
+    /// none is added later.
+    pub(crate) fn new(
+        rt: &HostRuntime,
+        asked: &TestOptions<'_>,
+        threshold: Option<u8>,
+    ) -> CoveragePrinter {
+        let report = if asked.coverage || asked.coverage_calls || threshold.is_some() {
+            Some(CoverageReport::new(rt.alloc(), asked.coverage_calls))
         } else {
             None
         };
-        CoveragePrinter { report, json }
+        CoveragePrinter {
+            report,
+            json: asked.json,
+            threshold,
+        }
     }
 
     /// Returns whether the command line asks for coverage, as text or as a document.
@@ -66,5 +78,25 @@ impl CoveragePrinter {
         }
         let text = format!(in alloc; "{report}")?;
         io::writer(rt).write_all(text.as_bytes())
+    }
+
+    /// Returns whether less is covered than expected, and then prints how much on standard error.
+    pub(crate) fn falls_short(&self, rt: &HostRuntime, form: DiagnosticForm) -> bool {
+        let Some(report) = &self.report else {
+            return false;
+        };
+        let Some(percent) = self.threshold else {
+            return false;
+        };
+        let count = report.count();
+        if !count.falls_short(percent) {
+            return false;
+        }
+        let message = format_args!(
+            "--threshold: expected {percent} percent of the rules and session requests covered, found {} of {}",
+            count.covered, count.all
+        );
+        report_error(rt, form, Spot::nowhere(), &message);
+        true
     }
 }

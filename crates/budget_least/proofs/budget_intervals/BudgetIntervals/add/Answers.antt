@@ -15,7 +15,7 @@ returns-in-Some-joined-clause-rows c =
 pub returns-in-Some-joined-clause-ordered : goal.returns-in-Some-joined-clause-ordered
 returns-in-Some-joined-clause-ordered c = λ caps top.
     row_joined caps top c.args.self.now.rows.items c.pop.new.self.items c.push.new.self.items c.in-Some.above c.args.row c.in-Some-joined.both c.in-Some.ensures.items
-    c.in_ok-push.ensures.items (λ one other. (c.in-Some-joined.ensures.covers one other).0) c.in-Some-joined.ensures.from c.in-Some-joined.ensures.needs
+    c.in_ok-push.ensures.items (λ one other. (c.in-Some-joined.ensures.covers one other).0) c.in-Some-joined.ensures.from c.in-Some-joined.ensures.needs c.in-Some-joined.ensures.ends
 
 -- the last, if there is one, is there again
 pub returns-clause-ordered : goal.returns-clause-ordered

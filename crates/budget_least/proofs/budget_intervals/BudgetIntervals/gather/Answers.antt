@@ -29,7 +29,7 @@ loop-made-init g c = record {
   within = λ each want runs. omega arith;
   rows = λ each want runs. subst AreRows (sym c.requires.none) tt;
   ordered = λ each want runs.
-      subst (λ rows. AreOrdered (g.T.BudgetTrials.caps c.args.trials.now) c.args.top (reverse rows)) (sym c.requires.none) (record { ascending = tt; begin = tt; within = tt });
+      subst (λ rows. AreOrdered (g.T.BudgetTrials.caps c.args.trials.now) c.args.top (reverse rows)) (sym c.requires.none) (record { apart = tt; begin = tt; within = tt });
   above = λ each want runs. subst (λ rows. BeginFrom (suc c.args.top) (reverse rows)) (sym c.requires.none) tt;
   all = λ each want runs budget up left same.
       let caps = g.T.BudgetTrials.caps c.args.trials.now in

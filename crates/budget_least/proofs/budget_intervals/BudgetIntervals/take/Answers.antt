@@ -30,7 +30,7 @@ returns-clause-ordered c = λ needs want caps is within.
       likeness = c.compare_replies.result;
     } in
     granted_order c.args.ram caps c.args.top needs want c.args.trial is within c.args.self.now.rows.items c.add.new.self.rows.items row refl refl
-    (c.end_above.ensures.within within) (c.in_ok-add.ensures.ordered caps c.args.top)
+    (c.end_above.ensures.within within) (c.end_above.ensures.above within) (c.in_ok-add.ensures.ordered caps c.args.top)
 
 pub returns-then-is_some-clause-ordered : goal.returns-then-is_some-clause-ordered
 returns-then-is_some-clause-ordered c = λ needs want caps is within ordered above.
