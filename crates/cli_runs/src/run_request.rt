@@ -1,5 +1,6 @@
 //! A scenario's run on a machine, over files and the standard streams.
-ghost use Rattle.std.specs.Prelude.{◌≡◌, ◌==◌, if◌then◌else◌};
+ghost use Rattle.std.specs.Prelude.{◌≡◌, ◌==◌, if◌then◌else◌, IfOk, None};
+ghost use Rattle.cli_runs.specs.RunStatus.{HasStatus, start_of};
 
 use crate::accounts::print_accounts;
 use crate::run_end::RunEnd;
@@ -213,7 +214,10 @@ fn played(
     play: ScenarioInput<'_>,
     viewing: RunView<'_>,
     origin: Origin<'_>,
-) -> RunEnd {
+) -> RunEnd
+    ensures status { IfOk result.ended
+        (HasStatus viewing.entry (start_of viewing.entry play.entry) None) }
+{
     let coloring = viewing.coloring();
     let mut reader = Input::new(origin);
     let stderr = OutputStream::Complained(rt.stderr());
@@ -224,7 +228,7 @@ fn played(
     let stdout = OutputStream::Printed(io::writer(rt));
     let mut replies = writer(rt, stdout, Lines::Replies, coloring.out);
     let ended = view(
-        rt,
+        rt.alloc(),
         play,
         viewing,
         &mut reader,

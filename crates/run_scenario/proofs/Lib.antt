@@ -1,11 +1,14 @@
 pub mod CallerLemmas
 pub mod CellLemmas
+pub mod ComplaintLemmas
 pub mod FailLemmas
 pub mod LineLemmas
 pub mod PlayLemmas
 pub mod PlayedLemmas
+pub mod ReportLemmas
 pub mod SaidLemmas
 pub mod ShownLemmas
 pub mod TallyLemmas
+pub mod TextLemmas
 pub mod TurnLemmas
 pub mod WriteLemmas

@@ -2,7 +2,7 @@
 use Rattle.std.proofs.Common.{◌≡◌, ℕ, ◌+◌, ◌*◌, ◌/◌, ◌<◌, ◌&&◌, ◌||◌, Bool, true, false, cond, List, [], ◌∷◌, ◌++◌, length, take, drop, get_or, arith, refl, sym, ◌∙◌, ap, append-nil, suc, Option, Some, None, Ok}
 use Rattle.std.specs.Prelude.{IsSome, nat_lt}
 use Rattle.std.specs.List.{list_all}
-use Rattle.std.specs.Option.{unwrap_or}
+use Rattle.std.specs.Option.{option_map, unwrap_or}
 use Rattle.std.proofs.Math.Seq.{take-suc}
 use Rattle.std.proofs.lemmas.List.{at_drop_more, length-drop, length-take-le, take-append-drop}
 use Rattle.hex.specs.Hex.{decode_sized}
@@ -14,6 +14,7 @@ use Rattle.csv.specs.Writing.{default_writer, needs_byte, needs_quotes}
 use Rattle.own_model.specs.Call.{some_bytes_of_hex}
 use Rattle.own_model.specs.Text.{bytes_of_hex, hex_bytes}
 use Rattle.own_model.proofs.LogLemmas.{bytes_of_digits}
+use Rattle.run_scenario.specs.Complaints.{shown_bytes}
 use Rattle.run_scenario.specs.Texts.{is_shown, shown_text, character_text, characters_text, written_in}
 use Rattle.run_scenario.proofs.CellLemmas.{escaped-append, escaped_nothing}
 
@@ -63,6 +64,18 @@ shown_missing [] hex is all = refl
 shown_missing (b ∷ bs) hex is all =
     let some : bytes_of_hex (b ∷ bs) ≡ Some (hex_bytes hex) = let_through (nat_lt 0 (length (b ∷ bs))) (bytes_of_hex (b ∷ bs)) (hex_bytes hex) is in
     some_not (hex_bytes hex) all ∙ sym (ap (λ (o : Option (List ℕ)). shown_text (unwrap_or o [])) some)
+
+-- the same of the bytes themselves
+pub bytes_found : (text hex : List ℕ) → Some (hex_bytes hex) ≡ some_bytes_of_hex text → list_all is_shown (hex_bytes hex) ≡ true → Some (hex_bytes hex) ≡ shown_bytes (hex_bytes text)
+bytes_found [] hex is all = absurd (cc)
+bytes_found (b ∷ bs) hex is all =
+    let some : bytes_of_hex (b ∷ bs) ≡ Some (hex_bytes hex) = let_through (nat_lt 0 (length (b ∷ bs))) (bytes_of_hex (b ∷ bs)) (hex_bytes hex) is in
+    let count = bytes_of_digits (b ∷ bs) (hex_bytes hex) some in
+    sym (ap (λ (o : Option (List ℕ)). shown_bytes (unwrap_or o [])) some
+    ∙ ap (λ (o : Option (List ℕ)). option_map (λ text. hex_bytes hex) o) (some_shown (hex_bytes hex) (length bs) (omega (arith, count)) all))
+
+pub bytes_missing : (text hex : List ℕ) → Some (hex_bytes hex) ≡ some_bytes_of_hex text → list_all is_shown (hex_bytes hex) ≡ false → None ≡ shown_bytes (hex_bytes text)
+bytes_missing text hex is all = ap (λ (o : Option (List ℕ)). option_map (λ it. hex_bytes text) o) (shown_missing text hex is all)
 
 -- ---- byte by byte
 

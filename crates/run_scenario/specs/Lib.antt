@@ -4,6 +4,7 @@ pub mod Faults
 pub mod CallAnswers
 pub mod Complaints
 pub mod Judging
+pub mod Reports
 pub mod RunCalls
 pub mod ScenarioRuns
 pub mod Said

@@ -1,5 +1,12 @@
 //! Errors of a scenario's lines, as diagnostics.
-ghost use Rattle.std.specs.Prelude.{◌≡◌, false, is_err};
+ghost use Rattle.std.specs.Prelude.{◌≡◌, ◌≤◌, ◌∷◌, false, if◌then◌else◌, is_err, length, map, None};
+ghost use Rattle.std.specs.List.{flat_map};
+ghost use Rattle.std.specs.Option.{option_copied, option_map};
+ghost use Rattle.own_model.specs.Text.{hex_bytes};
+ghost use Rattle.run_lines.specs.RunOutput.{OutputsUnless};
+ghost use Rattle.view_diagnostics.specs.Diagnostics.{diagnostic, shown, subject_at};
+ghost use Rattle.view_diagnostics.specs.declared.diagnostics.Severity.TheVariants.{Error as AnError};
+ghost use Rattle.run_scenario.specs.Complaints.{WritesUnless, are_bytes, bracket_pieces, common, difference, difference_pieces, has_byte, has_bytes, is_data, last_token, log_lines_pieces, reply_pieces, shown_bytes, text_pieces, unknown_pieces};
 
 use crate::printable_hex::PrintableHex;
 use core_calls::Outcome;
@@ -7,168 +14,278 @@ use itoa::Buffer;
 use run_lines::{DeviceFault, LineAnswer, Sink};
 use view_diagnostics::{Diagnostics, FilePlace, Severity, Subject};
 
-/// Writes the errors of a scenario's lines.
-#[derive(Drop)]
-pub struct Complaints<'a> {
-    diagnostics: Diagnostics<'a>,
+/// Writes an error of a scenario's line, whose message has these pieces. The error returned is a failed write.
+pub fn report<E: Sink>(
+    scenario: Subject<'_>,
+    sink: &mut E,
+    place: FilePlace,
+    pieces: &[&[u8]],
+) -> Result<(), DeviceFault>
+    requires { E.has_failed sink.old ≡ false }
+    ensures writes { WritesUnless result (E.contents sink.old) (E.contents sink.new)
+        (diagnostic (subject_at scenario.entry) place AnError
+        (map (λ piece. piece.now) pieces.now)) }
+    ensures failing { E.has_failed sink.new ≡ is_err result }
+{
+    let mut diagnostics = Diagnostics::new(scenario);
+    diagnostics.begin(sink, place, Severity::Error)?;
+    put_all(&mut diagnostics, sink, pieces)?;
+    diagnostics.end(sink)
 }
 
-impl<'a> Complaints<'a> {
-    /// Returns a writer of errors of this scenario.
-    pub fn new(scenario: Subject<'a>) -> Complaints<'a> {
-        Complaints {
-            diagnostics: Diagnostics::new(scenario),
+/// Writes the error of a reply that differs from the expected one: both replies, the text of their bytes, and the first byte at
+/// which they differ. The error is a failed write.
+pub fn report_reply<E: Sink>(
+    scenario: Subject<'_>,
+    sink: &mut E,
+    place: FilePlace,
+    answer: LineAnswer<'_>,
+    expected: &[u8],
+) -> Result<(), DeviceFault>
+    requires { E.has_failed sink.old ≡ false }
+    ensures writes { WritesUnless result (E.contents sink.old) (E.contents sink.new)
+        (diagnostic (subject_at scenario.entry) place AnError
+        (reply_pieces answer.entry.outcome answer.entry.reply.now expected.now)) }
+    ensures failing { E.has_failed sink.new ≡ is_err result }
+{
+    let mut diagnostics = Diagnostics::new(scenario);
+    diagnostics.begin(sink, place, Severity::Error)?;
+    put_replies(&mut diagnostics, sink, answer, expected)?;
+    diagnostics.end(sink)
+}
+
+/// Writes the error of log lines that differ from the expected ones. The error returned is a failed write.
+pub fn report_log_lines<E: Sink>(
+    scenario: Subject<'_>,
+    sink: &mut E,
+    place: FilePlace,
+    found: &[u8],
+    expected: &[u8],
+) -> Result<(), DeviceFault>
+    requires { E.has_failed sink.old ≡ false }
+    ensures writes { WritesUnless result (E.contents sink.old) (E.contents sink.new)
+        (diagnostic (subject_at scenario.entry) place AnError
+        (log_lines_pieces found.now expected.now)) }
+    ensures failing { E.has_failed sink.new ≡ is_err result }
+{
+    let pieces: &[&[u8]] = &[
+        b"expected the log lines `",
+        expected,
+        b"`, found `",
+        found,
+        b"`",
+    ];
+    report(scenario, sink, place, pieces)
+}
+
+/// Writes the error of an unknown component, with the most similar name if there is one. The error returned is a failed write.
+pub fn report_unknown<E: Sink>(
+    scenario: Subject<'_>,
+    sink: &mut E,
+    place: FilePlace,
+    name: &[u8],
+    near: Option<&[u8]>,
+) -> Result<(), DeviceFault>
+    requires { E.has_failed sink.old ≡ false }
+    ensures writes { WritesUnless result (E.contents sink.old) (E.contents sink.new)
+        (diagnostic (subject_at scenario.entry) place AnError
+        (unknown_pieces name.now (option_copied near.entry))) }
+    ensures failing { E.has_failed sink.new ≡ is_err result }
+{
+    match near {
+        Some(near) => {
+            let pieces: &[&[u8]] = &[
+                b"unknown component `",
+                name,
+                b"`",
+                b"; did you mean `",
+                near,
+                b"`?",
+            ];
+            report(scenario, sink, place, pieces)
+        }
+        None => {
+            let pieces: &[&[u8]] = &[b"unknown component `", name, b"`"];
+            report(scenario, sink, place, pieces)
         }
     }
+}
 
-    /// Writes an error with this message. The error returned is a failed write.
-    pub fn tell<E: Sink>(
-        &mut self,
-        sink: &mut E,
-        place: FilePlace,
-        message: &[u8],
-    ) -> Result<(), DeviceFault>
-        requires { E.has_failed sink.old ≡ false }
-        ensures failing { E.has_failed sink.new ≡ is_err result }
-    {
-        self.begin(sink, place, message)?;
-        self.diagnostics.end(sink)
+// Writes pieces of a message.
+fn put_all<E: Sink>(
+    diagnostics: &mut Diagnostics<'_>,
+    sink: &mut E,
+    pieces: &[&[u8]],
+) -> Result<(), DeviceFault>
+    requires { E.has_failed sink.old ≡ false }
+    ensures output { OutputsUnless result (E.contents sink.old) diagnostics.old.gathered
+        (E.contents sink.new) diagnostics.new.gathered
+        (flat_map (shown diagnostics.old.subject.form) (map (λ piece. piece.now) pieces.now)) }
+    ensures subject { diagnostics.new.subject ≡ diagnostics.old.subject }
+    ensures failing { E.has_failed sink.new ≡ is_err result }
+{
+    for piece in pieces {
+        diagnostics.put(sink, piece)?;
     }
+    Ok(())
+}
 
-    /// Writes the error of a reply that differs from the expected one: both replies, the text of their bytes, and the first byte
-    /// at which they differ. The error is a failed write.
-    pub fn report_reply<E: Sink>(
-        &mut self,
-        sink: &mut E,
-        place: FilePlace,
-        answer: LineAnswer<'_>,
-        expected: &[u8],
-    ) -> Result<(), DeviceFault>
-        requires { E.has_failed sink.old ≡ false }
-        ensures failing { E.has_failed sink.new ≡ is_err result }
-    {
-        let has_bytes = has_byte(b'"', expected) || matches!(answer.outcome, Outcome::Bytes);
-        self.begin(sink, place, b"expected `")?;
-        self.put_shown(sink, expected, expected.starts_with(b"data "))?;
-        self.diagnostics.put(sink, b", found `")?;
-        self.put_shown(sink, answer.reply, has_bytes)?;
-        self.put_difference(sink, answer.reply, expected)?;
-        self.diagnostics.end(sink)
+// Writes the expected reply, the one that was found, and where they differ.
+fn put_replies<E: Sink>(
+    diagnostics: &mut Diagnostics<'_>,
+    sink: &mut E,
+    answer: LineAnswer<'_>,
+    expected: &[u8],
+) -> Result<(), DeviceFault>
+    requires { E.has_failed sink.old ≡ false }
+    ensures output { OutputsUnless result (E.contents sink.old) diagnostics.old.gathered
+        (E.contents sink.new) diagnostics.new.gathered
+        (flat_map (shown diagnostics.old.subject.form)
+        (reply_pieces answer.entry.outcome answer.entry.reply.now expected.now)) }
+    ensures subject { diagnostics.new.subject ≡ diagnostics.old.subject }
+    ensures failing { E.has_failed sink.new ≡ is_err result }
+{
+    put_reply(
+        diagnostics,
+        sink,
+        b"expected `",
+        expected,
+        is_data(expected),
+    )?;
+    let shows = has_bytes(answer.outcome, expected);
+    put_reply(diagnostics, sink, b", found `", answer.reply, shows)?;
+    put_difference(diagnostics, sink, answer.reply, expected)
+}
+
+// Returns whether an expectation is of bytes that are read.
+fn is_data(expected: &[u8]) -> bool
+    ensures { result ≡ is_data expected.now }
+{
+    expected.starts_with(b"data ")
+}
+
+// Returns whether a reply has bytes in digits: text is expected of it, or it is bytes that were read.
+fn has_bytes(outcome: Outcome, expected: &[u8]) -> bool
+    ensures { result ≡ has_bytes outcome expected.now }
+{
+    has_byte(b'"', expected) || are_bytes(outcome)
+}
+
+// Returns whether an outcome is bytes that a call read.
+fn are_bytes(outcome: Outcome) -> bool
+    ensures { result ≡ are_bytes outcome }
+{
+    matches!(outcome, Outcome::Bytes)
+}
+
+// Writes words, a reply with its closing quote, and its last token as text if that token denotes bytes.
+fn put_reply<E: Sink>(
+    diagnostics: &mut Diagnostics<'_>,
+    sink: &mut E,
+    words: &[u8],
+    reply: &[u8],
+    has_bytes: bool,
+) -> Result<(), DeviceFault>
+    requires { E.has_failed sink.old ≡ false }
+    ensures output { OutputsUnless result (E.contents sink.old) diagnostics.old.gathered
+        (E.contents sink.new) diagnostics.new.gathered
+        (flat_map (shown diagnostics.old.subject.form)
+        (words.now ∷ text_pieces has_bytes reply.now)) }
+    ensures subject { diagnostics.new.subject ≡ diagnostics.old.subject }
+    ensures failing { E.has_failed sink.new ≡ is_err result }
+{
+    let pieces: &[&[u8]] = &[words, reply, b"`"];
+    put_all(diagnostics, sink, pieces)?;
+    put_bytes(diagnostics, sink, bytes_in(reply, has_bytes))
+}
+
+// Returns the last token of a reply, if it is asked for and denotes bytes.
+fn bytes_in(reply: &[u8], has_bytes: bool) -> Option<PrintableHex<'_>>
+    ensures { option_map (λ it. hex_bytes it.hex.now) result
+        ≡ (if has_bytes then shown_bytes (hex_bytes (last_token reply.now)) else None) }
+{
+    if has_bytes {
+        PrintableHex::at_end(reply)
+    } else {
+        None
     }
+}
 
-    // Writes a text with its closing quote, and its last token as text if that token denotes bytes.
-    fn put_shown<E: Sink>(
-        &mut self,
-        sink: &mut E,
-        text: &[u8],
-        has_bytes: bool,
-    ) -> Result<(), DeviceFault>
-        requires { E.has_failed sink.old ≡ false }
-        ensures failing { E.has_failed sink.new ≡ is_err result }
-    {
-        self.diagnostics.put(sink, text)?;
-        self.diagnostics.put(sink, b"`")?;
-        if !has_bytes {
-            return Ok(());
+// Writes the text of bytes in brackets, if there are some.
+fn put_bytes<E: Sink>(
+    diagnostics: &mut Diagnostics<'_>,
+    sink: &mut E,
+    bytes: Option<PrintableHex<'_>>,
+) -> Result<(), DeviceFault>
+    requires { E.has_failed sink.old ≡ false }
+    ensures output { OutputsUnless result (E.contents sink.old) diagnostics.old.gathered
+        (E.contents sink.new) diagnostics.new.gathered
+        (flat_map (shown diagnostics.old.subject.form) (bracket_pieces
+        (option_map (λ it. hex_bytes it.hex.now) bytes.entry))) }
+    ensures subject { diagnostics.new.subject ≡ diagnostics.old.subject }
+    ensures failing { E.has_failed sink.new ≡ is_err result }
+{
+    let Some(bytes) = bytes else {
+        return Ok(());
+    };
+    put_all(diagnostics, sink, &[b" (\""])?;
+    bytes.put_in_message(diagnostics, sink)?;
+    put_all(diagnostics, sink, &[b"\")"])
+}
+
+// Writes at which byte a reply and its expectation differ.
+fn put_difference<E: Sink>(
+    diagnostics: &mut Diagnostics<'_>,
+    sink: &mut E,
+    reply: &[u8],
+    expected: &[u8],
+) -> Result<(), DeviceFault>
+    requires { E.has_failed sink.old ≡ false }
+    ensures output { OutputsUnless result (E.contents sink.old) diagnostics.old.gathered
+        (E.contents sink.new) diagnostics.new.gathered
+        (flat_map (shown diagnostics.old.subject.form)
+        (difference_pieces (difference reply.now expected.now))) }
+    ensures subject { diagnostics.new.subject ≡ diagnostics.old.subject }
+    ensures failing { E.has_failed sink.new ≡ is_err result }
+{
+    match difference(reply, expected) {
+        Some(byte) => {
+            let mut digits = Buffer::new();
+            let pieces: &[&[u8]] = &[b"; they differ at byte ", digits.format(byte).as_bytes()];
+            put_all(diagnostics, sink, pieces)
         }
-        match PrintableHex::at_end(text) {
-            Some(shown) => shown.put_in_message(&mut self.diagnostics, sink),
-            None => Ok(()),
-        }
-    }
-
-    // Writes at which byte a reply and its expectation differ.
-    fn put_difference<E: Sink>(
-        &mut self,
-        sink: &mut E,
-        reply: &[u8],
-        expected: &[u8],
-    ) -> Result<(), DeviceFault>
-        requires { E.has_failed sink.old ≡ false }
-        ensures failing { E.has_failed sink.new ≡ is_err result }
-    {
-        match difference(reply, expected) {
-            Some(byte) => {
-                let mut digits = Buffer::new();
-                self.diagnostics.put(sink, b"; they differ at byte ")?;
-                self.diagnostics.put(sink, digits.format(byte).as_bytes())
-            }
-            None => Ok(()),
-        }
-    }
-
-    /// Writes the error of log lines that differ from the expected ones. The error returned is a failed write.
-    pub fn report_log_lines<E: Sink>(
-        &mut self,
-        sink: &mut E,
-        place: FilePlace,
-        found: &[u8],
-        expected: &[u8],
-    ) -> Result<(), DeviceFault>
-        requires { E.has_failed sink.old ≡ false }
-        ensures failing { E.has_failed sink.new ≡ is_err result }
-    {
-        self.begin(sink, place, b"expected the log lines `")?;
-        self.diagnostics.put(sink, expected)?;
-        self.diagnostics.put(sink, b"`, found `")?;
-        self.diagnostics.put(sink, found)?;
-        self.diagnostics.put(sink, b"`")?;
-        self.diagnostics.end(sink)
-    }
-
-    /// Writes the error of an unknown component, with the most similar name if there is one. The error returned is a failed
-    /// write.
-    pub fn report_unknown<E: Sink>(
-        &mut self,
-        sink: &mut E,
-        place: FilePlace,
-        name: &[u8],
-        near: Option<&[u8]>,
-    ) -> Result<(), DeviceFault>
-        requires { E.has_failed sink.old ≡ false }
-        ensures failing { E.has_failed sink.new ≡ is_err result }
-    {
-        self.begin(sink, place, b"unknown component `")?;
-        self.diagnostics.put(sink, name)?;
-        self.diagnostics.put(sink, b"`")?;
-        if let Some(near) = near {
-            self.diagnostics.put(sink, b"; did you mean `")?;
-            self.diagnostics.put(sink, near)?;
-            self.diagnostics.put(sink, b"`?")?;
-        }
-        self.diagnostics.end(sink)
-    }
-
-    // Begins an error whose message begins with these words.
-    fn begin<E: Sink>(
-        &mut self,
-        sink: &mut E,
-        place: FilePlace,
-        words: &[u8],
-    ) -> Result<(), DeviceFault>
-        requires { E.has_failed sink.old ≡ false }
-        ensures failing { E.has_failed sink.new ≡ is_err result }
-    {
-        self.diagnostics.begin(sink, place, Severity::Error)?;
-        self.diagnostics.put(sink, words)
+        None => Ok(()),
     }
 }
 
 // Returns the byte, from 1 on, at which a reply and its expectation differ. Returns nothing if they don't begin alike, or if the
 // expectation has a pattern or text.
-fn difference(reply: &[u8], expected: &[u8]) -> Option<usize> {
-    let mut alike = 0;
-    while alike < reply.len() && alike < expected.len() && reply[alike] == expected[alike] {
-        alike += 1;
-    }
+fn difference(reply: &[u8], expected: &[u8]) -> Option<usize>
+    ensures { result ≡ difference reply.now expected.now }
+{
+    let alike = common(reply, expected);
     if alike == 0 || has_byte(b'*', expected) || has_byte(b'"', expected) {
         None
     } else {
-        Some(alike.saturating_add(1))
+        Some(alike + 1)
     }
 }
 
-// Whether a text has a byte.
-fn has_byte(byte: u8, text: &[u8]) -> bool {
-    text.iter().any(|other| *other == byte)
+// Returns how many bytes two texts have in common at their fronts.
+fn common(text: &[u8], other: &[u8]) -> usize
+    ensures value { result ≡ common text.now other.now }
+    ensures within { result ≤ length text.now }
+{
+    let mut alike = 0;
+    while alike < text.len() && alike < other.len() && text[alike] == other[alike] {
+        alike += 1;
+    }
+    alike
+}
+
+// Returns whether a text has a byte.
+fn has_byte(byte: u8, text: &[u8]) -> bool
+    ensures { result ≡ has_byte byte text.now }
+{
+    text.contains(&byte)
 }

@@ -1,10 +1,12 @@
 //! Bytes in hexadecimal digits, as text.
-ghost use Rattle.std.specs.Prelude.{◌≡◌, ◌/◌, ◌<◌, ◌++◌, false, get_or, is_err, length, Some, IfOk, OnOk};
-ghost use Rattle.std.specs.List.{list_all};
+ghost use Rattle.std.specs.Prelude.{◌≡◌, ◌/◌, ◌<◌, ◌++◌, false, get_or, is_err, length, map, Some, IfOk, OnOk};
+ghost use Rattle.std.specs.List.{flat_map, list_all};
 ghost use Rattle.std.specs.Option.{option_map};
 ghost use Rattle.csv.specs.Writing.{default_writer, needs_quotes, quoted};
 ghost use Rattle.own_model.specs.Text.{bytes_of_hex, hex_bytes};
 ghost use Rattle.run_lines.specs.RunOutput.{OutputsUnless};
+ghost use Rattle.view_diagnostics.specs.Diagnostics.{shown};
+ghost use Rattle.run_scenario.specs.Complaints.{last_token, message_character, shown_bytes};
 ghost use Rattle.run_scenario.specs.Texts.{in_brackets, is_shown, shown_text, character_text, characters_text, written_in};
 ghost use Rattle.run_scenario.specs.Cells.{cell_text};
 
@@ -24,8 +26,10 @@ pub struct PrintableHex<'a> {
 impl<'a> PrintableHex<'a> {
     /// Returns a text as such digits, or nothing if it isn't hexadecimal or a byte can't be printed.
     pub fn of(text: &'a [u8]) -> Option<PrintableHex<'a>>
-        ensures { option_map (λ shown. characters_text (hex_bytes shown.hex.now)) result
+        ensures text { option_map (λ shown. characters_text (hex_bytes shown.hex.now)) result
             ≡ shown_text (hex_bytes text.now) }
+        ensures bytes { option_map (λ shown. hex_bytes shown.hex.now) result
+            ≡ shown_bytes (hex_bytes text.now) }
     {
         let hex = read_hex(text)?;
         if are_shown(hex) {
@@ -36,8 +40,11 @@ impl<'a> PrintableHex<'a> {
     }
 
     /// Returns the last token of a text, if it is such digits.
-    pub fn at_end(text: &'a [u8]) -> Option<PrintableHex<'a>> {
-        PrintableHex::of(last_word(text))
+    pub fn at_end(text: &'a [u8]) -> Option<PrintableHex<'a>>
+        ensures { option_map (λ shown. hex_bytes shown.hex.now) result
+            ≡ shown_bytes (hex_bytes (last_token text.now)) }
+    {
+        PrintableHex::of(last_token(text))
     }
 
     /// Gathers ` ("TEXT")`, with the escapes of the friendly form. The error is a failed write.
@@ -61,20 +68,21 @@ impl<'a> PrintableHex<'a> {
         text_of(alloc, self.hex)
     }
 
-    /// Writes ` ("TEXT")` into a message, with the same escapes. The error is a failed write.
+    /// Writes the text into a message. The error is a failed write.
     pub fn put_in_message<K: Sink>(
         self,
         diagnostics: &mut Diagnostics<'_>,
         sink: &mut K,
     ) -> Result<(), DeviceFault>
         requires { K.has_failed sink.old ≡ false }
+        ensures output { OutputsUnless result (K.contents sink.old) diagnostics.old.gathered
+            (K.contents sink.new) diagnostics.new.gathered
+            (flat_map (shown diagnostics.old.subject.form)
+            (map message_character (hex_bytes self.entry.hex.now))) }
+        ensures subject { diagnostics.new.subject ≡ diagnostics.old.subject }
         ensures failing { K.has_failed sink.new ≡ is_err result }
     {
-        diagnostics.put(sink, b" (\"")?;
-        for place in 0..self.hex.len() / 2 {
-            put_message_sign(byte_at(self.hex, place), diagnostics, sink)?;
-        }
-        diagnostics.put(sink, b"\")")
+        put_message_signs(self.hex, diagnostics, sink)
     }
 
     /// Gathers the text as one more cell, in quotes if it needs them. The error is a failed write.
@@ -98,6 +106,27 @@ impl<'a> PrintableHex<'a> {
     }
 }
 
+// Writes the text of these bytes into a message.
+fn put_message_signs<K: Sink>(
+    hex: &[u8],
+    diagnostics: &mut Diagnostics<'_>,
+    sink: &mut K,
+) -> Result<(), DeviceFault>
+    requires formed { bytes_of_hex hex.now ≡ Some (hex_bytes hex.now) }
+    requires works { K.has_failed sink.old ≡ false }
+    ensures output { OutputsUnless result (K.contents sink.old) diagnostics.old.gathered
+        (K.contents sink.new) diagnostics.new.gathered
+        (flat_map (shown diagnostics.old.subject.form)
+        (map message_character (hex_bytes hex.now))) }
+    ensures subject { diagnostics.new.subject ≡ diagnostics.old.subject }
+    ensures failing { K.has_failed sink.new ≡ is_err result }
+{
+    for place in 0..hex.len() / 2 {
+        put_message_sign(byte_at(hex, place), diagnostics, sink)?;
+    }
+    Ok(())
+}
+
 // Writes the text of a byte into a message.
 fn put_message_sign<K: Sink>(
     byte: u8,
@@ -105,6 +134,10 @@ fn put_message_sign<K: Sink>(
     sink: &mut K,
 ) -> Result<(), DeviceFault>
     requires { K.has_failed sink.old ≡ false }
+    ensures output { OutputsUnless result (K.contents sink.old) diagnostics.old.gathered
+        (K.contents sink.new) diagnostics.new.gathered
+        (shown diagnostics.old.subject.form (message_character byte)) }
+    ensures subject { diagnostics.new.subject ≡ diagnostics.old.subject }
     ensures failing { K.has_failed sink.new ≡ is_err result }
 {
     match byte {
@@ -114,11 +147,16 @@ fn put_message_sign<K: Sink>(
 }
 
 // Returns the text after the last space.
-fn last_word(text: &[u8]) -> &[u8] {
-    match text.iter().rposition(|byte| *byte == b' ') {
-        Some(place) => &text[place + 1..],
-        None => text,
+fn last_token(text: &[u8]) -> &[u8]
+    ensures { result.now ≡ last_token text.now }
+{
+    let mut start = 0;
+    for place in 0..text.len() {
+        if text[place] == b' ' {
+            start = place + 1;
+        }
     }
+    &text[start..]
 }
 
 // Returns the byte at a place of those that digits denote.

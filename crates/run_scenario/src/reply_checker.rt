@@ -1,15 +1,20 @@
 //! Compares answers with expectations.
-ghost use Rattle.std.specs.Prelude.{◌≡◌, ◌||◌, false, true, not, is_some, IfErr, IfOk, OnOk};
+ghost use Rattle.std.specs.Prelude.{◌≡◌, ◌||◌, ◌∷◌, [], ℕ, List, codes, false, true, not, is_some, IfErr, IfOk, OnOk};
 ghost use Rattle.std.specs.Option.{option_copied};
 ghost use Rattle.std.specs.Str.{bytes_eq};
 ghost use Rattle.trade_base.specs.Refusal.{refusal_name};
 ghost use Rattle.line_friendly.specs.Expected.{meets};
 ghost use Rattle.line_friendly.specs.Friendly.{is_passed};
 ghost use Rattle.run_lines.specs.Faults.{Fails};
+ghost use Rattle.view_diagnostics.specs.Diagnostics.{diagnostic, subject_at};
+ghost use Rattle.view_diagnostics.specs.declared.diagnostics.Severity.TheVariants.{Error as AnError};
+ghost use Rattle.view_diagnostics.specs.declared.place.FilePlace.TheVariants.{Byte as AByte};
+ghost use Rattle.run_scenario.specs.Complaints.{WritesUnless};
 ghost use Rattle.run_scenario.specs.Judging.{awaited_more, is_other, is_unknown_call, nothing_awaited, text_in};
+ghost use Rattle.run_scenario.specs.Reports.{answer_report, call_report, checked, left_over_report, reply_column, silent_report, without_last};
 ghost use Rattle.run_lines.specs.declared.line_run_fault.LineRunFault.TheVariants.{NoMemory as NoRoom};
 
-use crate::complaint::Complaints;
+use crate::complaint::{report, report_log_lines, report_reply, report_unknown};
 use crate::expected_log::ExpectedLog;
 use crate::near_names::near_component;
 use crate::source_line::{JudgedLine, SourceLine};
@@ -27,18 +32,19 @@ use view_diagnostics::{FilePlace, Subject};
 pub struct ReplyChecker<'a> {
     alloc: Global,
     expected: ExpectedLog,
-    complaints: Complaints<'a>,
+    scenario: Subject<'a>,
 }
 
 impl<'a> ReplyChecker<'a> {
     /// Returns a checker of a scenario by its name, without any expectation.
     pub fn new(alloc: Global, scenario: Subject<'a>) -> ReplyChecker<'a>
-        ensures { result.expected ≡ nothing_awaited }
+        ensures expects { result.expected ≡ nothing_awaited }
+        ensures scenario { subject_at result.scenario ≡ subject_at scenario.entry }
     {
         ReplyChecker {
             alloc,
             expected: ExpectedLog::new(alloc),
-            complaints: Complaints::new(scenario),
+            scenario,
         }
     }
 
@@ -48,6 +54,7 @@ impl<'a> ReplyChecker<'a> {
         ensures silent { IfOk result (λ complained. complained ≡ false) }
         ensures expects { OnOk result
             (self.new.expected ≡ awaited_more self.old.expected number text.now) }
+        ensures same { subject_at self.new.scenario ≡ subject_at self.old.scenario }
     {
         self.expected.add(number, text)?;
         Ok(false)
@@ -68,37 +75,62 @@ impl<'a> ReplyChecker<'a> {
         ensures judged { IfOk result (λ complained. complained
             ≡ is_other (is_passed asked.entry.line.now) (option_copied asked.entry.reply)
             (text_in answer.entry) self.old.expected) }
+        ensures writes { WritesUnless result (E.contents sink.old) (E.contents sink.new)
+            (call_report (subject_at self.old.scenario) list.now known.now
+            (checked asked.entry) answer.entry self.old.expected) }
         ensures forgets { self.new.expected ≡ nothing_awaited }
+        ensures same { subject_at self.new.scenario ≡ subject_at self.old.scenario }
         ensures works { OnOk result (E.has_failed sink.new ≡ false) }
         ensures failing { Fails result (E.has_failed sink.new) false }
     {
-        let judged = match (asked.reply, answer) {
-            (_, None) => Ok(false),
-            (None, Some(answer)) => self.judge_silent(list, asked, answer, sink),
-            (Some(reply), Some(answer)) => {
-                let wish = ExpectedReply {
-                    place: asked.given.place(known, column_of(asked.line, reply)),
-                    reply,
-                };
-                self.judge_answer(wish, answer, sink)
-            }
-        };
+        let judged = self.check(list, asked, known, answer, sink);
         self.forget_expected();
         judged
     }
 
+    // Checks the answer of a line's call in the same way.
+    fn check<E: Sink>(
+        &self,
+        list: &StartList,
+        asked: JudgedLine<'_>,
+        known: &NameTable,
+        answer: Option<LineAnswer<'_>>,
+        sink: &mut E,
+    ) -> Result<bool, LineRunFault>
+        requires { E.has_failed sink.old ≡ false }
+        ensures judged { IfOk result (λ complained. complained
+            ≡ is_other (is_passed asked.entry.line.now) (option_copied asked.entry.reply)
+            (text_in answer.entry) self.now.expected) }
+        ensures writes { WritesUnless result (E.contents sink.old) (E.contents sink.new)
+            (call_report (subject_at self.now.scenario) list.now known.now
+            (checked asked.entry) answer.entry self.now.expected) }
+        ensures works { OnOk result (E.has_failed sink.new ≡ false) }
+        ensures failing { Fails result (E.has_failed sink.new) false }
+    {
+        match (asked.reply, answer) {
+            (_, None) => Ok(false),
+            (None, Some(answer)) => self.judge_silent(list, asked, answer, sink),
+            (Some(reply), Some(answer)) => {
+                let place = asked.given.place(known, column_of(asked.line, reply));
+                self.judge_answer(ExpectedReply { place, reply }, answer, sink)
+            }
+        }
+    }
+
     // Writes an error if log lines are expected of a call without an expected reply, or if the call's name is unknown.
     fn judge_silent<E: Sink>(
-        &mut self,
+        &self,
         list: &StartList,
         asked: JudgedLine<'_>,
         answer: LineAnswer<'_>,
         sink: &mut E,
     ) -> Result<bool, LineRunFault>
         requires { E.has_failed sink.old ≡ false }
-        ensures judged { IfOk result (λ complained. complained ≡ (is_some self.old.expected.first
+        ensures judged { IfOk result (λ complained. complained ≡ (is_some self.now.expected.first
             || is_unknown_call (is_passed asked.entry.line.now) answer.entry.reply.now)) }
-        ensures keeps { self.new.expected ≡ self.old.expected }
+        ensures writes { WritesUnless result (E.contents sink.old) (E.contents sink.new)
+            (silent_report (subject_at self.now.scenario) list.now (checked asked.entry)
+            answer.entry self.now.expected) }
         ensures works { OnOk result (E.has_failed sink.new ≡ false) }
         ensures failing { Fails result (E.has_failed sink.new) false }
     {
@@ -110,14 +142,14 @@ impl<'a> ReplyChecker<'a> {
             return Ok(false);
         }
         let near = near_component(list, answer.name);
-        self.complaints
-            .report_unknown(sink, asked.given.start(), answer.name, near)?;
+        let place = asked.given.start();
+        report_unknown(self.scenario, sink, place, answer.name, near)?;
         Ok(true)
     }
 
     // Writes an error if a reply differs from the expected one, or else if its log lines do.
     fn judge_answer<E: Sink>(
-        &mut self,
+        &self,
         wish: ExpectedReply<'_>,
         answer: LineAnswer<'_>,
         sink: &mut E,
@@ -125,22 +157,22 @@ impl<'a> ReplyChecker<'a> {
         requires { E.has_failed sink.old ≡ false }
         ensures judged { IfOk result (λ complained. complained
             ≡ (not (meets answer.entry.reply.now wish.entry.reply.now)
-            || not (bytes_eq answer.entry.lines.now self.old.expected.lines))) }
-        ensures keeps { self.new.expected ≡ self.old.expected }
+            || not (bytes_eq answer.entry.lines.now self.now.expected.lines))) }
+        ensures writes { WritesUnless result (E.contents sink.old) (E.contents sink.new)
+            (answer_report (subject_at self.now.scenario) wish.entry.place answer.entry
+            wish.entry.reply.now self.now.expected) }
         ensures works { OnOk result (E.has_failed sink.new ≡ false) }
         ensures failing { Fails result (E.has_failed sink.new) false }
     {
         if !meets(answer.reply, wish.reply) {
-            self.complaints
-                .report_reply(sink, wish.place, answer, wish.reply)?;
+            report_reply(self.scenario, sink, wish.place, answer, wish.reply)?;
             return Ok(true);
         }
         let expected = self.expected.lines();
         if answer.lines != expected {
             let lines = without_last(answer.lines);
             let expected = without_last(expected);
-            self.complaints
-                .report_log_lines(sink, wish.place, lines, expected)?;
+            report_log_lines(self.scenario, sink, wish.place, lines, expected)?;
             return Ok(true);
         }
         Ok(false)
@@ -148,21 +180,25 @@ impl<'a> ReplyChecker<'a> {
 
     /// Removes the expected log lines, after a call that was answered or skipped.
     pub fn forget_expected(&mut self)
-        ensures { self.new.expected ≡ nothing_awaited }
+        ensures forgets { self.new.expected ≡ nothing_awaited }
+        ensures same { subject_at self.new.scenario ≡ subject_at self.old.scenario }
     {
         self.expected.clear();
     }
 
     /// Writes why a line can't be parsed. Returns true. The error is a failed write or that the host is out of memory.
     pub fn report_bad_line<E: Sink>(
-        &mut self,
+        &self,
         given: SourceLine<'_>,
         fault: FriendlyFault,
         sink: &mut E,
     ) -> Result<bool, LineRunFault>
         requires { E.has_failed sink.old ≡ false }
         ensures told { IfOk result (λ complained. complained ≡ true) }
-        ensures keeps { self.new.expected ≡ self.old.expected }
+        ensures writes { (message : List ℕ) ×
+            WritesUnless result (E.contents sink.old) (E.contents sink.new)
+            (diagnostic (subject_at self.now.scenario)
+            (AByte given.entry.number fault.column) AnError (message ∷ [])) }
         ensures works { OnOk result (E.has_failed sink.new ≡ false) }
         ensures failing { Fails result (E.has_failed sink.new) true }
     {
@@ -173,14 +209,17 @@ impl<'a> ReplyChecker<'a> {
 
     /// Writes what is wrong with a name in a line. Returns true. The error is a failed write or that the host is out of memory.
     pub fn report_bad_name<E: Sink>(
-        &mut self,
+        &self,
         given: SourceLine<'_>,
         fault: NameFault,
         sink: &mut E,
     ) -> Result<bool, LineRunFault>
         requires { E.has_failed sink.old ≡ false }
         ensures told { IfOk result (λ complained. complained ≡ true) }
-        ensures keeps { self.new.expected ≡ self.old.expected }
+        ensures writes { (message : List ℕ) ×
+            WritesUnless result (E.contents sink.old) (E.contents sink.new)
+            (diagnostic (subject_at self.now.scenario)
+            (AByte given.entry.number fault.column) AnError (message ∷ [])) }
         ensures works { OnOk result (E.has_failed sink.new ≡ false) }
         ensures failing { Fails result (E.has_failed sink.new) true }
     {
@@ -191,7 +230,7 @@ impl<'a> ReplyChecker<'a> {
 
     /// Writes why the directive at a column can't be followed. Returns true. The error is a failed write.
     pub fn report_misplaced<E: Sink>(
-        &mut self,
+        &self,
         given: SourceLine<'_>,
         column: usize,
         why: DirectiveFault,
@@ -199,7 +238,10 @@ impl<'a> ReplyChecker<'a> {
     ) -> Result<bool, LineRunFault>
         requires { E.has_failed sink.old ≡ false }
         ensures told { IfOk result (λ complained. complained ≡ true) }
-        ensures keeps { self.new.expected ≡ self.old.expected }
+        ensures writes { (message : List ℕ) ×
+            WritesUnless result (E.contents sink.old) (E.contents sink.new)
+            (diagnostic (subject_at self.now.scenario)
+            (AByte given.entry.number column) AnError (message ∷ [])) }
         ensures works { OnOk result (E.has_failed sink.new ≡ false) }
         ensures failing { Fails result (E.has_failed sink.new) false }
     {
@@ -207,14 +249,12 @@ impl<'a> ReplyChecker<'a> {
     }
 
     /// Writes that a line has more than 8192 bytes. Returns true. The error is a failed write.
-    pub fn report_too_long<E: Sink>(
-        &mut self,
-        number: u64,
-        sink: &mut E,
-    ) -> Result<bool, LineRunFault>
+    pub fn report_too_long<E: Sink>(&self, number: u64, sink: &mut E) -> Result<bool, LineRunFault>
         requires { E.has_failed sink.old ≡ false }
         ensures told { IfOk result (λ complained. complained ≡ true) }
-        ensures keeps { self.new.expected ≡ self.old.expected }
+        ensures writes { WritesUnless result (E.contents sink.old) (E.contents sink.new)
+            (diagnostic (subject_at self.now.scenario) (AByte number 1) AnError
+            (codes "line of more than 8192 bytes" ∷ [])) }
         ensures works { OnOk result (E.has_failed sink.new ≡ false) }
         ensures failing { Fails result (E.has_failed sink.new) false }
     {
@@ -227,10 +267,11 @@ impl<'a> ReplyChecker<'a> {
 
     /// Writes an error for an expected log line without a call after it, if there is one. Returns whether there is one. The error
     /// returned is a failed write.
-    pub fn report_left_over<E: Sink>(&mut self, sink: &mut E) -> Result<bool, LineRunFault>
+    pub fn report_left_over<E: Sink>(&self, sink: &mut E) -> Result<bool, LineRunFault>
         requires { E.has_failed sink.old ≡ false }
-        ensures told { IfOk result (λ complained. complained ≡ is_some self.old.expected.first) }
-        ensures keeps { self.new.expected ≡ self.old.expected }
+        ensures told { IfOk result (λ complained. complained ≡ is_some self.now.expected.first) }
+        ensures writes { WritesUnless result (E.contents sink.old) (E.contents sink.new)
+            (left_over_report (subject_at self.now.scenario) self.now.expected) }
         ensures works { OnOk result (E.has_failed sink.new ≡ false) }
         ensures failing { Fails result (E.has_failed sink.new) false }
     {
@@ -248,18 +289,19 @@ impl<'a> ReplyChecker<'a> {
 
     // Writes an error with this message.
     fn complain<E: Sink>(
-        &mut self,
+        &self,
         place: FilePlace,
         words: &[u8],
         sink: &mut E,
     ) -> Result<bool, LineRunFault>
         requires { E.has_failed sink.old ≡ false }
         ensures told { IfOk result (λ complained. complained ≡ true) }
-        ensures keeps { self.new.expected ≡ self.old.expected }
+        ensures writes { WritesUnless result (E.contents sink.old) (E.contents sink.new)
+            (diagnostic (subject_at self.now.scenario) place AnError (words.now ∷ [])) }
         ensures works { OnOk result (E.has_failed sink.new ≡ false) }
         ensures failing { Fails result (E.has_failed sink.new) false }
     {
-        self.complaints.tell(sink, place, words)?;
+        report(self.scenario, sink, place, &[words])?;
         Ok(true)
     }
 }
@@ -286,11 +328,15 @@ struct ExpectedReply<'a> {
 }
 
 // Returns the column at which the reply at the end of a line begins.
-fn column_of(line: &[u8], reply: &[u8]) -> usize {
-    end_of(line).saturating_sub(reply.len()).saturating_add(1)
+fn column_of(line: &[u8], reply: &[u8]) -> usize
+    ensures { result ≡ reply_column line.now reply.now }
+{
+    end_of(line).saturating_sub(reply.len()) + 1
 }
 
 // Returns log lines without the last newline.
-fn without_last(lines: &[u8]) -> &[u8] {
+fn without_last(lines: &[u8]) -> &[u8]
+    ensures { result.now ≡ without_last lines.now }
+{
     &lines[..lines.len().saturating_sub(1)]
 }

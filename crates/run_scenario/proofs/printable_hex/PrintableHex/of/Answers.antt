@@ -1,14 +1,20 @@
 -- The bytes are those of the digits that were read.
 use Rattle.std.proofs.Common.{sym, ◌∙◌}
 use Rattle.own_model.specs.Text.{bytes_of_hex}
-use Rattle.run_scenario.proofs.ShownLemmas.{formed_of, shown_found, shown_missing}
+use Rattle.run_scenario.proofs.ShownLemmas.{bytes_found, bytes_missing, formed_of, shown_found, shown_missing}
 use Rattle.run_scenario.proofs.printable_hex.PrintableHex.of.Goals as goal
 
 pub invariant_of-result : goal.invariant_of-result
 invariant_of-result c = record { formed = formed_of (bytes_of_hex c.in_ok-hex.hex.now) c.in_ok-hex.ensures.hex }
 
-pub returns-then-are_shown : goal.returns-then-are_shown
-returns-then-are_shown c = shown_found c.args.text.now c.in_ok-hex.hex.now c.in_ok-hex.ensures.bytes (sym c.are_shown.ensures ∙ c.if-are_shown.true)
+pub returns-then-are_shown-clause-text : goal.returns-then-are_shown-clause-text
+returns-then-are_shown-clause-text c = shown_found c.args.text.now c.in_ok-hex.hex.now c.in_ok-hex.ensures.bytes (sym c.are_shown.ensures ∙ c.if-are_shown.true)
 
-pub returns-else-are_shown : goal.returns-else-are_shown
-returns-else-are_shown c = shown_missing c.args.text.now c.in_ok-hex.hex.now c.in_ok-hex.ensures.bytes (sym c.are_shown.ensures ∙ c.if-are_shown.false)
+pub returns-else-are_shown-clause-text : goal.returns-else-are_shown-clause-text
+returns-else-are_shown-clause-text c = shown_missing c.args.text.now c.in_ok-hex.hex.now c.in_ok-hex.ensures.bytes (sym c.are_shown.ensures ∙ c.if-are_shown.false)
+
+pub returns-then-are_shown-clause-bytes : goal.returns-then-are_shown-clause-bytes
+returns-then-are_shown-clause-bytes c = bytes_found c.args.text.now c.in_ok-hex.hex.now c.in_ok-hex.ensures.bytes (sym c.are_shown.ensures ∙ c.if-are_shown.true)
+
+pub returns-else-are_shown-clause-bytes : goal.returns-else-are_shown-clause-bytes
+returns-else-are_shown-clause-bytes c = bytes_missing c.args.text.now c.in_ok-hex.hex.now c.in_ok-hex.ensures.bytes (sym c.are_shown.ensures ∙ c.if-are_shown.false)
