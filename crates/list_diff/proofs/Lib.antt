@@ -1,4 +1,5 @@
 mod AccessLemmas
+mod BreachLemmas
 mod PairLemmas
 mod ReachLemmas
 mod ReplyLemmas

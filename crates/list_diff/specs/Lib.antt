@@ -1,3 +1,4 @@
+pub mod Breaches
 pub mod Changes
 pub mod Differences
 pub mod LineResults

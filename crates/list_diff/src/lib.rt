@@ -2,6 +2,7 @@
 //! replies. `diff` calls it, as `changes(alloc, &before, &after)?`.
 #![tactic(auto)]
 
+mod breach_changes;
 mod differences;
 mod documents;
 mod entry_changes;
@@ -15,6 +16,7 @@ mod reply_changes;
 mod reply_texts;
 mod theorems;
 
+pub use breach_changes::{BreachChange, PlacedBreach, breach_changes, placed_breaches};
 pub use differences::ListDifferences;
 pub use entry_changes::{EntryChange, changes};
 pub use label_sets::label_documents;

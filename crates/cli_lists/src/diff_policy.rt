@@ -1,0 +1,78 @@
+//! The breaches of a policy by two start lists.
+use crate::diff_text::ListPair;
+use cli_base::{REFUSED, Spot, made_or_status, policy_text, report_error, summarize_errors};
+use list_diff::{BreachChange, PlacedBreach, breach_changes, placed_breaches};
+use list_policy::{Policy, PolicyFault};
+use std::alloc::{AllocError, Global};
+use view_diagnostics::DiagnosticForm;
+
+/// The breaches of a policy by two start lists.
+#[derive(Drop)]
+pub(crate) struct PolicyBreaches<'a> {
+    before: Vec<PlacedBreach<'a>>,
+    after: Vec<PlacedBreach<'a>>,
+}
+
+impl<'a> PolicyBreaches<'a> {
+    /// Checks two lists against the policy of a path, if there is one. It has to be a policy for the list after; a line with a fault
+    /// for the list before has no breach there. If the policy isn't read or has a fault, prints that and returns the exit status 2.
+    pub(crate) fn of(
+        rt: &HostRuntime,
+        lists: ListPair<'a>,
+        path: Option<&str>,
+        form: DiagnosticForm,
+    ) -> Result<PolicyBreaches<'a>, u8> {
+        let Some(path) = path else {
+            return Ok(PolicyBreaches {
+                before: Vec::new(rt.alloc()),
+                after: Vec::new(rt.alloc()),
+            });
+        };
+        let text = match policy_text(rt, path) {
+            Ok(text) => text,
+            Err(why) => {
+                report_error(rt, form, Spot::nowhere(), &why);
+                return Err(REFUSED);
+            }
+        };
+        let policy = made_or_status(rt, Policy::read(rt.alloc(), lists.after, &text))?;
+        if !policy.faults().is_empty() {
+            return Err(refuse_policy(rt, form, path, policy.faults()));
+        }
+        made_or_status(rt, breaches_by(rt.alloc(), lists, &text, &policy))
+    }
+
+    /// Returns the breaches that one list alone has. Fails if the host is out of memory.
+    pub(crate) fn changes(&self, alloc: Global) -> Result<Vec<BreachChange<'_>>, AllocError> {
+        breach_changes(alloc, self.before.as_slice(), self.after.as_slice())
+    }
+}
+
+// Prints the faults of a policy, and returns the exit status.
+fn refuse_policy(
+    rt: &HostRuntime,
+    form: DiagnosticForm,
+    path: &str,
+    faults: &[PolicyFault<'_>],
+) -> u8 {
+    for fault in faults {
+        let spot = Spot::byte(path, fault.line as u64, fault.column);
+        report_error(rt, form, spot, &fault.flaw);
+    }
+    summarize_errors(rt, form, faults.len());
+    REFUSED
+}
+
+// Returns the breaches of a policy's text by two lists; for the list after the policy is read.
+fn breaches_by<'a>(
+    alloc: Global,
+    lists: ListPair<'a>,
+    text: &[u8],
+    policy: &Policy<'_>,
+) -> Result<PolicyBreaches<'a>, AllocError> {
+    let old = Policy::read(alloc, lists.before, text)?;
+    Ok(PolicyBreaches {
+        before: placed_breaches(alloc, lists.before, old.lines())?,
+        after: placed_breaches(alloc, lists.after, policy.lines())?,
+    })
+}
