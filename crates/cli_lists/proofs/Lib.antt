@@ -1,1 +1,1 @@
-pub mod DiffLemmas
+pub mod ComparisonLemmas

@@ -1,1 +1,1 @@
-pub mod DiffText
+pub mod Comparison
