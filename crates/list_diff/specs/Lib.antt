@@ -5,6 +5,7 @@ pub mod LineResults
 pub mod Moves
 pub mod Needs
 pub mod NewAccess
+pub mod NewBreaches
 pub mod Reaches
 pub mod Replies
 pub mod Routes

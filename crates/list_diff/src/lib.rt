@@ -25,4 +25,4 @@ pub use moved_labels::MovedLabels;
 pub use need_changes::{ComponentNeed, NeedChange, QuotaAmounts, lacks};
 pub use reach_changes::{ReachChange, ReachSide, leads};
 pub use reply_changes::{ReplyChange, changed_replies};
-pub use theorems::changed_access_is_reported;
+pub use theorems::{breaches_of_one_list_are_reported, changed_access_is_reported};
