@@ -9,7 +9,7 @@ use Rattle.list_diff.specs.Differences.{nothing_differs}
 use Rattle.list_diff.specs.Needs.{shortfalls}
 use Rattle.list_diff.specs.Reaches.{AreReachChanges}
 use Rattle.list_diff.specs.Replies.{AreChanges}
-use Rattle.list_diff.specs.declared.breach_changes.BreachChange.{BreachChange}
+use Rattle.list_diff.specs.declared.policy_breaches.BreachChange.{BreachChange}
 use Rattle.list_diff.specs.declared.differences.ListDifferences.{ListDifferences}
 use Rattle.list_diff.specs.declared.line_outcomes.LineResult.{LineResult}
 use Rattle.list_diff.specs.declared.need_changes.ComponentNeed.{ComponentNeed}

@@ -90,7 +90,7 @@ fn refuse_policy(
         let spot = Spot::byte(path, fault.line as u64, fault.column);
         report_error(rt, form, spot, &fault.flaw);
     }
-    summarize_errors(rt, form, faults.len());
+    summarize_errors(rt, form, faults.len() as u64);
     REFUSED
 }
 

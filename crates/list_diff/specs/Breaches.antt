@@ -8,8 +8,8 @@ use Rattle.list_policy.specs.Demand.{AreBreaches}
 use Rattle.list_policy.specs.Line.{LineAt}
 use Rattle.list_policy.specs.declared.breach.Breach.{Breach}
 use Rattle.list_policy.specs.declared.breach.Breach.TheVariants.{Reach, Excess}
-use Rattle.list_diff.specs.declared.breach_changes.BreachChange.{BreachChange}
-use Rattle.list_diff.specs.declared.breach_changes.BreachChange.TheVariants.{Gone, Came}
+use Rattle.list_diff.specs.declared.policy_breaches.BreachChange.{BreachChange}
+use Rattle.list_diff.specs.declared.policy_breaches.BreachChange.TheVariants.{Gone, Came}
 
 -- a breach by its place in the policy and the paths of its components; one of a budget has no server
 pub record BreachAt : Type 0 where

@@ -2,7 +2,7 @@
 ghost use Rattle.std.specs.Prelude.{◌≡◌};
 ghost use Rattle.list_diff.specs.Differences.{nothing_differs, same_machine};
 
-use crate::breach_changes::BreachChange;
+use crate::policy_breaches::BreachChange;
 use crate::entry_changes::EntryChange;
 use crate::need_changes::NeedChange;
 use crate::reach_changes::ReachChange;

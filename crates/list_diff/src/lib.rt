@@ -2,7 +2,6 @@
 //! replies. `diff` calls it, as `changes(alloc, &before, &after)?`.
 #![tactic(auto)]
 
-mod breach_changes;
 mod differences;
 mod documents;
 mod entry_changes;
@@ -10,19 +9,20 @@ mod label_sets;
 mod line_outcomes;
 mod moved_labels;
 mod need_changes;
+mod policy_breaches;
 mod reach_changes;
 mod reach_texts;
 mod reply_changes;
 mod reply_texts;
 mod theorems;
 
-pub use breach_changes::{BreachChange, PlacedBreach, breach_changes, placed_breaches};
 pub use differences::ListDifferences;
 pub use entry_changes::{EntryChange, changes};
 pub use label_sets::label_documents;
 pub use line_outcomes::{LineFault, LineOutcome, LineResult, line_results};
 pub use moved_labels::MovedLabels;
 pub use need_changes::{ComponentNeed, NeedChange, QuotaAmounts, lacks};
+pub use policy_breaches::{BreachChange, PlacedBreach, breach_changes, placed_breaches};
 pub use reach_changes::{ReachChange, ReachSide, leads};
 pub use reply_changes::{ReplyChange, changed_replies};
 pub use theorems::{breaches_of_one_list_are_reported, changed_access_is_reported};

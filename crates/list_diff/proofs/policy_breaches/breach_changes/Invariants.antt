@@ -1,7 +1,7 @@
 use Rattle.std.proofs.Common.{◌≡◌, ◌++◌, drop, map}
 use Rattle.std.specs.List.{flat_map}
 use Rattle.list_diff.specs.Breaches.{breach_changes, came, change_at, gone}
-use Rattle.list_diff.proofs.breach_changes.breach_changes.Given as goal
+use Rattle.list_diff.proofs.policy_breaches.breach_changes.Given as goal
 
 -- the breaches that are gone so far, and those among the rest
 abbrev pub invariant-loop-gone : goal.invariant-loop-gone
