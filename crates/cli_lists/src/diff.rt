@@ -78,7 +78,14 @@ fn compare_scenario<'a>(
     let text = scenario_file(rt, path, settings.form)?;
     let lines = unfolded(rt, path, &text, settings)?;
     let was = RunInput::new(lists.before, path, &lines);
-    compare_after(rt, was, lists.after, asked.scenario_after, breaches, settings)
+    compare_after(
+        rt,
+        was,
+        lists.after,
+        asked.scenario_after,
+        breaches,
+        settings,
+    )
 }
 
 // Compares a run with that of the list after: of the scenario of a path, if there is one, else of the same scenario.
@@ -106,11 +113,7 @@ fn compare_after<'a>(
 
 // Runs the scenarios of both sides, and prints all differences. Returns the exit status, as the error if a scenario can't be run
 // to its end.
-fn compare_runs<'a>(
-    rt: &HostRuntime,
-    runs: RunPair<'a>,
-    settings: Settings<'_>,
-) -> Result<u8, u8>
+fn compare_runs<'a>(rt: &HostRuntime, runs: RunPair<'a>, settings: Settings<'_>) -> Result<u8, u8>
     ensures ended { IfOk result (EndsBy (RunsDiffer (Some runs.entry.was.path.now)
         runs.entry.was.file.list.now runs.entry.now.file.list.now runs.entry.breaches.now)) }
     ensures stopped { IfErr result HasStopped }

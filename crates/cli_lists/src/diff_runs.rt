@@ -89,7 +89,13 @@ pub(crate) fn answers_on(
     let mut nowhere = plain_writer(rt, OutputStream::Dropped);
     let mut complaints = plain_writer(rt, OutputStream::Dropped);
     let form = settings.form;
-    match answers(rt.alloc(), input, &mut reader, &mut nowhere, &mut complaints) {
+    match answers(
+        rt.alloc(),
+        input,
+        &mut reader,
+        &mut nowhere,
+        &mut complaints,
+    ) {
         Ok(answered) => match answered.ending.fault {
             Some(fault) => Err(report_stopped(rt, form, run.path, answered.ending.lines, fault)),
             None => Ok(answered.exchanges),

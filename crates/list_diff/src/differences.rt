@@ -2,9 +2,9 @@
 ghost use Rattle.std.specs.Prelude.{◌≡◌};
 ghost use Rattle.list_diff.specs.Differences.{nothing_differs, same_machine};
 
-use crate::policy_breaches::BreachChange;
 use crate::entry_changes::EntryChange;
 use crate::need_changes::NeedChange;
+use crate::policy_breaches::BreachChange;
 use crate::reach_changes::ReachChange;
 use crate::reply_changes::ReplyChange;
 use list_parser::{ListEntry, StartList};
