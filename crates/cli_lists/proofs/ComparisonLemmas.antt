@@ -8,7 +8,7 @@ use Rattle.std.proofs.lemmas.Bool.Decides.{nat_tests}
 use Rattle.cli_base.specs.Statuses.{HasWritten}
 use Rattle.cli_lists.specs.Comparison.{AreAll, AreBreachesBy, AreBreachesOf, AreNewBreaches, AreReplyChanges, AreRowsOf, AreRunChanges, AreShortfalls, AreSoFar, Differ, EndsBy, EndsWith, HasStopped, IsSideOf, IsTextOf, ListsDiffer, NeedsDiffer, RunsDiffer, diff_status}
 use Rattle.cli_lists.specs.declared.diff_text.DiffText.{DiffText}
-use Rattle.list_diff.specs.Breaches.{ArePlaced, BreachAt}
+use Rattle.list_diff.specs.PlacedBreaches.{ArePlaced, BreachAt}
 use Rattle.list_diff.specs.Changes.{changes_of}
 use Rattle.list_diff.specs.Differences.{nothing_differs}
 use Rattle.list_diff.specs.Reaches.{AreReachChanges}

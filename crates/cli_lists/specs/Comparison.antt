@@ -3,7 +3,8 @@ use Rattle.std.specs.Prelude.{◌≡◌, ◌⊎◌, ℕ, not, Bool, true, false,
 use Rattle.std.specs.declared.io.Error.{Error}
 use Rattle.cli_base.specs.Statuses.{HasWritten}
 use Rattle.cli_lists.specs.declared.diff_text.DiffText.{DiffText}
-use Rattle.list_diff.specs.Breaches.{ArePlaced, BreachAt, breach_changes, change_at}
+use Rattle.list_diff.specs.Breaches.{breach_changes, change_at}
+use Rattle.list_diff.specs.PlacedBreaches.{ArePlaced, BreachAt}
 use Rattle.list_diff.specs.Changes.{changes_of}
 use Rattle.list_diff.specs.Differences.{nothing_differs}
 use Rattle.list_diff.specs.Needs.{shortfalls}

@@ -19,7 +19,8 @@ use run_exchanges::Exchange;
 /// list, the policy or a scenario is refused; 3 if a scenario's rounds have a fault; 1 or 141 if the host is out of memory or a
 /// result can't be written.
 pub fn compare_lists(rt: &HostRuntime, asked: &DiffOptions<'_>, settings: Settings<'_>) -> u8
-    ensures { EndsBy (ListsDiffer (option_copied asked.now.policy) (option_copied asked.now.scenario)) result }
+    ensures { EndsBy (ListsDiffer (option_copied asked.now.policy)
+        (option_copied asked.now.scenario)) result }
 {
     let before = review(rt, asked.before, settings);
     let after = review(rt, asked.after, settings);

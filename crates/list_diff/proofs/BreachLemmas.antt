@@ -4,7 +4,7 @@ use Rattle.std.proofs.lemmas.List.{append-nil, append_assoc, map-append, take_mo
 use Rattle.own_model.specs.Listed.{Listed}
 use Rattle.list_policy.specs.Line.{LineAt, line_at}
 use Rattle.list_policy.specs.declared.demand.PolicyLine.{PolicyLine}
-use Rattle.list_diff.specs.Breaches.{AddsBreaches, ArePlaced, BreachAt, breach_at}
+use Rattle.list_diff.specs.PlacedBreaches.{AddsBreaches, ArePlaced, BreachAt, breach_at}
 
 placed_more : (list : Listed) (lines : List LineAt) (line : LineAt) (old new : List BreachAt) → ArePlaced list lines old
     → AddsBreaches list line old new → ArePlaced list (lines ++ line ∷ []) new

@@ -6,6 +6,7 @@ pub mod Moves
 pub mod Needs
 pub mod NewAccess
 pub mod NewBreaches
+pub mod PlacedBreaches
 pub mod Reaches
 pub mod Replies
 pub mod Routes

@@ -1,6 +1,7 @@
 -- Which breaches of a policy are reported.
 use Rattle.std.specs.Prelude.{◌≡◌, true, false, List, [], Contains}
-use Rattle.list_diff.specs.Breaches.{BreachAt, ChangeAt, breach_changes, has}
+use Rattle.list_diff.specs.PlacedBreaches.{BreachAt}
+use Rattle.list_diff.specs.Breaches.{ChangeAt, breach_changes, has}
 
 -- the list after alone has a breach
 abbrev pub new_one : BreachAt → ChangeAt

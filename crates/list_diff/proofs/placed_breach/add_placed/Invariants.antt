@@ -1,7 +1,7 @@
 use Rattle.std.proofs.Common.{◌≡◌, ◌++◌, drop, map}
-use Rattle.list_diff.specs.Breaches.{breach_at}
+use Rattle.list_diff.specs.PlacedBreaches.{breach_at}
 use Rattle.list_policy.specs.Line.{line_at}
-use Rattle.list_diff.proofs.policy_breaches.add_placed.Given as goal
+use Rattle.list_diff.proofs.placed_breach.add_placed.Given as goal
 
 -- the breaches so far, and those that are left
 abbrev pub invariant-loop-breach : goal.invariant-loop-breach

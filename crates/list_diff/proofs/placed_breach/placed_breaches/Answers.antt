@@ -1,6 +1,6 @@
 -- One line more.
 use Rattle.list_diff.proofs.BreachLemmas.{next_placed}
-use Rattle.list_diff.proofs.policy_breaches.placed_breaches.Goals as goal
+use Rattle.list_diff.proofs.placed_breach.placed_breaches.Goals as goal
 
 pub loop-place-preserved : goal.loop-place-preserved
 loop-place-preserved c =
