@@ -1,14 +1,14 @@
 -- Which breaches of a policy are reported.
-use Rattle.std.proofs.Common.{◌≡◌, ◌<◌, ◌==◌, ℕ, Bool, true, false, List, [], ◌∷◌, ◌++◌, refl, sym, subst, ap, ◌∙◌, arith, inl, inr}
+use Rattle.std.proofs.Common.{◌≡◌, ◌<◌, ◌==◌, ◌&&◌, ℕ, Bool, true, false, List, [], ◌∷◌, ◌++◌, length, refl, sym, subst, ap, ◌∙◌, arith, inl, inr}
 use Rattle.std.specs.Prelude.{◌⊎◌, Contains, Option, Some, None, if◌then◌else◌}
-use Rattle.std.specs.List.{flat_map}
+use Rattle.std.specs.List.{flat_map, list_any}
 use Rattle.std.specs.Str.{bytes_eq}
 use Rattle.std.proofs.lemmas.Bool.Decides.{nat_tests}
 use Rattle.std.proofs.lemmas.List.Elements.{Contains-append_cases, Contains-append_left, Contains-append_right, Contains-push_cases}
 use Rattle.std.proofs.lemmas.List.Folds.{list_any_at}
 use Rattle.std.proofs.lemmas.Slice.Eq.{bytes_eq-Decides}
 use Rattle.list_diff.specs.PlacedBreaches.{BreachAt}
-use Rattle.list_diff.specs.Breaches.{ChangeAt, alone, came, gone, has, same_breach, same_server}
+use Rattle.list_diff.specs.Breaches.{ChangeAt, alone, breach_changes, came, gone, has, same_breach, same_server}
 use Rattle.list_diff.specs.NewBreaches.{GoneBreachIsReported, NewBreachIsReported, ReportedBreachIsGone, ReportedBreachIsNew, SameBreachesAreNone, new_one, old_one}
 
 -- ---- elements
