@@ -31,7 +31,9 @@ pub use list_fault::{ListFaultMessage, fault_spot, tell_fault};
 pub use machine::{Machine, report_boot_fault};
 pub use machine_choice::MachineChoice;
 pub use paths::{is_policy, is_scenario, machine_path, policy_path};
-pub use policy_verdict::{PolicyDiagnostic, PolicyVerdict, check_policy};
+pub use policy_verdict::{
+    PolicyDiagnostic, PolicyReadFailure, PolicyVerdict, check_policy, policy_text,
+};
 pub use replacing::{replace_file, write_file};
 pub use reports::{
     Spot, error_line, report, report_error, report_write_failure, summarize, summarize_errors,
