@@ -146,7 +146,8 @@ test =
 abbrev pub diff : Shape
 diff =
     with_rules (codes "diff")
-    (flag_rule (codes "json") ∷ file_rule (codes "before") ∷ file_rule (codes "after") ∷ word_rule (codes "scenario") ∷ [])
+    (flag_rule (codes "json") ∷ option_rule (codes "policy") ∷ option_rule (codes "scenario-after") ∷ set ∷ file_rule (codes "before") ∷ file_rule (codes "after")
+    ∷ word_rule (codes "scenario") ∷ [])
 
 -- the command that prints a page of help
 abbrev pub help : Shape
@@ -262,6 +263,8 @@ Asks (command.Diff asked) name rows = (name ≡ codes "diff")
     × (asked.before.now ≡ first_or [] (codes "before") rows)
     × (asked.after.now ≡ first_or [] (codes "after") rows)
     × (option_map (λ t. t.now) asked.scenario ≡ first_of (codes "scenario") rows)
+    × (option_map (λ t. t.now) asked.scenario_after ≡ first_of (codes "scenario-after") rows)
+    × (option_map (λ t. t.now) asked.policy ≡ first_of (codes "policy") rows)
 Asks (command.Test asked) name rows = (name ≡ codes "test")
     × (option_map (λ t. t.now) asked.machine ≡ first_of (codes "machine") rows)
     × (option_map (λ t. t.now) asked.junit ≡ first_of (codes "junit") rows)

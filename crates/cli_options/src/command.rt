@@ -227,6 +227,10 @@ pub struct DiffOptions<'a> {
     pub after: &'a str,
     /// The path of a scenario whose replies are compared, if one is.
     pub scenario: Option<&'a str>,
+    /// The path of the scenario that is run on the list after, or none if `scenario` is.
+    pub scenario_after: Option<&'a str>,
+    /// The path of a policy whose breaches are compared, if one is.
+    pub policy: Option<&'a str>,
 }
 
 /// The options of `test`.
@@ -525,6 +529,8 @@ impl<'a> Command<'a> {
             before: word(found, "before"),
             after: word(found, "after"),
             scenario: found.get_str("scenario"),
+            scenario_after: found.get_str("scenario-after"),
+            policy: found.get_str("policy"),
         })
     }
 }

@@ -187,6 +187,9 @@ pub(crate) const COMMANDS: &[CommandForm<'static>] = &[
         about: help::DIFF,
         words: &[
             JSON,
+            ArgumentForm::Value("policy", "POLICY", help::COMPARED_POLICY),
+            ArgumentForm::Value("scenario-after", "FILE", help::SCENARIO_AFTER),
+            SET,
             ArgumentForm::Needed("before", "BEFORE", help::BEFORE),
             ArgumentForm::Needed("after", "AFTER", help::AFTER),
             ArgumentForm::Optional("scenario", "SCENARIO", help::COMPARED),

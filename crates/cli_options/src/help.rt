@@ -136,7 +136,7 @@ pub(crate) const ALONE: &str =
 pub(crate) const TEST: &str = "Run scenarios as tests and report the results (TAP 13)";
 
 pub(crate) const DIFF: &str =
-    "Compare two start lists: entries, budgets, who reaches whom, and replies";
+    "Compare two start lists: entries, budgets, who reaches whom, breaches of a policy, and replies";
 
 pub(crate) const LEAST: &str = "Compute the sufficient and the minimum budgets of a scenario";
 
@@ -208,6 +208,12 @@ pub(crate) const BEFORE: &str = "The start list before the change, in JSON";
 pub(crate) const AFTER: &str = "The start list after the change, in JSON";
 
 pub(crate) const COMPARED: &str = "A scenario whose replies are compared line by line";
+
+pub(crate) const COMPARED_POLICY: &str =
+    "A policy for AFTER; its breaches that BEFORE or AFTER alone has are reported";
+
+pub(crate) const SCENARIO_AFTER: &str =
+    "Run the scenario FILE on AFTER, and SCENARIO on BEFORE alone";
 
 pub(crate) const PATHS: &str =
     "A scenario, a policy, or a folder with these: NAME.scenario runs on NAME.json if that exists, and NAME.json is checked against NAME.policy";
