@@ -6,8 +6,8 @@ use Rattle.std.specs.Option.{option_and_then, option_map}
 use Rattle.own_model.specs.Amounts.{Amounts, more_of, no_amounts}
 use Rattle.own_model.specs.Listed.{Listed}
 use Rattle.budget_least.specs.InitNeeds.{capped, is_entry_of, need_of, needed_below, sum_with}
-use Rattle.budget_least.specs.declared.account_budgets.AccountBudgets.{AccountBudgets}
-use Rattle.budget_least.specs.declared.budget_intervals.BudgetChoice.{BudgetChoice}
+use Rattle.budget_search.specs.declared.account_budgets.AccountBudgets.{AccountBudgets}
+use Rattle.budget_search.specs.declared.budget_intervals.BudgetChoice.{BudgetChoice}
 
 -- a sum of three, of which two were added first
 capped_sum : (sum need rest : ℕ) → min (min (sum + need) 18446744073709551615 + rest) 18446744073709551615 ≡ min (sum + (need + rest)) 18446744073709551615

@@ -1,12 +1,4 @@
-pub mod RowLemmas
-pub mod OrderLemmas
-pub mod SafeLemmas
-pub mod ItemLemmas
-pub mod ChangeLemmas
 pub mod InitNeedLemmas
 pub mod NeededLemmas
 pub mod MachineLemmas
-pub mod RunLemmas
-pub mod AlikeLemmas
-pub mod HeldLemmas
-pub mod SessionLemmas
+pub mod LineLemmas

@@ -1,7 +1,8 @@
 -- Accounts of inits, of which one after another gets what its list needs.
 use Rattle.std.proofs.lemmas.Bool.Decides.{nat_tests}
 use Rattle.std.proofs.lemmas.Bool.{cases_lt}
-use Rattle.std.proofs.Common.{arith, ◌≡◌, ℕ, zero, suc, ◌<◌, ◌≤◌, ◌&&◌, Bool, true, false, List, [], ◌∷◌, nat_eq, length, get_or, set, drop, refl, sym, ap, subst, ◌∙◌, ⊎_elim}
+use Rattle.std.proofs.Common.{arith, ◌≡◌, ℕ, zero, suc, ◌<◌, ◌≤◌, ◌&&◌, Bool, true, false, List, [], ◌∷◌, nat_eq, length, get_or, set, drop, refl, sym, ap, subst, ◌∙◌, ⊎_elim, Bor}
+use Rattle.std.proofs.lemmas.Option.{none-some, same_Some}
 use Rattle.std.specs.List.{slice_get, AllByRecursion}
 use Rattle.std.specs.Option.{option_and_then, option_map, option_map_or}
 use Rattle.std.specs.Prelude.{if◌then◌else◌, is_some, not, Option, Some, None}
@@ -9,10 +10,11 @@ use Rattle.own_model.specs.Amounts.{Amounts, more_of}
 use Rattle.own_model.specs.Listed.{Listed, ListedEntry}
 use Rattle.list_parser.specs.Depth.{is_init}
 use Rattle.budget_meter.specs.Needs.{amounts_of}
-use Rattle.budget_least.specs.BudgetIntervals.{chosen_of}
-use Rattle.budget_least.specs.InitNeeds.{capped, is_entry_of, is_init_at, need_of, need_rows, needed_below, AreChanged, AreNeeded, AreNeededFrom, HasNeed, IsChanged}
-use Rattle.budget_least.specs.declared.account_budgets.AccountBudgets.{AccountBudgets}
-use Rattle.budget_least.specs.declared.budget_intervals.BudgetChoice.{BudgetChoice}
+use Rattle.budget_search.specs.BudgetIntervals.{chosen_of}
+use Rattle.budget_least.specs.InitNeeds.{capped, is_entry_of, is_init_at, need_of, needed_below, AreChanged, AreNeeded, AreNeededFrom, HasNeed}
+use Rattle.budget_search.specs.AccountNeeds.{need_rows, IsChanged}
+use Rattle.budget_search.specs.declared.account_budgets.AccountBudgets.{AccountBudgets}
+use Rattle.budget_search.specs.declared.budget_intervals.BudgetChoice.{BudgetChoice}
 
 -- ---- sums stay if they are without the accounts that change
 
@@ -55,6 +57,18 @@ module _ (choice : BudgetChoice) (list : Listed) (init component : ℕ) (need : 
 
 -- ---- init by init
 
+-- whether a component starts others
+pub init_told : (o : Option ListedEntry) (b : Bool) → option_map is_init o ≡ Some b → option_map_or is_init o false ≡ b
+init_told None b is = absurd (none-some b is)
+init_told (Some entry) b is = same_Some (is_init entry) b is
+
+-- its init is before it
+pub home_told : (list : Listed) (place home : ℕ) → option_map (λ (entry : ListedEntry). entry.home) (slice_get list.entries place) ≡ Some home → home ≤ place →
+    (entry : ListedEntry) → slice_get list.entries place ≡ Some entry → entry.home ≤ place
+home_told list place home told before entry found =
+    let same : entry.home ≡ home = same_Some entry.home home (sym (ap (option_map (λ (e : ListedEntry). e.home)) found) ∙ told) in
+    omega (arith, same, before)
+
 true_false : true ≡ false → ⊥
 true_false is = absurd (cc)
 
@@ -62,20 +76,24 @@ and_false : (b : Bool) → (b && false) ≡ false
 and_false true = refl
 and_false false = refl
 
-module _ (choice : BudgetChoice) (list : Listed) (homes : (place : ℕ) (entry : ListedEntry) → slice_get list.entries place ≡ Some entry → entry.home ≤ place) where
+module _ (choice : BudgetChoice) (list : Listed) where
+  -- the component at a place is an entry of the machine's list, or of that of an init before it
+  abbrev HasHome : ℕ → Type 0
+  HasHome place = (entry : ListedEntry) → slice_get list.entries place ≡ Some entry → entry.home ≤ place
+
   -- no account of a component is that of an entry of an init past it
-  not_at : (component init : ℕ) → component < init → (account : AccountBudgets) (o : Option ListedEntry) → slice_get list.entries component ≡ o →
+  not_at : (component init : ℕ) → HasHome component → component < init → (account : AccountBudgets) (o : Option ListedEntry) → slice_get list.entries component ≡ o →
       option_map_or (λ (entry : ListedEntry). not (is_some account.session) && nat_eq entry.home init) o false ≡ false
-  not_at component init past account None found = refl
-  not_at component init past account (Some entry) found =
-      let before = homes component entry found in
+  not_at component init home past account None found = refl
+  not_at component init home past account (Some entry) found =
+      let before = home entry found in
       let other : nat_eq entry.home init ≡ false = grind (arith, nat_tests, before, past) in
       ap (λ b. not (is_some account.session) && b) other ∙ and_false (not (is_some account.session))
 
-  not_below : (component init : ℕ) → component < init → (account : AccountBudgets) → account.component ≡ component → is_entry_of list init account ≡ false
-  not_below component init past account is =
+  not_below : (component init : ℕ) → HasHome component → component < init → (account : AccountBudgets) → account.component ≡ component → is_entry_of list init account ≡ false
+  not_below component init home past account is =
       subst (λ c. option_map_or (λ (entry : ListedEntry). not (is_some account.session) && nat_eq entry.home init) (slice_get list.entries c) false ≡ false) (sym is)
-      (not_at component init past account (slice_get list.entries component) refl)
+      (not_at component init home past account (slice_get list.entries component) refl)
 
   -- past the last component there is no init
   none_past : (place : ℕ) (entries : List ListedEntry) → length entries ≤ place → slice_get entries place ≡ None
@@ -109,9 +127,9 @@ module _ (choice : BudgetChoice) (list : Listed) (homes : (place : ℕ) (entry :
 
   -- it starts others, and its accounts are given what these need
   module _ (place : ℕ) (need : Option Amounts) (was all : List AccountBudgets) (changed : AreChanged place need was all)
-      (fits : need ≡ option_map capped (needed_below choice list (suc place) was)) where
+      (fits : need ≡ option_map capped (needed_below choice list (suc place) was)) (home : HasHome place) where
     still : (later : ℕ) → place ≤ later → needed_below choice list (suc later) all ≡ needed_below choice list (suc later) was
-    still later order = needed_same choice list (suc later) place need (not_below place (suc later) (omega (arith, order))) was all changed
+    still later order = needed_same choice list (suc later) place need (not_below place (suc later) home (omega (arith, order))) was all changed
 
     kept_one : (old new : AccountBudgets) → IsChanged place need old new → (suc place ≤ old.component → HasNeed choice list was old) → place ≤ new.component → HasNeed choice list all new
     kept_one old new is before from =
@@ -149,6 +167,12 @@ pub needed_all : (choice : BudgetChoice) (list : Listed) (all accounts : List Ac
     AllByRecursion (λ account. 0 ≤ account.component → HasNeed choice list all account) accounts → AllByRecursion (λ account. HasNeed choice list all account) accounts
 needed_all choice list all [] before = tt
 needed_all choice list all (account ∷ accounts) before = (before.0 (omega arith), needed_all choice list all accounts before.1)
+
+-- of a report whose list and choice stay
+pub same_report : (place : ℕ) (choice other : BudgetChoice) (list same : Bor Listed) (accounts : List AccountBudgets) → other ≡ choice → same ≡ list →
+    AreNeededFrom place choice list.now accounts → AreNeededFrom place other same.now accounts
+same_report place choice other list same accounts chosen kept needed =
+    subst (λ (l : Bor Listed). AreNeededFrom place other l.now accounts) (sym kept) (subst (λ c. AreNeededFrom place c list.now accounts) (sym chosen) needed)
 
 -- ---- account by account
 

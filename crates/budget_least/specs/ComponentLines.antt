@@ -10,7 +10,7 @@ use Rattle.line_steps.specs.declared.resolved_line.ResolvedLine.{ResolvedLine}
 use Rattle.line_steps.specs.declared.resolved_line.ResolvedLine.TheVariants.{Call}
 use Rattle.line_steps.specs.declared.resolved_line.ScenarioCall.{ScenarioCall}
 use Rattle.list_parser.specs.Budgets.{changed_at}
-use Rattle.budget_least.specs.declared.lines_by_component.ComponentLine.{ComponentLine}
+use Rattle.budget_search.specs.declared.component_line.ComponentLine.{ComponentLine}
 use Rattle.budget_least.specs.declared.lines_by_component.LinesByComponent.{LinesByComponent}
 
 -- a line of a component: the number of the scenario's line, whether it is left out, and its text as the engine parses it

@@ -6,11 +6,11 @@ use Rattle.own_model.specs.Amounts.{Amounts, more_of, no_amounts}
 use Rattle.own_model.specs.Listed.{Listed}
 use Rattle.list_parser.specs.Depth.{is_init}
 use Rattle.budget_meter.specs.Needs.{amounts_of}
-use Rattle.budget_least.specs.BudgetIntervals.{chosen_of}
-use Rattle.budget_least.specs.declared.account_budgets.AccountBudgets.{AccountBudgets}
-use Rattle.budget_least.specs.declared.budget_intervals.BudgetChoice.{BudgetChoice}
-use Rattle.budget_least.specs.declared.budget_intervals.BudgetInterval.{BudgetInterval}
-use Rattle.budget_least.specs.declared.budget_intervals.Likeness.TheVariants.{Same}
+use Rattle.budget_search.specs.BudgetIntervals.{chosen_of}
+use Rattle.budget_search.specs.declared.account_budgets.AccountBudgets.{AccountBudgets}
+use Rattle.budget_search.specs.declared.budget_intervals.BudgetChoice.{BudgetChoice}
+use Rattle.budget_search.specs.declared.budget_intervals.BudgetInterval.{BudgetInterval}
+use Rattle.budget_search.specs.declared.budget_intervals.Likeness.TheVariants.{Same}
 
 -- an account is that of an entry of an init's list, by the init's number, and not of a session
 abbrev pub is_entry_of : Listed → ℕ → AccountBudgets → Bool
@@ -39,18 +39,6 @@ sum_with choice list init sum account =
     if is_entry_of list init account then option_map (λ need. capped (more_of sum need)) (need_of choice account) else Some sum
 
 -- ---- what the accounts of inits have
-
--- the intervals of an account that needs so much for others
-abbrev pub need_rows : Option Amounts → List BudgetInterval
-need_rows None = []
-need_rows (Some need) = record { ram_from = need.ram; ram_below = None; caps_from = need.caps; likeness = Same } ∷ []
-
--- the accounts of a component have the intervals of what it needs, and all else of each account that is summed stays
-pub record IsChanged (component : ℕ) (need : Option Amounts) (old new : AccountBudgets) : Type 0 where
-  pub same : new.component ≡ old.component
-  pub session : new.session ≡ old.session
-  pub reserve : new.reserve ≡ old.reserve
-  pub rows : new.found.rows.items ≡ (if nat_eq old.component component then need_rows need else old.found.rows.items)
 
 abbrev pub AreChanged : ℕ → Option Amounts → List AccountBudgets → List AccountBudgets → Type 0
 AreChanged component need [] [] = ⊤

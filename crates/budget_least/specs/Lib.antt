@@ -1,15 +1,6 @@
-pub mod Steps
-pub mod Run
-pub mod Sufficient
-pub mod BudgetIntervals
-pub mod Alike
-pub mod Own
-pub mod OpenedSessions
-pub mod ReachedSessions
-pub mod Measured
-pub mod Report
 pub mod InitNeeds
 pub mod MachineSizes
+pub mod Measured
 pub mod ComponentLines
+pub mod Report
 pub mod Drafts
-pub mod Shortages

@@ -4,7 +4,7 @@ use Rattle.std.specs.Option.{option_map}
 use Rattle.own_model.specs.Amounts.{Amounts}
 use Rattle.budget_least.specs.InitNeeds.{capped, needed_below}
 use Rattle.budget_least.specs.MachineSizes.{HasSmallest}
-use Rattle.budget_least.specs.declared.account_budgets.AccountBudgets.{AccountBudgets}
+use Rattle.budget_search.specs.declared.account_budgets.AccountBudgets.{AccountBudgets}
 use Rattle.budget_least.specs.declared.machine_size.MachineSize.{MachineSize}
 use Rattle.budget_least.specs.declared.report.BudgetReport.{BudgetReport}
 use Rattle.budget_least.specs.declared.report_text.BudgetCsv.{BudgetCsv}

@@ -1,11 +1,9 @@
 //! The run of a scenario that binds its names.
 
-use crate::account_budgets::AccountBudgets;
-use crate::ample_client::AmpleClient;
-use crate::budget_intervals::BudgetChoice;
-use crate::funded::{LARGEST, ample, funded};
-use crate::lines_by_component::ComponentLine;
 use budget_meter::Budget;
+use budget_search::{
+    AccountBudgets, AmpleClient, BudgetChoice, ComponentLine, LARGEST, ample, funded,
+};
 use core_calls::{Call, Reply};
 use init_core::{RouteTable, boot};
 use line_names::FilledLine;

@@ -1,10 +1,9 @@
 //! A report as JSON.
 
-use crate::account_budgets::{AccountBudgets, SessionKey};
-use crate::budget_intervals::BudgetInterval;
 use crate::machine_size::MachineSize;
 use crate::report::BudgetReport;
 use budget_meter::Budget;
+use budget_search::{AccountBudgets, BudgetInterval, SessionKey};
 use std::alloc::{AllocError, Global};
 use view_json::{JsonField, Listing, ObjectList, ObjectListBuilder};
 

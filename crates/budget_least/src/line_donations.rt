@@ -1,8 +1,7 @@
 //! The donations of the lines that open sessions.
 
-use crate::account_budgets::AccountBudgets;
-use crate::budget_intervals::BudgetChoice;
 use budget_meter::Budget;
+use budget_search::{AccountBudgets, BudgetChoice};
 use std::alloc::{AllocError, Global};
 
 /// The donation of a line, by the sessions that it opens.

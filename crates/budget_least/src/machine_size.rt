@@ -3,8 +3,8 @@ ghost use Rattle.std.specs.Prelude.{◌≡◌};
 ghost use Rattle.budget_meter.specs.Needs.{amounts_of};
 ghost use Rattle.budget_least.specs.MachineSizes.{HasSmallest};
 
-use crate::funded::LARGEST;
 use budget_meter::Budget;
+use budget_search::LARGEST;
 use trade_base::PAGE;
 
 /// The fewest pages of a machine, and the fewest capabilities.

@@ -1,25 +1,25 @@
 //! What all accounts of a scenario need.
-ghost use Rattle.std.specs.Prelude.{◌≡◌, ◌<◌, ◌^◌, length, suc, IfOk, OnOk};
+ghost use Rattle.std.specs.Prelude.{◌≡◌, ◌<◌, length, suc, IfOk, OnOk};
 ghost use Rattle.std.specs.Option.{option_map};
 ghost use Rattle.own_model.specs.Amounts.{more_of};
 ghost use Rattle.budget_meter.specs.Needs.{amounts_of};
 ghost use Rattle.budget_least.specs.Report.{accounts_of, report_of, sum_of, unmeasured_of, HasSmallestMachine};
 ghost use Rattle.budget_least.specs.InitNeeds.{capped, is_entry_of, need_of, needed_below, sum_with, AreChanged, AreNeeded, AreNeededFrom};
 
-use crate::account_budgets::AccountBudgets;
 use crate::binding_run::BindingBudgets;
-use crate::budget_intervals::BudgetChoice;
 use crate::draft::Draft;
 use crate::line_donations::LineDonations;
-use crate::lines_by_component::{ComponentLine, LinesByComponent, has_names};
+use crate::lines_by_component::{LinesByComponent, has_names};
 use crate::machine_size::MachineSize;
 use crate::report_text::BudgetCsv;
-use crate::script_search::{ScriptSearch, ScriptSessions};
 use crate::unmeasured_line::UnmeasuredLine;
 use crate::written_donation::with_donation;
 use budget_meter::Budget;
+use budget_search::{
+    AccountBudgets, BudgetChoice, ComponentLine, ScriptSearch, ScriptSessions, budget_of,
+};
 use line_steps::RunPosition;
-use list_parser::{Binary, BootFault, ListEntry, StartList};
+use list_parser::{BootFault, StartList};
 use std::alloc::{AllocError, Global};
 
 /// The most runs with the budgets that are written.
@@ -189,6 +189,7 @@ impl<'a> BudgetReport<'a> {
         if !self.list.is_init(place) {
             return Ok(());
         }
+        let _parent = self.list.home(place);
         let needed = self.needed_below(place + 1);
         self.set_need(alloc, place, needed)?;
         Ok(())
@@ -355,7 +356,7 @@ fn sessions_of(
 ) -> Result<Option<ScriptSessions>, BootFault>
     requires { component < length list.now.entries }
 {
-    match search_of(list, component) {
+    match ScriptSearch::of(list, component) {
         Some(search) => {
             let sessions = search.sessions(alloc, steps)?;
             Ok(Some(sessions))
@@ -375,7 +376,7 @@ fn add_component(
 ) -> Result<(), BootFault>
     requires { component < length list.now.entries }
 {
-    let (Some(search), Some(sessions)) = (search_of(list, component), sessions) else {
+    let (Some(search), Some(sessions)) = (ScriptSearch::of(list, component), sessions) else {
         let given = budget_of(&list.entries()[component]);
         accounts.push(AccountBudgets::idle(alloc, component, given)?)?;
         return Ok(());
@@ -386,29 +387,4 @@ fn add_component(
     }
     accounts.push(own)?;
     Ok(())
-}
-
-// Returns the search for the budgets of a component, if it is a script.
-fn search_of(list: &StartList, component: usize) -> Option<ScriptSearch<'_>>
-    requires { component < length list.now.entries }
-{
-    let entry = &list.entries()[component];
-    if entry.binary() != Binary::Script {
-        return None;
-    }
-    Some(ScriptSearch {
-        list,
-        component,
-        given: budget_of(entry),
-    })
-}
-
-// The budget of an entry.
-fn budget_of(entry: &ListEntry) -> Budget
-    ensures { result.caps < 2 ^ 32 }
-{
-    Budget {
-        ram: entry.ram(),
-        caps: u64::from(entry.caps()),
-    }
 }

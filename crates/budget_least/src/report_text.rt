@@ -1,11 +1,12 @@
 //! The text of a report.
 
-use crate::account_budgets::{AccountBudgets, GivenBudget, SessionKey};
-use crate::budget_intervals::{BudgetGap, BudgetInterval, Likeness};
 use crate::machine_size::MachineSize;
 use crate::report::BudgetReport;
-use crate::trial::{RefusedLine, SkippedLine};
 use budget_meter::{Budget, Bytes};
+use budget_search::{
+    AccountBudgets, BudgetGap, BudgetInterval, GivenBudget, Likeness, RefusedLine, SessionKey,
+    SkippedLine,
+};
 use std::fmt;
 
 impl fmt::Display for BudgetReport<'_> {

@@ -1,6 +1,6 @@
 //! The command `least`: the sufficient budgets of a scenario's accounts.
 ghost use Rattle.std.specs.Prelude.{◌≡◌, if◌then◌else◌, length, nat_lt};
-ghost use Rattle.budget_least.specs.declared.budget_intervals.BudgetChoice.TheVariants.{Minimum, Safe};
+ghost use Rattle.budget_search.specs.declared.budget_intervals.BudgetChoice.TheVariants.{Minimum, Safe};
 
 use budget_least::{BudgetChoice, BudgetQuery, BudgetReport, UnmeasuredLine};
 use cli_base::{

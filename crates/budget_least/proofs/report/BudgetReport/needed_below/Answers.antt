@@ -5,7 +5,7 @@ use Rattle.std.specs.Option.{option_map}
 use Rattle.own_model.specs.Amounts.{more_of}
 use Rattle.budget_meter.specs.Needs.{amounts_of}
 use Rattle.budget_least.specs.InitNeeds.{capped, needed_below}
-use Rattle.budget_least.proofs.ItemLemmas.{next_item, no_item}
+use Rattle.budget_search.proofs.ItemLemmas.{next_item, no_item}
 use Rattle.budget_least.proofs.InitNeedLemmas.{capped_all, capped_kept, first_sum, sum_step}
 use Rattle.budget_least.proofs.report.BudgetReport.needed_below.Goals as goal
 

@@ -5,9 +5,7 @@ use Rattle.budget_least.proofs.report.BudgetReport.sum_inits.Given as goal
 
 abbrev pub invariant-loop-place : goal.invariant-loop-place
 invariant-loop-place l = record {
-  list : l.self.list ≡ l.initial.self.list;
-  choice : l.self.choice ≡ l.initial.self.choice;
-  within : l.place ≤ length l.initial.self.list.now.entries;
+  within : l.place ≤ length l.self.list.now.entries;
   needed : AreNeededFrom l.place l.self.choice l.self.list.now l.self.accounts.items;
 }
 
