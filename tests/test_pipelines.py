@@ -49,6 +49,14 @@ def test_progress_of_tests(nethrywel):
     assert re.fullmatch(r"(\r\d of 4)+\r\x1b\[K", seen.err)
 
 
+def test_progress_of_runs(nethrywel):
+    """A run of over two seconds reports its lines on a terminal, whose line is empty at the end, and nothing elsewhere."""
+    slow = f'{{ echo alice quota; sleep 2.2; echo alice quota; }} | "{nethrywel.path}" accounts -'
+    ran, seen = run("sh", "-c", slow), on_terminal("sh", "-c", slow)
+    assert (ran.status, ran.err, seen.status, seen.out) == (0, "", 0, ran.out)
+    assert seen.err == "2 lines\r\x1b[K"
+
+
 def rows_of(text):
     """Returns the rows of comma-separated values after the row of names."""
     return list(csv.reader(io.StringIO(text)))[1:]

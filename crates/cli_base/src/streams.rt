@@ -1,7 +1,7 @@
 //! The streams of a run: what a scenario is read from, and what replies and diagnostics are written to.
 ghost use Rattle.std.specs.Prelude.{◌≡◌, false};
 
-use cli_engine::{Input, Output};
+use cli_engine::Output;
 use run_lines::Sink;
 use std::alloc::Global;
 use std::fs::File;
@@ -72,9 +72,6 @@ impl OutputStream<'_> {
         }
     }
 }
-
-/// The reader of a scenario's lines.
-pub type Reader<'a> = Input<Origin<'a>>;
 
 /// The writer of lines to their destination, with or without colours.
 pub type Writer<'a> = ColorSink<Output<OutputStream<'a>>>;

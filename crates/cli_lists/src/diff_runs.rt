@@ -5,10 +5,9 @@ ghost use Rattle.cli_lists.specs.Comparison.{HasStopped};
 use crate::diff_files::ListFile;
 use budget_least::{AccountBudgets, Budget, BudgetChoice, BudgetQuery, BudgetReport};
 use cli_base::{
-    Origin, OutputStream, REFUSED, Settings, Spot, StopMessage, UNWRITTEN, made_or_status,
-    plain_writer, report_error, spot_of,
+    Origin, OutputStream, Printing, REFUSED, Settings, Spot, StopMessage, UNWRITTEN, made_or_status,
+    plain_writer, report_error, spot_of, watched_reader,
 };
-use cli_engine::Input;
 use init_core::{BootFault, ListEntry, StartList};
 use line_rounds::UnfoldedText;
 use list_diff::{BreachChange, ComponentNeed, LineResult, QuotaAmounts, line_results};
@@ -85,7 +84,8 @@ pub(crate) fn answers_on(
         scenario: settings.subject(run.path),
         start: settings.start_or_status(rt, run.lines.marks())?,
     };
-    let mut reader = Input::new(Origin::Held(run.lines.bytes()));
+    let origin = Origin::Held(run.lines.bytes());
+    let mut reader = watched_reader(rt, origin, Printing::Afterwards);
     let mut nowhere = plain_writer(rt, OutputStream::Dropped);
     let mut complaints = plain_writer(rt, OutputStream::Dropped);
     let form = settings.form;

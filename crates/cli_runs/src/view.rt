@@ -2,7 +2,7 @@
 ghost use Rattle.std.specs.Prelude.{◌≡◌, ◌==◌, ◌||◌, is_some, nat_lt, IfOk};
 ghost use Rattle.cli_runs.specs.RunStatus.{HasStatus, start_of};
 
-use cli_base::Coloring;
+use cli_base::{Coloring, Printing};
 use init_core::BootFault;
 use run_lines::{Sink, Source};
 use run_scenario::{ScenarioEnd, ScenarioInput};
@@ -45,6 +45,14 @@ pub(crate) enum RowsForm {
 }
 
 impl<'a> RunView<'a> {
+    /// Returns when the part is printed: the accounts after the run, and each other part during it.
+    pub(crate) fn printing(self) -> Printing {
+        match self {
+            RunView::Accounts(_) => Printing::Afterwards,
+            _ => Printing::Meanwhile,
+        }
+    }
+
     /// Returns which streams are coloured: only a transcript has colours.
     pub(crate) fn coloring(self) -> Coloring {
         match self {

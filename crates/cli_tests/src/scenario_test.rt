@@ -6,9 +6,8 @@ use crate::policy_test::add_error;
 use cli_base::{
     ListFaultMessage, Machine, Origin, OutputStream, ReadFailure, Settings, Spot, StartListFailure,
     StopMessage, Warnings, error_line, fault_spot, machine_path, plain_writer, read_whole,
-    rounds_spot, rounds_token, spot_of, text_of,
+    rounds_spot, rounds_token, silent_reader, spot_of, text_of,
 };
-use cli_engine::Input;
 use init_core::BootFault;
 use line_names::RoundMark;
 use line_rounds::{UnfoldError, unfold};
@@ -206,7 +205,7 @@ fn played(
         scenario: Settings::without_values(DiagnosticForm::Text).subject(case.scenario),
         start: case.settings.start(rt.alloc(), marks)?,
     };
-    let mut reader = Input::new(origin);
+    let mut reader = silent_reader(origin);
     let mut complaints = plain_writer(rt, OutputStream::text(rt));
     let mut nowhere = plain_writer(rt, OutputStream::Dropped);
     let ended = if coverings.are_wanted() {
