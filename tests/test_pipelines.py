@@ -8,7 +8,7 @@ from decimal import Decimal
 from xml.etree import ElementTree
 
 import pytest
-from commands import CASES, CRAWLER, limited, on_terminal
+from commands import CASES, CRAWLER, limited, on_terminal, run
 
 FILES = CASES / "nethrywel/test/files"
 SCENARIO = [*CRAWLER, "friendly/crawler.scenario"]
