@@ -6,11 +6,10 @@ use Rattle.own_model.specs.Amounts.{Amounts, more_of, no_amounts}
 use Rattle.own_model.specs.Listed.{Listed}
 use Rattle.list_parser.specs.Depth.{is_init}
 use Rattle.budget_meter.specs.Needs.{amounts_of}
+use Rattle.budget_search.specs.AccountNeeds.{need_rows, IsChanged}
 use Rattle.budget_search.specs.BudgetIntervals.{chosen_of}
 use Rattle.budget_search.specs.declared.account_budgets.AccountBudgets.{AccountBudgets}
 use Rattle.budget_search.specs.declared.budget_intervals.BudgetChoice.{BudgetChoice}
-use Rattle.budget_search.specs.declared.budget_intervals.BudgetInterval.{BudgetInterval}
-use Rattle.budget_search.specs.declared.budget_intervals.Likeness.TheVariants.{Same}
 
 -- an account is that of an entry of an init's list, by the init's number, and not of a session
 abbrev pub is_entry_of : Listed → ℕ → AccountBudgets → Bool

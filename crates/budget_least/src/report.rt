@@ -190,6 +190,7 @@ impl<'a> BudgetReport<'a> {
             return Ok(());
         }
         let _parent = self.list.home(place);
+        let _few = self.list.count();
         let needed = self.needed_below(place + 1);
         self.set_need(alloc, place, needed)?;
         Ok(())

@@ -13,7 +13,7 @@ loop-at-preserved c =
     let need = option_map amounts_of c.args.needed in
     let was = c.args.self.now.accounts.items in
     let news = c.loop-at.self.accounts.items in
-    let there : c.loop-at.at < length news = omega (arith, c.loop-at-test.true, c.len.ensures, c.args.self.now.accounts.ok.0, c.loop-at.invariant.count) in
+    let there : c.loop-at.at < length news = omega (arith, c.loop-at-test.true, c.len-at-end.ensures, c.args.self.now.accounts.ok.0, c.loop-at.invariant.count) in
     record {
       list = c.loop-at.invariant.list;
       choice = c.loop-at.invariant.choice;
@@ -28,4 +28,4 @@ pub returns-clause-changed : goal.returns-clause-changed
 returns-clause-changed c =
     let news = c.loop-at.self.accounts.items in
     changed_to_end c.args.component (option_map amounts_of c.args.needed) c.loop-at.at c.args.self.now.accounts.items news c.loop-at.invariant.changed
-    (omega (arith, c.loop-at-test.false, c.len.ensures, c.args.self.now.accounts.ok.0, c.loop-at.invariant.count))
+    (omega (arith, c.loop-at-test.false, c.len-at-end.ensures, c.args.self.now.accounts.ok.0, c.loop-at.invariant.count))

@@ -7,6 +7,9 @@ use Rattle.budget_least.proofs.NeededLemmas.{home_told, init_told, needed_next, 
 use Rattle.budget_least.specs.InitNeeds.{capped, needed_below}
 use Rattle.budget_least.proofs.report.BudgetReport.sum_init.Goals as goal
 
+pub overflow_add-place : goal.overflow_add-place
+overflow_add-place c = omega (arith, c.requires, c.count-few.ensures.value, c.count-few.ensures.most)
+
 pub returns-then-not-is_init-clause-needed : goal.returns-then-not-is_init-clause-needed
 returns-then-not-is_init-clause-needed c = λ before.
     let list = c.args.self.now.list.now in
@@ -26,4 +29,4 @@ returns-clause-needed c = λ before.
     same_report place choice c.set_need.new.self.choice c.args.self.now.list c.set_need.new.self.list all c.set_need.ensures.choice c.set_need.ensures.list
     (needed_next choice list place need was all c.in_ok-set_need.ensures.changed
     (subst (λ n. need ≡ option_map capped (needed_below choice list n was)) next c.needed_below-needed.ensures)
-    (home_told list place c.home-_parent.result c.home-_parent.ensures.value c.home-_parent.ensures.home.before) before)
+    (home_told list place c.home-parent.result c.home-parent.ensures.value c.home-parent.ensures.home.before) before)
