@@ -1,5 +1,5 @@
 -- The tests of files: each scenario, and each policy once, and which of them the texts of a filter select.
-use Rattle.std.specs.Prelude.{ℕ, ◌==◌, ◌||◌, Bool, false, List, [], ◌∷◌, ◌++◌, is_some, length, string_bytes, if◌then◌else◌, Option, Some, None}
+use Rattle.std.specs.Prelude.{◌≡◌, ℕ, ◌<◌, ◌==◌, ◌||◌, Bool, false, List, [], ◌∷◌, ◌++◌, filter, is_some, length, string_bytes, if◌then◌else◌, Option, Some, None}
 use Rattle.std.specs.List.{list_any}
 use Rattle.std.specs.Str.{bytes_eq}
 use Rattle.memchr.specs.Find.{first_of, matches}
@@ -39,3 +39,7 @@ has_text path text = is_some (first_of (matches path text 0))
 -- a test is selected if its path has one of the texts, or there is no text
 abbrev pub is_selected : List (List ℕ) → PlannedTest → Bool
 is_selected texts test = length texts == 0 || list_any (has_text (path_of test)) texts
+
+-- tests are those of others that the texts select, in their order, and there is one
+abbrev pub AreSelected : List (List ℕ) → List PlannedTest → Type 0
+AreSelected texts tests = (0 < length tests) × ((found : List PlannedTest) × (tests ≡ filter (is_selected texts) found))

@@ -11,32 +11,32 @@ use view_diagnostics::DiagnosticForm;
 /// The name of the machine of scenarios without a start list.
 const BUILT_IN: &str = "built-in machine";
 
-/// The coverage of all scenarios, the form in which it is printed, and how much of it is expected.
+/// The coverage of all scenarios, and the form in which it is printed.
 #[derive(Drop)]
 pub(crate) struct CoveragePrinter {
     // None if coverage isn't asked for.
     report: Option<CoverageReport>,
     json: bool,
-    threshold: Option<u8>,
 }
 
 impl CoveragePrinter {
-    /// Returns the coverage of no scenario yet, with the percentage that is expected of it. If the options don't ask for coverage,
-    /// none is added later.
-    pub(crate) fn new(
-        rt: &HostRuntime,
-        asked: &TestOptions<'_>,
-        threshold: Option<u8>,
-    ) -> CoveragePrinter {
-        let report = if asked.coverage || asked.coverage_calls || threshold.is_some() {
-            Some(CoverageReport::new(rt.alloc(), asked.coverage_calls))
-        } else {
-            None
-        };
+    ghost use Rattle.std.specs.Prelude.{◌≡◌, ◌||◌, is_some};
+    ghost use Rattle.cli_tests.specs.Outcome.{is_short_by};
+
+    /// Returns the coverage of no scenario yet. If the options don't ask for coverage, none is added later.
+    pub(crate) fn new(rt: &HostRuntime, asked: &TestOptions<'_>) -> CoveragePrinter
+        ensures { is_some result.report
+            ≡ ((asked.now.coverage || asked.now.coverage_calls) || is_some asked.now.threshold) }
+    {
+        if asked.coverage || asked.coverage_calls || asked.threshold.is_some() {
+            return CoveragePrinter {
+                report: Some(CoverageReport::new(rt.alloc(), asked.coverage_calls)),
+                json: asked.json,
+            };
+        }
         CoveragePrinter {
-            report,
+            report: None,
             json: asked.json,
-            threshold,
         }
     }
 
@@ -80,12 +80,19 @@ impl CoveragePrinter {
         io::writer(rt).write_all(text.as_bytes())
     }
 
-    /// Returns whether less is covered than expected, and then prints how much on standard error.
-    pub(crate) fn falls_short(&self, rt: &HostRuntime, form: DiagnosticForm) -> bool {
+    /// Returns whether less is covered than this percentage, and then prints how much on standard error.
+    pub(crate) fn falls_short(
+        &self,
+        rt: &HostRuntime,
+        form: DiagnosticForm,
+        threshold: Option<u8>,
+    ) -> bool
+        ensures { result ≡ is_short_by self.now.report threshold }
+    {
         let Some(report) = &self.report else {
             return false;
         };
-        let Some(percent) = self.threshold else {
+        let Some(percent) = threshold else {
             return false;
         };
         let count = report.count();

@@ -35,8 +35,12 @@ impl<'a, T: Drop> From<AllocFailed<T>> for SearchFailure<'a> {
 }
 
 impl SearchFailure<'_> {
+    ghost use Rattle.std.specs.Prelude.{◌≡◌, ◌⊎◌};
+
     /// Prints the reason, and returns the exit status: 2, or 1 if the host is out of memory.
-    pub(crate) fn tell(self, rt: &HostRuntime, form: DiagnosticForm) -> u8 {
+    pub(crate) fn tell(self, rt: &HostRuntime, form: DiagnosticForm) -> u8
+        ensures { (result ≡ 1) ⊎ (result ≡ 2) }
+    {
         match self {
             SearchFailure::Unreadable(path, error) => {
                 let unread = ReadFailure::Closed(error);

@@ -1,5 +1,6 @@
 //! Scenarios that are run as tests, each on its machine.
 ghost use Rattle.std.specs.Prelude.{◌≡◌, ◌&&◌, not, length, nat_lt, IfOk};
+ghost use Rattle.cli_tests.specs.Outcome.{HasEnded, PassesBy};
 
 use crate::coverage_printer::CoveragePrinter;
 use crate::policy_test::add_error;
@@ -160,7 +161,10 @@ fn run_from(
     origin: Origin<'_>,
     marks: &[RoundMark],
     coverings: &mut CoveragePrinter,
-) -> Result<TestResult, AllocError> {
+) -> Result<TestResult, AllocError>
+    ensures { IfOk result (λ test.
+        PassesBy case.entry.machine.now case.entry.settings marks.now test.passed) }
+{
     let mut kept = played(rt, case, origin, marks, coverings)?;
     add_end(rt, case, &kept.ended, &mut kept.text)?;
     let name = String::from_str(rt.alloc(), case.scenario)?;
@@ -199,7 +203,10 @@ fn played(
     origin: Origin<'_>,
     marks: &[RoundMark],
     coverings: &mut CoveragePrinter,
-) -> Result<TestRun, AllocError> {
+) -> Result<TestRun, AllocError>
+    ensures { IfOk result (λ kept.
+        HasEnded case.entry.machine.now case.entry.settings marks.now kept.ended) }
+{
     let play = ScenarioInput {
         list: case.machine.list(),
         scenario: Settings::without_values(DiagnosticForm::Text).subject(case.scenario),
@@ -208,29 +215,34 @@ fn played(
     let mut reader = silent_reader(origin);
     let mut complaints = plain_writer(rt, OutputStream::text(rt));
     let mut nowhere = plain_writer(rt, OutputStream::Dropped);
-    let ended = if coverings.are_wanted() {
-        match answers(rt.alloc(), play, &mut reader, &mut nowhere, &mut complaints) {
-            Ok(answered) => {
-                let exchanges = answered.exchanges.as_slice();
-                coverings.add(rt, case.machine, case.scenario, exchanges)?;
-                Ok(answered.ending)
-            }
-            Err(fault) => Err(fault),
-        }
-    } else {
-        run(
+    if !coverings.are_wanted() {
+        let ended = run(
             rt.alloc(),
             play,
             REPLIES,
             &mut reader,
             &mut nowhere,
             &mut complaints,
-        )
-    };
-    Ok(TestRun {
-        ended,
-        text: text_of(rt, complaints),
-    })
+        );
+        return Ok(TestRun {
+            ended,
+            text: text_of(rt, complaints),
+        });
+    }
+    match answers(rt.alloc(), play, &mut reader, &mut nowhere, &mut complaints) {
+        Ok(answered) => {
+            let exchanges = answered.exchanges.as_slice();
+            coverings.add(rt, case.machine, case.scenario, exchanges)?;
+            Ok(TestRun {
+                ended: Ok(answered.ending),
+                text: text_of(rt, complaints),
+            })
+        }
+        Err(fault) => Ok(TestRun {
+            ended: Err(fault),
+            text: text_of(rt, complaints),
+        }),
+    }
 }
 
 // Adds the fault of a run that didn't begin or was stopped.

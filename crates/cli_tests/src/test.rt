@@ -1,6 +1,7 @@
 //! The command `test`: scenarios are run and policies are checked as tests, and their results are printed.
-ghost use Rattle.std.specs.Prelude.{◌≡◌, ◌≤◌, ◌+◌, ◌||◌, if◌then◌else◌, length, nat_lt, IfOk, IfSome, OnOk};
-ghost use Rattle.view_test_report.specs.Trials.{failed_among};
+ghost use Rattle.std.specs.Prelude.{◌≡◌, ◌≢◌, ◌+◌, length, map, IfErr, IfNone, IfOk, IfSome, OnOk};
+ghost use Rattle.cli_tests.specs.Outcome.{AsksFor, HasResults, HasTested, IsPercentage, IsShortBy, outcome_status};
+ghost use Rattle.cli_tests.specs.Plan.{AreSelected};
 
 use crate::coverage_printer::CoveragePrinter;
 use crate::file_search::{SearchFailure, files_at};
@@ -42,6 +43,22 @@ struct TestOutcome {
     falls_short: bool,
 }
 
+impl TestOutcome {
+    ghost use Rattle.std.specs.Prelude.{◌≡◌};
+    ghost use Rattle.cli_tests.specs.Outcome.{outcome_status};
+
+    // Returns the exit status: 3 if a test failed or less is covered than asked for, else 0.
+    fn exit_status(&self) -> u8
+        ensures { result ≡ outcome_status self.now }
+    {
+        if failures(self.trials.as_slice()) > 0 || self.falls_short {
+            FAILED
+        } else {
+            0
+        }
+    }
+}
+
 /// Runs the scenarios of all paths, each on the start list next to it or on that of `--machine`, and checks each policy against the
 /// start list next to it. With filters only the tests are run whose paths have one of their texts. Prints a line for each test, and
 /// writes a JUnit document if one is asked for. Returns the exit status: 0, 3 if a test failed or less is covered than asked for, 2 if
@@ -51,32 +68,59 @@ pub fn run_tests<'a>(
     asked: &'a TestOptions<'a>,
     settings: Settings<'a>,
     colored: bool,
-) -> u8 {
-    let threshold = match asked.threshold {
-        None => None,
-        Some(text) => match percent_of(text) {
-            Some(percent) => Some(percent),
-            None => return refuse_threshold(rt, settings.form, text),
-        },
+) -> u8
+    ensures { result ≢ 1 → result ≢ 2 → result ≢ 141 → HasTested asked.now result }
+{
+    let threshold = match threshold_in(rt, settings.form, asked.threshold) {
+        Ok(threshold) => threshold,
+        Err(status) => return status,
     };
-    let wanted = TestSettings {
-        asked,
-        settings,
-        colored,
-        threshold,
-    };
-    match tests_at(rt, wanted.asked) {
-        Ok(tests) => match run_all(rt, tests.as_slice(), wanted) {
-            Ok(outcome) => end(rt, wanted.settings.form, &outcome, wanted.asked.junit),
-            Err(error) => status_of(rt, Err(error)),
-        },
-        Err(unfound) => unfound.tell(rt, wanted.settings.form),
+    match tests_at(rt, asked) {
+        Ok(tests) => {
+            let wanted = TestSettings {
+                asked,
+                settings,
+                colored,
+                threshold,
+            };
+            run_selected(rt, tests.as_slice(), wanted)
+        }
+        Err(unfound) => unfound.tell(rt, settings.form),
     }
+}
+
+// Runs tests, and returns the exit status.
+fn run_selected(rt: &HostRuntime, tests: &[PlannedTest], wanted: TestSettings<'_>) -> u8
+    ensures { result ≢ 1 → result ≢ 141 → HasResults wanted.entry.threshold tests.now result }
+{
+    match run_all(rt, tests, wanted) {
+        Ok(outcome) => end(rt, wanted.settings.form, &outcome, wanted.asked.junit),
+        Err(error) => status_of(rt, Err(error)),
+    }
+}
+
+// Returns the percentage that the text of a threshold denotes, if there is one. If the text is no percentage, prints that and returns
+// the exit status 2.
+fn threshold_in(
+    rt: &HostRuntime,
+    form: DiagnosticForm,
+    text: Option<&str>,
+) -> Result<Option<u8>, u8>
+    ensures ok { IfOk result (AsksFor text.entry) }
+    ensures err { IfErr result (λ status. status ≡ 2) }
+{
+    let Some(text) = text else {
+        return Ok(None);
+    };
+    let Some(percent) = percent_of(text) else {
+        return Err(refuse_threshold(rt, form, text));
+    };
+    Ok(Some(percent))
 }
 
 // Returns the percentage that a text denotes: a number from 0 to 100.
 fn percent_of(text: &str) -> Option<u8>
-    ensures { IfSome result (λ percent. percent ≤ 100) }
+    ensures { IfSome result (IsPercentage text.now) }
 {
     match text.parse::<u8>() {
         Ok(percent) if percent <= 100 => Some(percent),
@@ -85,7 +129,9 @@ fn percent_of(text: &str) -> Option<u8>
 }
 
 // Prints that a text is no percentage, and returns the exit status.
-fn refuse_threshold(rt: &HostRuntime, form: DiagnosticForm, text: &str) -> u8 {
+fn refuse_threshold(rt: &HostRuntime, form: DiagnosticForm, text: &str) -> u8
+    ensures { result ≡ 2 }
+{
     let message = format_args!("--threshold: expected a number from 0 to 100, found `{text}`");
     report_error(rt, form, Spot::nowhere(), &message);
     REFUSED
@@ -95,7 +141,10 @@ fn refuse_threshold(rt: &HostRuntime, form: DiagnosticForm, text: &str) -> u8 {
 fn tests_at<'a>(
     rt: &HostRuntime,
     asked: &'a TestOptions<'a>,
-) -> Result<Vec<PlannedTest>, SearchFailure<'a>> {
+) -> Result<Vec<PlannedTest>, SearchFailure<'a>>
+    ensures { IfOk result (λ tests.
+        AreSelected (map (λ text. text.now) asked.now.filters.items) tests.items) }
+{
     let files = files_at(rt, asked.paths.as_slice())?;
     let mut tests = planned_tests(rt, files)?;
     select_tests(&mut tests, asked.filters.as_slice());
@@ -106,7 +155,10 @@ fn tests_at<'a>(
 }
 
 // Writes the JUnit document if one is asked for, and returns the exit status.
-fn end(rt: &HostRuntime, form: DiagnosticForm, outcome: &TestOutcome, junit: Option<&str>) -> u8 {
+fn end(rt: &HostRuntime, form: DiagnosticForm, outcome: &TestOutcome, junit: Option<&str>) -> u8
+    ensures written { result ≢ 1 → result ≡ outcome_status outcome.now }
+    ensures plain { IfNone junit.entry (result ≡ outcome_status outcome.now) }
+{
     let trials = outcome.trials.as_slice();
     if let Some(path) = junit {
         if let Err(error) = write_document(rt, path, trials) {
@@ -114,19 +166,7 @@ fn end(rt: &HostRuntime, form: DiagnosticForm, outcome: &TestOutcome, junit: Opt
             return UNWRITTEN;
         }
     }
-    trials_status(trials, outcome.falls_short)
-}
-
-// Returns the exit status of these results: 3 if one failed or less is covered than asked for, else 0.
-fn trials_status(trials: &[TimedResult], falls_short: bool) -> u8
-    ensures { result
-        ≡ (if nat_lt 0 (length (failed_among trials.now)) || falls_short then 3 else 0) }
-{
-    if failures(trials) > 0 || falls_short {
-        FAILED
-    } else {
-        0
-    }
+    outcome.exit_status()
 }
 
 // Writes the JUnit document of these results.
@@ -140,8 +180,11 @@ fn run_all(
     rt: &HostRuntime,
     tests: &[PlannedTest],
     wanted: TestSettings<'_>,
-) -> io::Result<TestOutcome> {
-    let mut coverings = CoveragePrinter::new(rt, wanted.asked, wanted.threshold);
+) -> io::Result<TestOutcome>
+    ensures each { IfOk result (λ outcome. length outcome.trials.items ≡ length tests.now) }
+    ensures short { IfOk result (λ outcome. IsShortBy wanted.entry.threshold outcome.falls_short) }
+{
+    let mut coverings = CoveragePrinter::new(rt, wanted.asked);
     let teller = TestPrinter::new(rt, wanted.colored, coverings.is_document(), tests.len());
     teller.plan(rt)?;
     let other = Machine::find(rt, wanted.asked.machine, wanted.settings);
@@ -152,7 +195,7 @@ fn run_all(
     };
     let trials = run_each(rt, tests, conditions, teller, &mut coverings)?;
     coverings.tell(rt)?;
-    let falls_short = coverings.falls_short(rt, wanted.settings.form);
+    let falls_short = coverings.falls_short(rt, wanted.settings.form, wanted.threshold);
     Ok(TestOutcome {
         trials,
         falls_short,
