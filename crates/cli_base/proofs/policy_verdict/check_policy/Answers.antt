@@ -1,5 +1,4 @@
 -- The verdict of the text that was read.
-use Rattle.std.specs.Prelude.{⊥}
 use Rattle.list_policy.specs.Verdict.{IsVerdict}
 use Rattle.cli_base.specs.PolicyVerdict.{verdict_places}
 use Rattle.cli_base.proofs.VerdictLemmas.{some_text}
