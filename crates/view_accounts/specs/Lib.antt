@@ -8,7 +8,6 @@ pub mod PeakList
 pub mod Peaks
 pub mod Rows
 pub mod RunRows
-pub mod SessionNeeds
 pub mod SessionTable
 pub mod Table
 pub mod TableRows
