@@ -1,2 +1,1 @@
 pub mod RunEnd
-pub mod RunStatus

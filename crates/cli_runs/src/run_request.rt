@@ -1,6 +1,5 @@
 //! A scenario's run on a machine, over files and the standard streams.
-ghost use Rattle.std.specs.Prelude.{◌≡◌, ◌==◌, if◌then◌else◌, IfOk, None};
-ghost use Rattle.cli_runs.specs.RunStatus.{HasStatus, start_of};
+ghost use Rattle.std.specs.Prelude.{◌≡◌, ◌==◌, if◌then◌else◌};
 
 use crate::accounts::print_accounts;
 use crate::run_end::RunEnd;
@@ -213,10 +212,7 @@ fn played(
     play: ScenarioInput<'_>,
     viewing: RunView<'_>,
     origin: Origin<'_>,
-) -> RunEnd
-    ensures status { IfOk result.ended
-        (HasStatus viewing.entry (start_of viewing.entry play.entry) None) }
-{
+) -> RunEnd {
     let coloring = viewing.coloring();
     let mut reader = watched_reader(rt, origin, viewing.printing());
     let stderr = OutputStream::Complained(rt.stderr());
@@ -227,7 +223,7 @@ fn played(
     let stdout = OutputStream::Printed(io::writer(rt));
     let mut replies = writer(rt, stdout, Lines::Replies, coloring.out);
     let ended = view(
-        rt.alloc(),
+        rt,
         play,
         viewing,
         &mut reader,
