@@ -5,4 +5,4 @@ use Rattle.cli_base.proofs.VerdictLemmas.{some_text}
 use Rattle.cli_base.proofs.policy_verdict.check_policy.Goals as goal
 
 pub returns-in-Ok : goal.returns-in-Ok
-returns-in-Ok c = some_text verdict_places (λ text. ⊥) (IsVerdict c.args.list.now) _ c.verdict_of.result c.verdict_of.ensures
+returns-in-Ok c = some_text verdict_places (λ text. ⊥) (IsVerdict c.args.list.now) c.deref.result.now c.verdict_of.result c.verdict_of.ensures
