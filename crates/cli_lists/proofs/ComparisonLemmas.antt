@@ -1,17 +1,23 @@
 -- The comparison of two start lists, and its exit status.
-use Rattle.std.proofs.Common.{◌≡◌, ◌≢◌, ℕ, Bool, true, false, not, List, [], map, length, nat_eq, refl, sym, subst, ap, ◌∙◌, arith, inl, inr}
-use Rattle.std.specs.Prelude.{◌⊎◌, IfOk, IfErr, Option, Some, None, Result, Ok, Err, All}
+use Rattle.std.proofs.Common.{Global, ◌≡◌, ◌≢◌, ℕ, Bool, true, false, not, List, [], ◌∷◌, map, length, nat_eq, refl, sym, subst, ap, ◌∙◌, arith, inl, inr}
+use Rattle.std.specs.Prelude.{◌⊎◌, IfOk, IfErr, Option, Some, None, Result, Ok, Err, is_err, All, Vec}
 use Rattle.std.specs.IoError.{error_kind}
 use Rattle.std.specs.declared.io.Error.{Error}
 use Rattle.std.specs.declared.io.ErrorKind.TheVariants.{BrokenPipe}
 use Rattle.std.proofs.lemmas.Bool.Decides.{nat_tests}
 use Rattle.cli_base.specs.Statuses.{HasWritten}
 use Rattle.cli_lists.specs.Comparison.{AreAll, AreBreachesBy, AreBreachesOf, AreNewBreaches, AreReplyChanges, AreRowsOf, AreRunChanges, AreShortfalls, AreSoFar, Differ, EndsBy, EndsWith, HasStopped, IsSideOf, IsTextOf, ListsDiffer, NeedsDiffer, RunsDiffer, diff_status}
+use Rattle.cli_lists.specs.declared.diff_policy.PolicyBreaches.{PolicyBreaches}
 use Rattle.cli_lists.specs.declared.diff_text.DiffText.{DiffText}
+use Rattle.list_diff.specs.Breaches.{breach_changes, change_at}
 use Rattle.list_diff.specs.PlacedBreaches.{ArePlaced, BreachAt}
 use Rattle.list_diff.specs.Changes.{changes_of}
 use Rattle.list_diff.specs.Differences.{nothing_differs}
+use Rattle.list_diff.specs.Needs.{shortfalls}
 use Rattle.list_diff.specs.Reaches.{AreReachChanges}
+use Rattle.list_diff.specs.Replies.{AreChanges}
+use Rattle.list_diff.specs.declared.line_outcomes.LineResult.{LineResult}
+use Rattle.list_diff.specs.declared.need_changes.ComponentNeed.{ComponentNeed}
 use Rattle.list_diff.specs.declared.policy_breaches.BreachChange.{BreachChange}
 use Rattle.list_diff.specs.declared.differences.ListDifferences.{ListDifferences}
 use Rattle.list_diff.specs.declared.entry_changes.EntryChange.{EntryChange}
@@ -25,6 +31,10 @@ use Rattle.list_policy.specs.Reading.{Reads}
 use Rattle.list_policy.specs.declared.demand.PolicyLine.{PolicyLine}
 use Rattle.list_policy.specs.declared.fault.PolicyFault.{PolicyFault}
 use Rattle.list_policy.specs.declared.policy_text.Policy.{Policy}
+use Rattle.list_reach.specs.Paths.{is_chosen}
+use Rattle.list_reach.specs.Rows.{row_of, rows}
+use Rattle.list_reach.specs.Table.{IsTrue}
+use Rattle.list_reach.specs.declared.reach_table.ReachCell.{ReachCell}
 use Rattle.own_model.specs.Listed.{Listed}
 
 -- ---- statuses without a result
@@ -36,14 +46,28 @@ stopped_by A status false is broken other =
     inl (other (λ a. absurd (no (broken a))))
 
 -- a failed write has no result
-pub failed_stops : {T : Type 0} (error : Error) (status : ℕ) → HasWritten {T} (Err error) status → HasStopped status
+pub failed_stops : {T : Type 0} (error : Error) (status : ℕ) → HasWritten {T = T} (Err error) status → HasStopped status
 failed_stops error status is = stopped_by (error_kind error ≡ BrokenPipe) status (nat_eq status 141) refl is.0 is.1
 
 -- the status after a write
-pub written : {T : Type 0} (printed : Result T Error) (changed : Bool) (status : ℕ) → EndsWith {T} printed changed status
+pub written : {T : Type 0} (printed : Result T Error) (changed : Bool) (status : ℕ) → EndsWith printed changed status
     → EndsBy (λ c. c ≡ changed) status
 written (Ok done) changed status is = inr (changed, refl, is)
-written {T} (Err error) changed status is = inl (failed_stops {T} error status is)
+written {T} (Err error) changed status is = inl (failed_stops {T = T} error status is)
+
+-- out of memory
+pub no_memory_stops : {T E : Type 0} (r : Result T ℕ) (made : Result T E) → IfErr r (λ status. (status ≡ 1) × (is_err made ≡ true)) → IfErr r HasStopped
+no_memory_stops (Ok value) made is = tt
+no_memory_stops (Err status) made is = inl is.0
+
+-- rounds with a fault, or out of memory
+pub rounds_stop : (status : ℕ) → (status ≡ 1) ⊎ (status ≡ 3) → HasStopped status
+rounds_stop status (inl is) = inl is
+rounds_stop status (inr is) = inr (inr (inl is))
+
+-- what holds of a value that was made
+pub of_made : {T E : Type 0} (P : T → Type 0) (made : Result T E) (value : T) → made ≡ Ok value → IfOk made P → P value
+of_made P made value is holds = subst (λ m. IfOk m P) is holds
 
 -- ---- what a status says
 
@@ -60,6 +84,22 @@ pub ends_text : (P : Bool → Type 0) (changed : Bool) (status : ℕ) → P chan
 ends_text P changed status differ ends = ends_as (λ c. c ≡ changed) P (λ c is. subst P (sym is) differ) status ends
 
 -- ---- all differences
+
+-- a side by its table
+pub side_is : (list : Listed) (cells : List ReachCell) (side : ReachSide) → map row_of cells ≡ rows list (is_chosen []) (is_chosen [])
+    → All (IsTrue list) cells → side.list.now ≡ list → side.cells.now ≡ cells → IsSideOf list side
+side_is list cells side rows_are cells_are list_is is = record {
+  list_is = list_is;
+  rows_are = ap (λ (cs : List ReachCell). map row_of cs) is ∙ rows_are;
+  cells_are = subst (λ (cs : List ReachCell). All (IsTrue list) cs) (sym is) cells_are;
+}
+
+-- the text of differences that are all
+pub text_is : {E : Type 0} (so_far found : ListDifferences) (r : Result DiffText E)
+    → AreAll so_far.before.now so_far.after.now so_far.breaches.now so_far.lacks.now so_far.replies.now found
+    → IfOk r (λ made. made.is_changed ≡ not (nothing_differs found)) → IfOk r (IsTextOf so_far)
+text_is so_far found (Ok made) all is = (found, all, is)
+text_is so_far found (Err fault) all is = tt
 
 pub all_found : (so_far found : ListDifferences) (was now : ReachSide) (changes : List EntryChange) (leads : List ReachChange)
     → AreSoFar so_far found → found.changes.now ≡ changes → found.leads.now ≡ leads
@@ -97,6 +137,18 @@ no_runs scenario before after breaches lacks replies status none no_lacks no_rep
       are = subst (λ (s : Option (List ℕ)). AreRunChanges s lacks replies) (sym none) (no_lacks, no_replies);
       differ = differ;
     }) status ends
+
+-- the needs and the replies that were found
+pub made_lacks : {E : Type 0} (had has : List ComponentNeed) (made : Result (Vec NeedChange Global) E) (value : Vec NeedChange Global) (lacks : List NeedChange)
+    → IfOk made (λ found. found.items ≡ shortfalls had has) → made ≡ Ok value → lacks ≡ value.items → AreShortfalls lacks
+made_lacks had has made value lacks are is lacks_are =
+    (had, has, lacks_are ∙ of_made (λ (found : Vec NeedChange Global). found.items ≡ shortfalls had has) made value is are)
+
+pub made_replies : {E : Type 0} (was now : List LineResult) (made : Result (Vec ReplyChange Global) E) (value : Vec ReplyChange Global) (replies : List ReplyChange)
+    → IfOk made (λ found. AreChanges was now found.items) → made ≡ Ok value → replies ≡ value.items → AreReplyChanges replies
+made_replies was now made value replies are is replies_are =
+    (was, now, subst (λ (rs : List ReplyChange). AreChanges was now rs) (sym replies_are)
+    (of_made (λ (found : Vec ReplyChange Global). AreChanges was now found.items) made value is are))
 
 -- with the needs of both runs
 pub with_needs : (before after : Listed) (breaches : List BreachChange) (lacks : List NeedChange) (replies : List ReplyChange) (status : ℕ)
@@ -137,6 +189,26 @@ pub by_text : (policy : Option (List ℕ)) (path text : List ℕ) (before after 
     → AreBreachesOf text before after olds news → AreBreachesBy policy before after olds news
 by_text policy path text before after olds news is are =
     subst (λ (p : Option (List ℕ)). AreBreachesBy p before after olds news) (sym is) (text, are)
+
+pub ok_by_text : {E : Type 0} (policy : Option (List ℕ)) (path text : List ℕ) (before after : Listed) (r : Result PolicyBreaches E)
+    → policy ≡ Some path → IfOk r (λ found. AreBreachesOf text before after found.before.items found.after.items)
+    → IfOk r (λ found. AreBreachesBy policy before after found.before.items found.after.items)
+ok_by_text policy path text before after (Ok found) is are = by_text policy path text before after found.before.items found.after.items is are
+ok_by_text policy path text before after (Err status) is are = tt
+
+-- no fault was found
+pub no_faults : {X : Type 0} (xs : List X) (b : Bool) → b ≡ nat_eq (length xs) 0 → b ≡ true → xs ≡ []
+no_faults [] b test is = refl
+no_faults (x ∷ xs) b test is = let none : length (x ∷ xs) ≡ 0 = grind (arith, nat_tests) in absurd (omega (arith, none))
+
+-- the breaches that one list alone has
+pub made_breaches : {E : Type 0} (policy : Option (List ℕ)) (before after : Listed) (olds news : List BreachAt)
+    (made : Result (Vec BreachChange Global) E) (value : Vec BreachChange Global) (breaches : List BreachChange)
+    → AreBreachesBy policy before after olds news → IfOk made (λ found. map change_at found.items ≡ breach_changes olds news)
+    → made ≡ Ok value → breaches ≡ value.items → AreNewBreaches policy before after breaches
+made_breaches policy before after olds news made value breaches by are is breaches_are =
+    (olds, news, by, ap (λ (bs : List BreachChange). map change_at bs) breaches_are
+    ∙ of_made (λ (found : Vec BreachChange Global). map change_at found.items ≡ breach_changes olds news) made value is are)
 
 -- the breaches of the lines that were read
 pub placed_by : (text : List ℕ) (before after : Listed) (old policy : Policy) (old_lines lines : List PolicyLine) (olds news : List BreachAt)

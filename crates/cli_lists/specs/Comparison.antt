@@ -135,7 +135,7 @@ HasStopped status = (status ≡ 1) ⊎ ((status ≡ 2) ⊎ ((status ≡ 3) ⊎ (
 -- after a write, whose failure has its own
 abbrev pub EndsWith : {T : Type 0} → Result T Error → Bool → ℕ → Type 0
 EndsWith (Ok done) changed status = status ≡ diff_status changed
-EndsWith {T} (Err error) changed status = HasWritten {T} (Err error) status
+EndsWith {T} (Err error) changed status = HasWritten {T = T} (Err error) status
 
 -- the status says whether something differs, unless there is no result
 abbrev pub EndsBy : (Bool → Type 0) → ℕ → Type 0

@@ -1,5 +1,5 @@
 //! The breaches of a policy by two start lists.
-ghost use Rattle.std.specs.Prelude.{◌≡◌, map, IfErr, IfOk};
+ghost use Rattle.std.specs.Prelude.{◌≡◌, [], map, IfErr, IfOk};
 ghost use Rattle.std.specs.Option.{option_copied};
 ghost use Rattle.list_policy.specs.Reading.{Reads};
 ghost use Rattle.list_diff.specs.Breaches.{breach_changes, change_at};
@@ -101,7 +101,7 @@ fn breaches_by<'a>(
     text: &[u8],
     policy: &Policy<'_>,
 ) -> Result<PolicyBreaches<'a>, AllocError>
-    requires reads { Reads lists.entry.after.list.now text.now policy.now }
+    requires reads { Reads lists.after.list.now text.now policy.now }
     requires faults { policy.now.faults.items ≡ [] }
     ensures { IfOk result (λ found. AreBreachesOf text.now
         lists.entry.before.list.now lists.entry.after.list.now found.before.items found.after.items) }

@@ -1,7 +1,7 @@
 //! The differences of two start lists as text, and the exit status by them.
 ghost use Rattle.std.specs.Prelude.{◌≡◌, [], not, IfOk};
 ghost use Rattle.list_diff.specs.Differences.{nothing_differs};
-ghost use Rattle.cli_lists.specs.Comparison.{AreSoFar, Differ, EndsBy, EndsWith, IsTextOf, diff_status};
+ghost use Rattle.cli_lists.specs.Comparison.{AreSoFar, Differ, EndsBy, EndsWith, IsSideOf, IsTextOf, diff_status};
 
 use crate::diff_files::ListPair;
 use cli_base::{made_or_status, status_of};
@@ -116,8 +116,8 @@ fn compare_sides<'a>(
     now: ReachSide<'a>,
     form: DiagnosticForm,
 ) -> Result<DiffText, AllocError>
-    requires was { IsSideOf so_far.entry.before.now was.entry }
-    requires now { IsSideOf so_far.entry.after.now now.entry }
+    requires was { IsSideOf so_far.before.now was }
+    requires now { IsSideOf so_far.after.now now }
     ensures { IfOk result (IsTextOf so_far.entry) }
 {
     let changes = changes(alloc, so_far.before, so_far.after)?;
