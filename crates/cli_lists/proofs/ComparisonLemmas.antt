@@ -46,28 +46,28 @@ stopped_by A status false is broken other =
     inl (other (λ a. absurd (no (broken a))))
 
 -- a failed write has no result
-pub failed_stops : {T : Type 0} (error : Error) (status : ℕ) → HasWritten {T = T} (Err error) status → HasStopped status
-failed_stops error status is = stopped_by (error_kind error ≡ BrokenPipe) status (nat_eq status 141) refl is.0 is.1
+pub failed_stops : (T : Type 0) (error : Error) (status : ℕ) → HasWritten {T = T} (Err error) status → HasStopped status
+failed_stops T error status is = stopped_by (error_kind error ≡ BrokenPipe) status (nat_eq status 141) refl is.0 is.1
 
 -- the status after a write
 pub written : {T : Type 0} (printed : Result T Error) (changed : Bool) (status : ℕ) → EndsWith printed changed status
     → EndsBy (λ c. c ≡ changed) status
 written (Ok done) changed status is = inr (changed, refl, is)
-written {T} (Err error) changed status is = inl (failed_stops {T = T} error status is)
+written {T} (Err error) changed status is = inl (failed_stops T error status is)
 
 -- out of memory
 pub no_memory_stops : {T E : Type 0} (r : Result T ℕ) (made : Result T E) → IfErr r (λ status. (status ≡ 1) × (is_err made ≡ true)) → IfErr r HasStopped
 no_memory_stops (Ok value) made is = tt
 no_memory_stops (Err status) made is = inl is.0
 
--- rounds with a fault, or out of memory
-pub rounds_stop : (status : ℕ) → (status ≡ 1) ⊎ (status ≡ 3) → HasStopped status
-rounds_stop status (inl is) = inl is
-rounds_stop status (inr is) = inr (inr (inl is))
-
 -- what holds of a value that was made
 pub of_made : {T E : Type 0} (P : T → Type 0) (made : Result T E) (value : T) → made ≡ Ok value → IfOk made P → P value
 of_made P made value is holds = subst (λ m. IfOk m P) is holds
+
+-- what holds of the value that was made holds of the one that is returned
+pub on_made : {T E F : Type 0} (P : T → Type 0) (returned : Result T F) (made : Result T E) → IfOk returned (λ value. made ≡ Ok value) → IfOk made P → IfOk returned P
+on_made P (Ok value) made is holds = subst (λ m. IfOk m P) is holds
+on_made P (Err status) made is holds = tt
 
 -- ---- what a status says
 
