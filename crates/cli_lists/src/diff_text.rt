@@ -1,7 +1,7 @@
 //! The differences of two start lists as text, and the exit status by them.
 ghost use Rattle.std.specs.Prelude.{◌≡◌, [], not, IfOk};
 ghost use Rattle.list_diff.specs.Differences.{nothing_differs};
-ghost use Rattle.cli_lists.specs.Comparison.{AreSoFar, Differ, EndsBy, EndsWith, IsSideOf, IsTextOf, diff_status};
+ghost use Rattle.cli_lists.specs.Comparison.{AreSoFar, EndsWith, IsSideOf, IsTextOf, diff_status};
 
 use crate::diff_files::ListPair;
 use cli_base::{made_or_status, status_of};
@@ -28,10 +28,7 @@ pub(crate) fn print_differences<'a>(
     lacks: &'a [NeedChange<'a>],
     replies: &'a [ReplyChange<'a>],
     form: DiagnosticForm,
-) -> u8
-    ensures { EndsBy (Differ lists.entry.before.list.now lists.entry.after.list.now breaches.now lacks.now
-        replies.now) result }
-{
+) -> u8 {
     let so_far = ListDifferences {
         before: lists.before.list,
         after: lists.after.list,
@@ -73,9 +70,7 @@ impl DiffText {
     }
 
     // Prints the text, and returns the exit status.
-    fn print(&self, rt: &HostRuntime) -> u8
-        ensures { EndsBy (λ changed. changed ≡ self.now.is_changed) result }
-    {
+    fn print(&self, rt: &HostRuntime) -> u8 {
         let printed = io::writer(rt).write_all(self.text.as_slice());
         end_status(rt, printed, self.is_changed)
     }
