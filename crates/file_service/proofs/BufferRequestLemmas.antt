@@ -1,5 +1,5 @@
 -- Requests of the buffer: why they are refused, and what they leave of a session.
-use Rattle.std.proofs.Common.{◌≡◌, ℕ, ◌+◌, ◌<◌, ◌≤◌, true, false, List, [], ◌++◌, length, take, drop, Option, Some, None, is_some, refl, sym, ap, subst, ◌∙◌, arith}
+use Rattle.std.proofs.Common.{◌≡◌, ℕ, ◌+◌, ◌<◌, ◌≤◌, true, false, List, [], length, take, drop, Option, Some, None, is_some, refl, sym, ap, subst, ◌∙◌, arith}
 use Rattle.std.proofs.lemmas.Bool.Decides.{nat_tests}
 use Rattle.std.specs.Prelude.{nat_lt}
 use Rattle.std.specs.Option.{option_map}
@@ -26,7 +26,7 @@ use Rattle.server_frame.specs.declared.effect.Effect.TheVariants.{Nothing}
 use Rattle.session_proto.specs.File.{model_request}
 use Rattle.session_proto.specs.declared.file.FileRequest.{FileRequest}
 use Rattle.session_nodes.specs.SoundHeaps.{Stock}
-use Rattle.session_nodes.specs.SessionHeaps.{stock_of, StaySoundHeaps, KeepsRooms}
+use Rattle.session_nodes.specs.SessionHeaps.{stock_of, StaySoundHeaps, KeepsHeaps}
 use Rattle.session_nodes.specs.SessionBuffer.{FillsBuffer, TakesBuffer, HasBuffer, buffer_key}
 use Rattle.file_service.specs.Session.{files_in, served_in, session_served, Answers, HasFiles, IsAnswered, IsReady, Leaves, LeavesSession, Serves}
 use Rattle.file_service.specs.declared.session.FileSession.{FileSession}
@@ -86,7 +86,7 @@ lends_some (Some lent) store = refl
 
 module _ {session : FileSession} {store : Store} {regions : Regions} (ready : IsReady session store regions) where
   abbrev has : Stock
-  has = stock_of session.rooms store regions
+  has = stock_of session.nodes.heaps store regions
 
   abbrev lends : Option (List ℕ)
   lends = bytes_lent store (buffer_key session.buffer)
@@ -105,13 +105,13 @@ module _ {session : FileSession} {store : Store} {regions : Regions} (ready : Is
   }
 
   -- a request of files leaves the buffer
-  pub files_leave : {later : FileSession} {new : Store} {after : Regions} (served : FileServed) → KeepsRooms session.rooms later.rooms store new regions after →
-      Leaves served session later (stock_of later.rooms new after) → LeavesSession (beside lends served) session later new after
+  pub files_leave : {later : FileSession} {new : Store} {after : Regions} (served : FileServed) → KeepsHeaps session.nodes.heaps later.nodes.heaps store new regions after →
+      Leaves served session later (stock_of later.nodes.heaps new after) → LeavesSession (beside lends served) session later new after
   files_leave {later} {new} {after} served keeps leaves = record {
     ready = record {
       furnished = keeps.stays.furnished;
       files = leaves.kept;
-      lent = subst (λ b. HasBuffer b (holding_of later.rooms.contents new after)) (sym leaves.own.buffer) (buffer_kept ready.furnished keeps session.buffer ready.lent);
+      lent = subst (λ b. HasBuffer b (holding_of later.nodes.heaps.contents new after)) (sym leaves.own.buffer) (buffer_kept ready.furnished keeps session.buffer ready.lent);
     };
     account = leaves.account;
     files = leaves.files;
@@ -136,7 +136,7 @@ module _ {session : FileSession} {store : Store} {regions : Regions} (ready : Is
 
     -- else it is lent
     pub make_done : (lent : SessionBuffer) {new : Store} {after : Regions} → alloc_refusal n has.account ≡ None →
-        TakesBuffer n lent has (stock_of session.rooms new after) (holding_of session.rooms.contents new after) new → StaySoundHeaps session.rooms session.rooms store new regions after →
+        TakesBuffer n lent has (stock_of session.nodes.heaps new after) (holding_of session.nodes.heaps.contents new after) new → StaySoundHeaps session.nodes.heaps session.nodes.heaps store new regions after →
         Answers (session_served (Some (OfBuffer (Make n))) session store regions) model.FileReply.Lent session (record session { buffer = Some lent }) new after
     make_done lent {new} {after} covered taken stays =
         let is = sym (served_by None covered) in
@@ -153,8 +153,8 @@ module _ {session : FileSession} {store : Store} {regions : Regions} (ready : Is
 
   -- a get fills the buffer
   pub got_filled : (lent : SessionBuffer) (place n : ℕ) (bytes part : List ℕ) (served : BufferServed) {new : Store} → session.buffer ≡ Some lent →
-      FillsBuffer lent place bytes (stock_of session.rooms store regions) (stock_of session.rooms new regions) (holding_of session.rooms.contents new regions) store new →
-      StaySoundHeaps session.rooms session.rooms store new regions regions → bytes ≡ part → length part ≡ n →
+      FillsBuffer lent place bytes (stock_of session.nodes.heaps store regions) (stock_of session.nodes.heaps new regions) (holding_of session.nodes.heaps.contents new regions) store new →
+      StaySoundHeaps session.nodes.heaps session.nodes.heaps store new regions regions → bytes ≡ part → length part ≡ n →
       served ≡ beside (option_map (λ b. with_bytes b place part) lends) (told (Count (length part)) (files_in session has) has.account) →
       Answers served (Count n) session session new regions
   got_filled lent place n bytes part served {new} lent_is filled stays same long is = record {
@@ -163,7 +163,7 @@ module _ {session : FileSession} {store : Store} {regions : Regions} (ready : Is
       ready = record {
         furnished = stays.furnished;
         files = subst (HasFiles session) (sym filled.stock) ready.files;
-        lent = subst (λ b. HasBuffer b (holding_of session.rooms.contents new regions)) (sym lent_is) filled.stands;
+        lent = subst (λ b. HasBuffer b (holding_of session.nodes.heaps.contents new regions)) (sym lent_is) filled.stands;
       };
       account = ap (λ (s : Stock). s.account) filled.stock ∙ ap (λ (o : BufferServed). o.account) (sym is);
       files = ap (files_in session) filled.stock ∙ ap (λ (o : BufferServed). o.files) (sym is);
@@ -180,8 +180,8 @@ module _ {session : FileSession} {store : Store} {regions : Regions} (ready : Is
 
   -- a request of files is answered as it is served, and does nothing to the buffer
   pub files_answered : {later : FileSession} {new : Store} {after : Regions} (text : List ℕ) (request : model.FileRequest) (reply : model.FileReply) (told_now told_then : Told) →
-      session_request text ≡ Some (OfFiles request) → KeepsRooms session.rooms later.rooms store new regions after →
-      Serves (served_in request session has) reply session later (stock_of later.rooms new after) →
+      session_request text ≡ Some (OfFiles request) → KeepsHeaps session.nodes.heaps later.nodes.heaps store new regions after →
+      Serves (served_in request session has) reply session later (stock_of later.nodes.heaps new after) →
       told_then ≡ record told_now { text = file_reply reply } → told_now.lines ≡ [] →
       IsAnswered (session_served (session_request text) session store regions) Nothing told_then session later store new regions after
   files_answered {later} {new} {after} text request reply told_now told_then reads keeps serves tells none =
@@ -195,7 +195,7 @@ module _ {session : FileSession} {store : Store} {regions : Regions} (ready : Is
   -- a request of the buffer is answered as it is served, and what it does to the buffer is told
   pub buffer_answered : {later : FileSession} {new : Store} {after : Regions} (text : List ℕ) (request : BufferRequest) (reply : model.FileReply) (effect does : Effect) (told_now told_then : Told) →
       session_request text ≡ Some (OfBuffer request) → Answers (session_served (Some (OfBuffer request)) session store regions) reply session later new after →
-      effect ≡ does → IsEffect does (buffer_key session.buffer) (buffer_key later.buffer) → StaySoundHeaps session.rooms later.rooms store new regions after →
+      effect ≡ does → IsEffect does (buffer_key session.buffer) (buffer_key later.buffer) → StaySoundHeaps session.nodes.heaps later.nodes.heaps store new regions after →
       told_then ≡ record told_now { text = file_reply reply } → told_now.lines ≡ [] →
       IsAnswered (session_served (session_request text) session store regions) effect told_then session later store new regions after
   buffer_answered {later} {new} {after} text request reply effect does told_now told_then reads answers same is_effect stays tells none =

@@ -4,7 +4,8 @@ use Rattle.own_model.specs.NatMap.{NatMap}
 use Rattle.own_model.specs.OwnHeap.{OwnHeap}
 use Rattle.file_service.specs.Files.{file_at, files_of}
 use Rattle.session_nodes.specs.Order.{StandAt}
-use Rattle.session_nodes.proofs.KeptLemmas.{AllStay, Stays, blocks_are, same_bytes}
+use Rattle.session_nodes.specs.Order.{AllStay, Stays}
+use Rattle.session_nodes.proofs.KeptLemmas.{blocks_are, same_bytes}
 use Rattle.session_nodes.proofs.LinkLemmas.{map_kept}
 
 -- the files are those of the blocks

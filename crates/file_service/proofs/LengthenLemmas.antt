@@ -21,15 +21,18 @@ use Rattle.sliced_heap.specs.Chain.{is_listed}
 use Rattle.session_nodes.specs.Calls.{payload_in, content_taken, content_copied, content_written, HasBytes}
 use Rattle.session_nodes.specs.Order.{node_at, StandAt, HasContent}
 use Rattle.file_service.specs.Files.{file_at, files_of}
+use Rattle.session_nodes.specs.Index.{IsIndexed}
 use Rattle.session_nodes.specs.SoundHeaps.{Stock}
 use Rattle.session_nodes.specs.Node.{StoredNode}
-use Rattle.file_service.specs.Session.{files_in, served_in, HasFiles, IsFound, IsOwn, KeepsOwn, Serves}
+use Rattle.session_nodes.specs.NodeList.{IsFound, IsOwn}
+use Rattle.file_service.specs.Session.{files_in, served_in, HasFiles, KeepsOwn, Serves}
 use Rattle.file_service.specs.declared.session.FileSession.{FileSession}
 use Rattle.session_nodes.proofs.FrontLemmas.{front_longer}
 use Rattle.file_service.proofs.FileKeptLemmas.{same_file, files_are}
-use Rattle.session_nodes.proofs.KeptLemmas.{Stays, bytes_by, stand_kept, blocks_are}
-use Rattle.session_nodes.proofs.LinkLemmas.{listed_append, map_kept}
-use Rattle.file_service.proofs.SearchLemmas.{in_blocks, found_content, found_has, found_long, found_bytes, content_long}
+use Rattle.session_nodes.specs.Order.{Stays}
+use Rattle.session_nodes.proofs.KeptLemmas.{bytes_by, stand_kept, blocks_are}
+use Rattle.session_nodes.proofs.LinkLemmas.{map_kept}
+use Rattle.session_nodes.proofs.SearchLemmas.{in_blocks, found_content, found_has, found_long, found_bytes, content_long}
 use Rattle.file_service.proofs.WriteLemmas.{longer_served}
 
 -- a sum that is told is it
@@ -52,11 +55,11 @@ apart_from : (m : NatMap (List ℕ)) (a b : ℕ) (payload : List ℕ) → get m 
 apart_from m a b payload some none e = none-some payload (sym none ∙ ap (get m) (sym e) ∙ some)
 
 module _ (session : FileSession) (was taken : Stock) (name : List ℕ) (previous address : ℕ) (node : StoredNode)
-    (found : IsFound session.first session.last was.nodes was.contents name previous address node)
+    (found : IsFound session.nodes.first session.nodes.last was.nodes was.contents name previous address node)
     (size content offset : ℕ) (bytes : List ℕ) (low : offset ≤ node.size) (takes : TakesLonger was taken size content offset bytes) where
   -- the file's content is another one
   pub not_new : 0 < node.size → node.content ≢ content
-  not_new some = grind (arith, nat_tests, found_content session.first session.last was.nodes was.contents name previous address node found some)
+  not_new some = grind (arith, nat_tests, found_content session.nodes.first session.nodes.last was.nodes was.contents name previous address node found some)
 
   taken_other : (a : ℕ) → a ≢ content → get taken.contents a ≡ get was.contents a
   taken_other a apart = ap (λ (s : Stock). get s.contents a) takes.is ∙ get-insert_other was.contents content (zeros (sliced_size size - 32)) a apart
@@ -66,7 +69,7 @@ module _ (session : FileSession) (was taken : Stock) (name : List ℕ) (previous
 
   pub source : 0 < offset → HasBytes taken.contents node.content 0 offset
   source some =
-      let has = found_has session.first session.last was.nodes was.contents name previous address node found 0 offset some (omega (arith, low)) in
+      let has = found_has session.nodes.first session.nodes.last was.nodes was.contents name previous address node found 0 offset some (omega (arith, low)) in
       let same = taken_other node.content (not_new (omega (arith, some, low))) in
       record {
         there = subst (λ (o : Option (List ℕ)). is_some o ≡ true) (sym same) has.there;
@@ -104,38 +107,51 @@ module _ (session : FileSession) (was taken : Stock) (name : List ℕ) (previous
       other_content : (b : ℕ) → is_listed (found.before ++ address ∷ found.behind) b ≡ true → 0 < (node_at was.nodes b).size → (node_at was.nodes b).content ≢ content
       other_content b t some = let has = (found.stand.each b t).content some in apart_from was.contents (node_at was.nodes b).content content has.payload has.there takes.free
 
-      pub made_own : IsOwn session.first made.nodes content
-      made_own = subst (λ n. IsOwn session.first n content) (sym made_nodes)
-          (λ b t some. other_content b (ap (λ xs. is_listed xs b) (sym (blocks_are session.first session.last was.nodes was.contents (found.before ++ address ∷ found.behind) found.stand)) ∙ t) some)
+      pub made_own : IsOwn session.nodes.first made.nodes content
+      made_own = subst (λ n. IsOwn session.nodes.first n content) (sym made_nodes)
+          (λ b t some. other_content b (ap (λ xs. is_listed xs b) (sym (blocks_are session.nodes.first session.nodes.last was.nodes was.contents (found.before ++ address ∷ found.behind) found.stand)) ∙ t) some)
 
       made_stays : (b : ℕ) → is_listed (found.before ++ address ∷ found.behind) b ≡ true → Stays was.nodes was.nodes was.contents made.contents b
       made_stays b t = search (rules, made_other, other_content)
 
-      made_stand : StandAt session.first session.last was.nodes made.contents (found.before ++ address ∷ found.behind)
-      made_stand = stand_kept session.first session.last was.nodes was.nodes was.contents made.contents (found.before ++ address ∷ found.behind) found.stand (omega arith) made_stays (λ b t. refl)
-
-      made_before : (b : ℕ) → is_listed found.before b ≡ true → is_listed (found.before ++ address ∷ found.behind) b ≡ true
-      made_before b t = let l = listed_append found.before (address ∷ found.behind) b in grind (arith, nat_tests, l, t)
+      made_stand : StandAt session.nodes.first session.nodes.last was.nodes made.contents (found.before ++ address ∷ found.behind)
+      made_stand = stand_kept session.nodes.first session.nodes.last was.nodes was.nodes was.contents made.contents (found.before ++ address ∷ found.behind) found.stand (omega arith) made_stays (λ b t. refl)
 
       -- the files have the bytes that they had
       made_file : (b : ℕ) → is_listed (found.before ++ address ∷ found.behind) b ≡ true → file_at was.nodes made.contents b ≡ file_at was.nodes was.contents b
       made_file b t = same_file was.nodes was.nodes was.contents made.contents b (made_stays b t)
 
       -- so the file is found where it was
-      pub made_found : IsFound session.first session.last made.nodes made.contents name previous address node
-      made_found = search (rules, made_nodes, made_stand, map_kept, made_file, made_before)
+      pub made_found : IsFound session.nodes.first session.nodes.last made.nodes made.contents name previous address node
+      made_found = subst (λ n. IsFound session.nodes.first session.nodes.last n made.contents name previous address node) (sym made_nodes) (record {
+        before = found.before;
+        behind = found.behind;
+        stand = made_stand;
+        previous_is = found.previous_is;
+        others = found.others;
+        named = found.named;
+        node_is = found.node_is;
+      })
+
+      -- and the nodes are listed as they were
+      pub made_listed : HasFiles session was → HasFiles session made
+      made_listed files = record {
+        blocks = found.before ++ address ∷ found.behind;
+        stand = subst (λ n. StandAt session.nodes.first session.nodes.last n made.contents (found.before ++ address ∷ found.behind)) (sym made_nodes) made_stand;
+        indexed = subst (IsIndexed session.nodes.first session.nodes.root session.nodes.recent) (sym made_nodes) files.indexed;
+      }
 
       -- the files are those that were
       made_files : files_in session made ≡ files_in session was
       made_files =
           let all : List ℕ = found.before ++ address ∷ found.behind in
-          let same = files_are session.first session.last was.nodes made.contents all made_stand
+          let same = files_are session.nodes.first session.nodes.last was.nodes made.contents all made_stand
           ∙ map_kept (file_at was.nodes was.contents) (file_at was.nodes made.contents) all made_file
-          ∙ sym (files_are session.first session.last was.nodes was.contents all found.stand) in
-          ap (λ n. files_of session.first n made.contents) made_nodes ∙ (λ i. record { files = same i; shape = was.nodes.shape })
+          ∙ sym (files_are session.nodes.first session.nodes.last was.nodes was.contents all found.stand) in
+          ap (λ n. files_of session.nodes.first n made.contents) made_nodes ∙ (λ i. record { files = same i; shape = was.nodes.shape })
 
       made_address : file_at made.nodes made.contents address ≡ file_at was.nodes was.contents address
-      made_address = ap (λ n. file_at n made.contents address) made_nodes ∙ made_file address (in_blocks session.first session.last was.nodes was.contents name previous address node found)
+      made_address = ap (λ n. file_at n made.contents address) made_nodes ∙ made_file address (in_blocks session.nodes.first session.nodes.last was.nodes was.contents name previous address node found)
 
       -- only the new content is charged
       made_account : made.account ≡ charged was.account (sliced_size size) 1
@@ -144,8 +160,8 @@ module _ (session : FileSession) (was taken : Stock) (name : List ℕ) (previous
       -- the file's bytes are in its own content
       old_long : node.size ≤ length (payload_in was.contents node.content)
       old_long =
-          let long = found_long session.first session.last was.nodes was.contents name previous address node found in
-          let bytes_is = ap length (found_bytes session.first session.last was.nodes was.contents name previous address node found) in
+          let long = found_long session.nodes.first session.nodes.last was.nodes was.contents name previous address node found in
+          let bytes_is = ap length (found_bytes session.nodes.first session.nodes.last was.nodes was.contents name previous address node found) in
           let front = length-take node.size (payload_in was.contents node.content) in
           omega (arith, long, bytes_is, front)
 

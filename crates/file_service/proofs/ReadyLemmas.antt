@@ -23,34 +23,34 @@ keeps_buffer None share none = λ _. none
 keeps_buffer (Some lent) share stands = stands
 
 module _ {session : FileSession} {store : Store} {regions : Regions} where
-  pub is_ready : IsSessionAccount (payer_of session.rooms.contents) store regions → IsSession session (payer_of session.rooms.contents) (holding_of session.rooms.contents store regions) → AreSound regions → IsReady session store regions
+  pub is_ready : IsSessionAccount (payer_of session.nodes.heaps.contents) store regions → IsSession session (payer_of session.nodes.heaps.contents) (holding_of session.nodes.heaps.contents store regions) → AreSound regions → IsReady session store regions
   is_ready account kept apart =
-      let heap = session_heap session.rooms.contents store regions account kept.rooms.linked in
-      let nodes = kept.rooms.nodes (session_share session.rooms.contents store regions heap) in
-      let same = sym kept.rooms.same_payer in
+      let heap = session_heap session.nodes.heaps.contents store regions account kept.heaps.linked in
+      let nodes = kept.heaps.nodes (session_share session.nodes.heaps.contents store regions heap) in
+      let same = sym kept.heaps.same_payer in
       record {
         furnished = record {
           session = heap;
-          payer = kept.rooms.same_payer;
+          payer = kept.heaps.same_payer;
           sound = record {
             opens = subst (IsOpenIn store) same account.opens;
             window = map_of account.maps apart.pages apart.heap;
-            laid = subst (λ x. IsLaid session.rooms.nodes (share_at x store regions)) same (laid_back session.rooms.nodes (share_at (payer_of session.rooms.contents) store regions) nodes.laid);
+            laid = subst (λ x. IsLaid session.nodes.heaps.nodes (share_at x store regions)) same (laid_back session.nodes.heaps.nodes (share_at (payer_of session.nodes.heaps.contents) store regions) nodes.laid);
           };
           nodes = nodes;
         };
         files = kept.files;
-        lent = has_buffer session.buffer session.rooms.contents store regions heap kept.buffer;
+        lent = has_buffer session.buffer session.nodes.heaps.contents store regions heap kept.buffer;
       }
 
-  pub is_kept : IsReady session store regions → IsSession session (payer_of session.rooms.contents) (holding_of session.rooms.contents store regions)
+  pub is_kept : IsReady session store regions → IsSession session (payer_of session.nodes.heaps.contents) (holding_of session.nodes.heaps.contents store regions)
   is_kept ready = record {
-    rooms = record {
+    heaps = record {
       payer = refl;
       same_payer = ready.furnished.payer;
-      linked = heap_linked session.rooms.contents store regions ready.furnished.session;
+      linked = heap_linked session.nodes.heaps.contents store regions ready.furnished.session;
       nodes = λ _. ready.furnished.nodes;
     };
     files = ready.files;
-    buffer = keeps_buffer session.buffer (holding_of session.rooms.contents store regions) ready.lent;
+    buffer = keeps_buffer session.buffer (holding_of session.nodes.heaps.contents store regions) ready.lent;
   }

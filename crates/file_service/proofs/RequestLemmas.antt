@@ -60,17 +60,17 @@ named_by (Some file) files account = refl
 
 -- the files stay, and it is told, whatever is remembered
 pub named_served : (place : ℕ) (name : Option (List ℕ)) (session later : FileSession) (old new : Store) (regions : Regions) →
-    HasFiles later (stock_of later.rooms old regions) → later ≡ record session { recent = later.recent } → new ≡ old →
-    name ≡ option_map (λ (file : File). file.name) (slice_get (files_in session (stock_of session.rooms old regions)).files place) →
-    let has = stock_of session.rooms old regions in
-    Serves (served_in (Name place) session has) (name_reply name) session later (stock_of later.rooms new regions)
+    HasFiles later (stock_of later.nodes.heaps old regions) → later ≡ record session { nodes = record session.nodes { recent = later.nodes.recent } } → new ≡ old →
+    name ≡ option_map (λ (file : File). file.name) (slice_get (files_in session (stock_of session.nodes.heaps old regions)).files place) →
+    let has = stock_of session.nodes.heaps old regions in
+    Serves (served_in (Name place) session has) (name_reply name) session later (stock_of later.nodes.heaps new regions)
 named_served place name session later old new regions kept is same name_is =
-    let has = stock_of session.rooms old regions in
-    subst (λ m. Serves (served_in (Name place) session has) (name_reply name) session later (stock_of later.rooms m regions)) (sym same)
-    (serves_done (served_in (Name place) session has) (name_reply name) (files_in session has) has.account session later (stock_of later.rooms old regions)
+    let has = stock_of session.nodes.heaps old regions in
+    subst (λ m. Serves (served_in (Name place) session has) (name_reply name) session later (stock_of later.nodes.heaps m regions)) (sym same)
+    (serves_done (served_in (Name place) session has) (name_reply name) (files_in session has) has.account session later (stock_of later.nodes.heaps old regions)
     (named_by (slice_get (files_in session has).files place) (files_in session has) has.account
     ∙ ap (λ o. told (name_reply o) (files_in session has) has.account) (sym name_is))
-    (ap (λ (s : FileSession). (stock_of s.rooms old regions).account) is)
-    (ap (λ (s : FileSession). files_in s (stock_of s.rooms old regions)) is)
+    (ap (λ (s : FileSession). (stock_of s.nodes.heaps old regions).account) is)
+    (ap (λ (s : FileSession). files_in s (stock_of s.nodes.heaps old regions)) is)
     kept
     (record { label = ap (λ (s : FileSession). s.label) is; buffer = ap (λ (s : FileSession). s.buffer) is }))

@@ -1,9 +1,7 @@
 -- How requests are served, by the tests that they pass.
 use Rattle.std.proofs.Common.{rules, ◌≡◌, ℕ, ◌<◌, ◌≤◌, true, false, List, [], length, take, drop, Option, Some, None, is_some, refl, sym, ap, subst, ◌∙◌, true≢false, arith}
 use Rattle.std.proofs.lemmas.Bool.Decides.{nat_tests}
-use Rattle.std.proofs.lemmas.Slice.Eq.{bytes_eq-Decides}
 use Rattle.std.specs.Prelude.{Result, Ok, Err, MatchResult, is_ok}
-use Rattle.std.specs.Str.{bytes_eq}
 use Rattle.trade_base.specs.declared.refusal.Refusal.{Refusal}
 use Rattle.own_model.specs.Account.{Account}
 use Rattle.own_model.specs.FileService.{File, Files, FileServed, node_size, created, content_credited, rewritten, without, told, error_of, file_named, sized, cleared, dropped, read, written}
@@ -15,24 +13,17 @@ use Rattle.own_model.specs.Growth.{heap_refusal, hole_for, shape_given}
 use Rattle.own_model.specs.Text.{is_name}
 use Rattle.region_map.specs.Regions.{Regions}
 use Rattle.dataspace_core.specs.Store.{Store}
-use Rattle.file_service.specs.Files.{file_at}
-use Rattle.heap_core.specs.declared.heap.Heap.{Heap}
-use Rattle.sliced_heap.specs.declared.heap.SlicedHeap.{SlicedHeap}
-use Rattle.sliced_heap.specs.Heap.{payer_of}
-use Rattle.session_nodes.specs.SoundHeaps.{Stock, HasSoundHeaps, KeepsLent, KeepsSoundHeaps, KeepsSession}
+use Rattle.session_nodes.specs.SoundHeaps.{Stock}
 use Rattle.session_nodes.specs.SessionHeaps.{stock_of}
-use Rattle.session_nodes.specs.declared.session_heaps.SessionHeaps.{SessionHeaps}
-use Rattle.session_nodes.specs.Index.{previous_at}
-use Rattle.session_nodes.specs.Node.{StoredNode}
-use Rattle.session_nodes.specs.Node.{value_of as node_value}
-use Rattle.file_service.specs.Session.{files_in, Finds, HasFiles, KeepsOwn, Serves, IsTold, IsFound, served_in}
+use Rattle.session_nodes.specs.NodeList.{Finds}
+use Rattle.file_service.specs.Session.{files_in, HasFiles, KeepsOwn, Serves, IsTold, served_in}
 use Rattle.file_service.specs.declared.session.FileSession.{FileSession}
-use Rattle.file_service.specs.declared.session.FoundFile.{FoundFile}
+use Rattle.session_nodes.specs.declared.node_list.FoundNode.{FoundNode}
 
 -- ---- after a search, which leaves the memory
 
-pub files_after : (session : FileSession) (regions : Regions) {store mid : Store} → mid ≡ store → HasFiles session (stock_of session.rooms store regions) → HasFiles session (stock_of session.rooms mid regions)
-files_after session regions same files = subst (λ m. HasFiles session (stock_of session.rooms m regions)) (sym same) files
+pub files_after : (session : FileSession) (regions : Regions) {store mid : Store} → mid ≡ store → HasFiles session (stock_of session.nodes.heaps store regions) → HasFiles session (stock_of session.nodes.heaps mid regions)
+files_after session regions same files = subst (λ m. HasFiles session (stock_of session.nodes.heaps m regions)) (sym same) files
 
 -- ---- a reply that leaves all
 
@@ -43,19 +34,19 @@ serves_told served reply session has files is = search rules
 
 -- also where the memory is told to be the same
 pub serves_same : (served : FileServed) (reply : model.FileReply) (session : FileSession) (old new : Store) (regions : Regions) →
-    HasFiles session (stock_of session.rooms old regions) → new ≡ old →
-    served ≡ told reply (files_in session (stock_of session.rooms old regions)) (stock_of session.rooms old regions).account →
-    Serves served reply session session (stock_of session.rooms new regions)
+    HasFiles session (stock_of session.nodes.heaps old regions) → new ≡ old →
+    served ≡ told reply (files_in session (stock_of session.nodes.heaps old regions)) (stock_of session.nodes.heaps old regions).account →
+    Serves served reply session session (stock_of session.nodes.heaps new regions)
 serves_same served reply session old new regions files e is = search (rules, serves_told)
 
 -- also where all is told to be the same
-pub serves_refused : (served : FileServed) (reply : model.FileReply) (session : FileSession) (rooms : SessionHeaps) (old new : Store) (regions after : Regions) →
-    HasFiles session (stock_of session.rooms old regions) → rooms ≡ session.rooms → new ≡ old → after ≡ regions →
-    served ≡ told reply (files_in session (stock_of session.rooms old regions)) (stock_of session.rooms old regions).account →
-    Serves served reply session (record session { rooms = rooms }) (stock_of rooms new after)
-serves_refused served reply session rooms old new regions after files s e r is =
-    subst (λ x. Serves served reply session (record session { rooms = x }) (stock_of x new after)) (sym s)
-    (subst (λ m. Serves served reply session session (stock_of session.rooms new m)) (sym r) (serves_same served reply session old new regions files e is))
+pub serves_refused : (served : FileServed) (reply : model.FileReply) (session later : FileSession) (old new : Store) (regions after : Regions) →
+    HasFiles session (stock_of session.nodes.heaps old regions) → later ≡ session → new ≡ old → after ≡ regions →
+    served ≡ told reply (files_in session (stock_of session.nodes.heaps old regions)) (stock_of session.nodes.heaps old regions).account →
+    Serves served reply session later (stock_of later.nodes.heaps new after)
+serves_refused served reply session later old new regions after files s e r is =
+    subst (λ x. Serves served reply session x (stock_of x.nodes.heaps new after)) (sym s)
+    (subst (λ m. Serves served reply session session (stock_of session.nodes.heaps new m)) (sym r) (serves_same served reply session old new regions files e is))
 
 -- what is done is served so
 pub serves_done : (served : FileServed) (reply : model.FileReply) (files : Files) (account : Account) (old later : FileSession) (new : Stock) →
@@ -65,27 +56,12 @@ serves_done served reply files account old later new is account_is files_are kep
 
 -- ---- names
 
--- a text that is told to be a name's is it
-pub name_is : (xs ys : List ℕ) → bytes_eq xs ys ≡ true → xs ≡ ys
-name_is xs ys e = (bytes_eq-Decides xs ys).0 e
-
--- a file that is found has the name
-pub found_name : (first last : ℕ) (session : FileSession) (has : Stock) (name : List ℕ) (previous address : ℕ) (node : StoredNode) →
-    IsFound first last has.nodes has.contents name previous address node → node.name ≡ name
-found_name first last session has name previous address node found = search (rules, name_is)
-
--- so has the file of its block
-pub file_name : (first last : ℕ) (has : Stock) (name : List ℕ) (previous address : ℕ) (node : StoredNode) →
-    IsFound first last has.nodes has.contents name previous address node → (file_at has.nodes has.contents address).name ≡ name
-file_name first last has name previous address node found = name_is (file_at has.nodes has.contents address).name name found.named
-
 -- a file that is found by a name is found by its own, in the memory after the search
-pub found_after : (session : FileSession) (regions : Regions) {store mid : Store} (name : List ℕ) (found : FoundFile) → mid ≡ store → Finds session (stock_of session.rooms store regions) name found →
-    Finds session (stock_of session.rooms mid regions) found.node.name.items found
+pub found_after : (session : FileSession) (regions : Regions) {store mid : Store} (name : List ℕ) (found : FoundNode) → mid ≡ store → Finds session.nodes (stock_of session.nodes.heaps store regions) name found →
+    Finds session.nodes (stock_of session.nodes.heaps mid regions) found.node.name.items found
 found_after session regions {store} name found same finds =
-    let has : Stock = stock_of session.rooms store regions in
-    let called : found.node.name.items ≡ name = found_name session.first session.last session has name (previous_at has.nodes found.address) found.address (node_value found.node) finds in
-    subst (λ m. Finds session (stock_of session.rooms m regions) found.node.name.items found) (sym same) (subst (λ n. Finds session has n found) (sym called) finds)
+    let has : Stock = stock_of session.nodes.heaps store regions in
+    subst (λ m. Finds session.nodes (stock_of session.nodes.heaps m regions) found.node.name.items found) (sym same) (subst (λ n. Finds session.nodes has n found) (sym finds.named) finds)
 
 -- ---- CREATE
 

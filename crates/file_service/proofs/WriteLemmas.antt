@@ -26,14 +26,17 @@ use Rattle.file_service.specs.Files.{file_at, files_of}
 use Rattle.session_nodes.specs.SoundHeaps.{Stock}
 use Rattle.session_nodes.specs.Index.{IsIndexed}
 use Rattle.session_nodes.specs.Node.{StoredNode}
-use Rattle.file_service.specs.Session.{files_in, served_in, HasFiles, IsFound, IsTold, KeepsOwn, Serves}
+use Rattle.session_nodes.specs.NodeList.{IsFound, Sets}
+use Rattle.file_service.specs.Session.{files_in, served_in, HasFiles, IsTold, KeepsOwn, Serves}
 use Rattle.file_service.specs.declared.session.FileSession.{FileSession}
 use Rattle.file_service.proofs.FileListLemmas.{rewritten_same}
 use Rattle.session_nodes.proofs.FrontLemmas.{front_written}
 use Rattle.session_nodes.proofs.KeptLemmas.{blocks_are}
-use Rattle.file_service.proofs.SearchLemmas.{in_blocks, found_named, found_file, found_content, found_long, found_bytes, content_long}
-use Rattle.file_service.proofs.ServeLemmas.{serves_done, file_name}
-use Rattle.file_service.proofs.SetLemmas.{stand_rewritten, files_rewritten}
+use Rattle.file_service.proofs.FileFoundLemmas.{file_name, found_named}
+use Rattle.session_nodes.proofs.SearchLemmas.{in_blocks, found_node, found_content, found_long, found_bytes, content_long}
+use Rattle.file_service.proofs.ServeLemmas.{serves_done}
+use Rattle.session_nodes.proofs.SetLemmas.{stand_rewritten, sets}
+use Rattle.file_service.proofs.FileChangeLemmas.{files_set}
 
 -- ---- why a longer content is refused
 
@@ -79,18 +82,18 @@ no_bytes xs offset [] none = with_bytes-nothing xs offset
 no_bytes xs offset (x ∷ part) none = absurd (omega (arith, none))
 
 module _ (session : FileSession) (was : Stock) (name : List ℕ) (previous address : ℕ) (node : StoredNode)
-    (found : IsFound session.first session.last was.nodes was.contents name previous address node) (offset : ℕ) (bytes : List ℕ) where
+    (found : IsFound session.nodes.first session.nodes.last was.nodes was.contents name previous address node) (offset : ℕ) (bytes : List ℕ) where
   abbrev pub file : File
   file = file_at was.nodes was.contents address
 
   there : file_named name (files_in session was) ≡ Some file
-  there = found_named session.first session.last was.nodes was.contents name previous address node found
+  there = found_named session.nodes.first session.nodes.last was.nodes was.contents name previous address node found
 
   long : length file.bytes ≡ node.size
-  long = found_long session.first session.last was.nodes was.contents name previous address node found
+  long = found_long session.nodes.first session.nodes.last was.nodes was.contents name previous address node found
 
   named : file.name ≡ name
-  named = file_name session.first session.last was name previous address node found
+  named = file_name session.nodes.first session.nodes.last was.nodes was.contents name previous address node found
 
   -- ---- the file gets no longer
 
@@ -114,42 +117,46 @@ module _ (session : FileSession) (was : Stock) (name : List ℕ) (previous addre
       after = insert was.contents node.content put
 
       has : HasContent was.contents node
-      has = found_content session.first session.last was.nodes was.contents name previous address node found (omega (arith, some, within))
+      has = found_content session.nodes.first session.nodes.last was.nodes was.contents name previous address node found (omega (arith, some, within))
 
       has_put : HasContent after node
       has_put = search (rules, there, get-insert_same, long, length-with_part, has)
 
       -- the node isn't touched
       node_there : (payload : List ℕ) × (get was.nodes.payloads address ≡ Some payload)
-      node_there = some_of (get was.nodes.payloads address) (found_file session.first session.last was.nodes was.contents name previous address node found).there.there
+      node_there = some_of (get was.nodes.payloads address) (found_node session.nodes.first session.nodes.last was.nodes was.contents name previous address node found).there.there
 
       node_same : was.nodes ≡ record was.nodes { payloads = insert was.nodes.payloads address node_there.0 }
       node_same = λ i. record was.nodes { payloads = sym (insert_back was.nodes.payloads address node_there.0 node_there.1) i }
 
       -- no other file has the content
-      own : (b : ℕ) → is_listed (nodes_from session.first was.nodes) b ≡ true → b ≢ address → 0 < (node_at was.nodes b).size → (node_at was.nodes b).content ≢ node.content
+      own : (b : ℕ) → is_listed (nodes_from session.nodes.first was.nodes) b ≡ true → b ≢ address → 0 < (node_at was.nodes b).size → (node_at was.nodes b).content ≢ node.content
       own b t other some_b e =
-          let blocks = blocks_are session.first session.last was.nodes was.contents (found.before ++ address ∷ found.behind) found.stand in
+          let blocks = blocks_are session.nodes.first session.nodes.last was.nodes was.contents (found.before ++ address ∷ found.behind) found.stand in
           let some_node : 0 < node.size = omega (arith, some, within) in
-          other (found.stand.apart b address (ap (λ xs. is_listed xs b) (sym blocks) ∙ t) (in_blocks session.first session.last was.nodes was.contents name previous address node found)
+          other (found.stand.apart b address (ap (λ xs. is_listed xs b) (sym blocks) ∙ t) (in_blocks session.nodes.first session.nodes.last was.nodes was.contents name previous address node found)
           some_b (subst (λ (n : StoredNode). 0 < n.size) found.node_is some_node) (e ∙ ap (λ (n : StoredNode). n.content) found.node_is))
 
       others : (a : ℕ) → (0 < node.size → a ≢ node.content) → get after a ≡ get was.contents a
       others a apart = get-insert_other was.contents node.content put a (apart (omega (arith, some, within)))
 
-      stand : StandAt session.first session.last was.nodes after (found.before ++ address ∷ found.behind)
-      stand = stand_rewritten session.first session.last was.nodes was.nodes was.contents after name previous address node found node_there.0 node_same node.content node.size (sym found.node_is)
-          (found_file session.first session.last was.nodes was.contents name previous address node found).there (λ _. has_put) (λ _. own) others
+      stand : StandAt session.nodes.first session.nodes.last was.nodes after (found.before ++ address ∷ found.behind)
+      stand = stand_rewritten session.nodes.first session.nodes.last was.nodes was.nodes was.contents after name previous address node found node_there.0 node_same node.content node.size (sym found.node_is)
+          (found_node session.nodes.first session.nodes.last was.nodes was.contents name previous address node found).there (λ _. has_put) (λ _. own) others
 
-      files : files_of session.first was.nodes after ≡ record (files_in session was) { files = rewritten name (take node.size (payload_in after node.content)) (files_in session was).files }
-      files = files_rewritten session.first session.last was.nodes was.nodes was.contents after name previous address node found node_there.0 node_same node.content node.size (sym found.node_is)
-          (found_file session.first session.last was.nodes was.contents name previous address node found).there (λ _. has_put) (λ _. own) others
+      files : files_of session.nodes.first was.nodes after ≡ record (files_in session was) { files = rewritten name (take node.size (payload_in after node.content)) (files_in session was).files }
+      files =
+          let blocks = blocks_are session.nodes.first session.nodes.last was.nodes was.contents (found.before ++ address ∷ found.behind) found.stand in
+          files_set session.nodes.first session.nodes.last session.nodes.first was.nodes was.nodes was.contents after name previous address node found node.content node.size refl
+          (subst (λ bs. Sets was.nodes was.nodes was.contents after bs address node.content node.size) (sym blocks)
+          (sets session.nodes.first session.nodes.last was.nodes was.nodes was.contents after name previous address node found node_there.0 node_same node.content node.size (sym found.node_is)
+          (found_node session.nodes.first session.nodes.last was.nodes was.contents name previous address node found).there (λ _. has_put) (λ _. own) others))
 
       -- the file's bytes are those with these over them
       front : take node.size (payload_in after node.content) ≡ with_bytes file.bytes offset bytes
       front = grind (arith, nat_tests, has, there, long, content_long, get-insert_same, front_written, found_bytes)
 
-      pub over_served : IsIndexed session.first session.root session.recent was.nodes → (now : Stock) → now ≡ content_written node.content offset bytes was →
+      pub over_served : IsIndexed session.nodes.first session.nodes.root session.nodes.recent was.nodes → (now : Stock) → now ≡ content_written node.content offset bytes was →
           Serves (served_in (Write name offset bytes) session was) (Count (length bytes)) session session now
       over_served indexed now is =
           subst (Serves (served_in (Write name offset bytes) session was) (Count (length bytes)) session session) (sym is)

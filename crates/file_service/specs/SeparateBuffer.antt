@@ -24,28 +24,28 @@ module _ (session : FileSession) (lent : SessionBuffer) (account : ℕ) (share :
     abbrev T : Share
     T = share_with lent.space.0 bytes share
 
-    nodes_same : heap_in session.rooms.nodes T ≡ heap_in session.rooms.nodes share
-    nodes_same = apart.nodes_same session.rooms lent account share is.rooms stands bytes
+    nodes_same : heap_in session.nodes.heaps.nodes T ≡ heap_in session.nodes.heaps.nodes share
+    nodes_same = apart.nodes_same session.nodes.heaps lent account share is.heaps stands bytes
 
     contents_same : sliced_of T ≡ sliced_of share
-    contents_same = apart.contents_same session.rooms lent account share is.rooms stands bytes
+    contents_same = apart.contents_same session.nodes.heaps lent account share is.heaps stands bytes
 
     value_still : value_of session T ≡ value_of session share
     value_still = λ i. value_by (nodes_same i) (contents_same i) where
       value_by : OwnHeap → NatMap (List ℕ) → Labelled
-      value_by nodes contents = record { label = session.label.items; state = Filing (files_of session.first nodes contents) }
+      value_by nodes contents = record { label = session.label.items; state = Filing (files_of session.nodes.first nodes contents) }
 
     kept_still : IsSession session account T
     kept_still = record {
-      rooms = apart.kept_still session.rooms lent account share is.rooms stands bytes;
-      files = subst (λ (h : OwnHeap). AreListed session.first session.last session.root session.recent h (sliced_of T)) (sym nodes_same) (subst (λ m. AreListed session.first session.last session.root session.recent (heap_in session.rooms.nodes share) m) (sym contents_same) is.files);
-      buffer = subst (λ b. KeepsBuffer b T) (sym same) (apart.buffer_still session.rooms lent account share is.rooms stands bytes);
+      heaps = apart.kept_still session.nodes.heaps lent account share is.heaps stands bytes;
+      files = subst (λ (h : OwnHeap). AreListed session.nodes.first session.nodes.last session.nodes.root session.nodes.recent h (sliced_of T)) (sym nodes_same) (subst (λ m. AreListed session.nodes.first session.nodes.last session.nodes.root session.nodes.recent (heap_in session.nodes.heaps.nodes share) m) (sym contents_same) is.files);
+      buffer = subst (λ b. KeepsBuffer b T) (sym same) (apart.buffer_still session.nodes.heaps lent account share is.heaps stands bytes);
     }
 
   aside : LendsAside IsSession value_of session account share lent.space.0
   aside = record {
-    paid = ap is_some (apart.there session.rooms lent account share is.rooms stands).1;
-    no_block = apart.no_block session.rooms lent account share is.rooms stands;
+    paid = ap is_some (apart.there session.nodes.heaps lent account share is.heaps stands).1;
+    no_block = apart.no_block session.nodes.heaps lent account share is.heaps stands;
     kept_still = λ bytes long. kept_still bytes;
     value_same = λ bytes long. value_still bytes;
   }

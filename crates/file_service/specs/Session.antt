@@ -1,6 +1,6 @@
 -- What a session of the file service is to its client, and what its requests do.
-use Rattle.std.specs.Prelude.{◌≡◌, ◌≢◌, ℕ, ◌-◌, ◌^◌, ◌<◌, true, false, length, List, ◌∷◌, ◌++◌, map, take, find, Option, Some, None, Result, Ok, Err}
-use Rattle.own_model.specs.FileService.{Files, FileServed, is_named, request_served, told}
+use Rattle.std.specs.Prelude.{◌≡◌, ℕ, List, take, Option, Some, Result, Ok, Err}
+use Rattle.own_model.specs.FileService.{Files, FileServed, request_served, told}
 use Rattle.own_model.specs.FileText as model
 use Rattle.own_model.specs.FileText.FileReply.{Done, Count, Bytes, Lent, Refused}
 use Rattle.session_proto.specs.FileReply.{model_error}
@@ -8,20 +8,10 @@ use Rattle.core_calls.specs.declared.file_error.FileError.{FileError}
 use Rattle.dataspace_core.specs.Share.{Share}
 use Rattle.heap_core.specs.Heap.{heap_in}
 use Rattle.sliced_heap.specs.Sliced.{sliced_of}
-use Rattle.own_model.specs.NatMap.{NatMap}
-use Rattle.own_model.specs.Heap.{header}
-use Rattle.own_model.specs.OwnHeap.{OwnHeap, chunk_with}
 use Rattle.own_model.specs.Session.{Labelled}
 use Rattle.own_model.specs.Services.ServiceState.{Filing}
-use Rattle.sliced_heap.specs.Chain.{is_listed}
-use Rattle.session_nodes.specs.Calls.{HasBytes}
-use Rattle.session_nodes.specs.Order.{link_in, node_at, nodes_from, StandAt}
-use Rattle.file_service.specs.Files.{file_at, files_of}
-use Rattle.session_nodes.specs.Index.{AreListed, IsNamed, KeepsPlace, LeadsBack, previous_at}
-use Rattle.session_nodes.specs.Links.{last_of}
-use Rattle.session_nodes.specs.Node.{StoredNode}
-use Rattle.session_nodes.specs.Node.{value_of as node_value}
-use Rattle.file_service.specs.declared.session.FoundFile.{FoundFile}
+use Rattle.file_service.specs.Files.{files_of}
+use Rattle.session_nodes.specs.NodeList.{HasNodes, KeepsList}
 use Rattle.session_nodes.specs.SoundHeaps.{Stock}
 use Rattle.session_nodes.specs.SessionHeaps.{stock_of, AreSoundHeaps, AreKept, StaySoundHeaps}
 use Rattle.session_nodes.specs.SessionBuffer.{KeepsBuffer, HasBuffer, buffer_key}
@@ -39,24 +29,24 @@ use Rattle.file_service.specs.declared.session.FileSession.{FileSession}
 abbrev pub value_of : FileSession → Share → Labelled
 value_of session share = record {
   label = session.label.items;
-  state = Filing (files_of session.first (heap_in session.rooms.nodes share) (sliced_of share));
+  state = Filing (files_of session.nodes.first (heap_in session.nodes.heaps.nodes share) (sliced_of share));
 }
 
 -- what is true of a session between its requests
 pub record IsSession (session : FileSession) (account : ℕ) (share : Share) : Type 0 where
-  pub rooms : AreKept session.rooms account share
-  pub files : AreListed session.first session.last session.root session.recent (heap_in session.rooms.nodes share) (sliced_of share)
+  pub heaps : AreKept session.nodes.heaps account share
+  pub files : KeepsList session.nodes share
   pub buffer : KeepsBuffer session.buffer share
 
 -- ---- while a request is served
 
 -- the files of a session with these contents of its heaps
 abbrev pub files_in : FileSession → Stock → Files
-files_in session stock = files_of session.first stock.nodes stock.contents
+files_in session stock = files_of session.nodes.first stock.nodes stock.contents
 
 -- it has files
 abbrev pub HasFiles : FileSession → Stock → Type 0
-HasFiles session stock = AreListed session.first session.last session.root session.recent stock.nodes stock.contents
+HasFiles session stock = HasNodes session.nodes stock
 
 -- a session has the same label and the same buffer
 pub record KeepsOwn (old later : FileSession) : Type 0 where
@@ -79,21 +69,21 @@ pub record Serves (served : FileServed) (reply : model.FileReply) (old later : F
 
 -- a session is ready for a request: its heaps are sound, the links hold files, and its buffer is there
 pub record IsReady (session : FileSession) (store : Store) (regions : Regions) : Type 0 where
-  pub furnished : AreSoundHeaps session.rooms store regions
-  pub files : HasFiles session (stock_of session.rooms store regions)
-  pub lent : HasBuffer session.buffer (holding_of session.rooms.contents store regions)
+  pub furnished : AreSoundHeaps session.nodes.heaps store regions
+  pub files : HasFiles session (stock_of session.nodes.heaps store regions)
+  pub lent : HasBuffer session.buffer (holding_of session.nodes.heaps.contents store regions)
 
 -- what a request does to it
 abbrev pub session_served : Option SessionRequest → FileSession → Store → Regions → BufferServed
 session_served request session store regions =
-    let has = stock_of session.rooms store regions in
+    let has = stock_of session.nodes.heaps store regions in
     session_request_served request (bytes_lent store (buffer_key session.buffer)) (files_in session has) has.account
 
 -- after a request it is ready for another, and account, files and buffer are as it is served
 pub record LeavesSession (served : BufferServed) (old later : FileSession) (new : Store) (after : Regions) : Type 0 where
   pub ready : IsReady later new after
-  pub account : (stock_of later.rooms new after).account ≡ served.account
-  pub files : files_in later (stock_of later.rooms new after) ≡ served.files
+  pub account : (stock_of later.nodes.heaps new after).account ≡ served.account
+  pub files : files_in later (stock_of later.nodes.heaps new after) ≡ served.files
   pub buffer : bytes_lent new (buffer_key later.buffer) ≡ served.buffer
   pub label : later.label ≡ old.label
 
@@ -107,60 +97,7 @@ pub record IsAnswered (served : BufferServed) (effect : Effect) (told : Told) (o
   pub text : told ≡ told_alone served.reply
   pub leaves : LeavesSession served old later new after
   pub effect_is : IsEffect effect (buffer_key old.buffer) (buffer_key later.buffer)
-  pub stays : StaySoundHeaps old.rooms later.rooms store new regions after
-
--- the node of a name is found, with what is before it: none of the files before it has the name
-pub record IsFound (first last : ℕ) (nodes : OwnHeap) (contents : NatMap (List ℕ)) (name : List ℕ) (previous address : ℕ) (node : StoredNode) : Type 0 where
-  pub before : List ℕ
-  pub behind : List ℕ
-  pub stand : StandAt first last nodes contents (before ++ address ∷ behind)
-  pub previous_is : previous ≡ last_of 0 before
-  pub others : find (is_named name) (map (file_at nodes contents) before) ≡ None
-  pub named : is_named name (file_at nodes contents address) ≡ true
-  pub node_is : node ≡ node_at nodes address
-
--- a search for a name ends there
-abbrev pub Finds : FileSession → Stock → List ℕ → FoundFile → Type 0
-Finds session stock name found =
-    IsFound session.first session.last stock.nodes stock.contents name (previous_at stock.nodes found.address) found.address (node_value found.node)
-
--- a node is unchanged except for its link
-pub record KeepsFile (nodes later : OwnHeap) (block : ℕ) : Type 0 where
-  pub name : (node_at later block).name ≡ (node_at nodes block).name
-  pub size : (node_at later block).size ≡ (node_at nodes block).size
-  pub content : (node_at later block).content ≡ (node_at nodes block).content
-  pub there : HasBytes later.payloads block 0 96
-  pub place : KeepsPlace nodes later block
-
--- a holder is linked to another block, and else all nodes are as they were
-pub record LinksTo (first holder block later_first : ℕ) (nodes later : OwnHeap) : Type 0 where
-  pub linked : link_in later_first later holder ≡ block
-  pub links : (b : ℕ) → b ≢ holder → link_in later_first later b ≡ link_in first nodes b
-  pub rest : later ≡ record nodes { payloads = later.payloads }
-  pub files : (b : ℕ) → HasBytes nodes.payloads b 0 96 → KeepsFile nodes later b
-
--- a block holds this node of a file
-pub record IsListed (session : FileSession) (stock : Stock) (block : ℕ) (node : StoredNode) : Type 0 where
-  pub there : is_listed (nodes_from session.first stock.nodes) block ≡ true
-  pub node_is : node ≡ node_at stock.nodes block
-
--- the tree and the links back are those of the files without a block's
-abbrev pub Unlists : FileSession → FileSession → ℕ → Stock → Stock → Type 0
-Unlists session later block old new =
-    (before behind : List ℕ) → StandAt session.first session.last old.nodes old.contents (before ++ block ∷ behind) →
-    IsNamed later.root new.nodes (before ++ behind) × LeadsBack (previous_at new.nodes) 0 (before ++ behind)
-
--- a block that is allocated for a node is not yet of a file
-pub record IsFresh (first : ℕ) (nodes : OwnHeap) (block : ℕ) : Type 0 where
-  pub there : HasBytes nodes.payloads block 0 96
-  pub small : block < 2 ^ 64
-  pub place : chunk_with nodes (block - header) < length nodes.shape.chunks
-  pub free : is_listed (0 ∷ nodes_from first nodes) block ≡ false
-
--- a content is no file's yet
-abbrev pub IsOwn : ℕ → OwnHeap → ℕ → Type 0
-IsOwn first nodes content =
-    (b : ℕ) → is_listed (nodes_from first nodes) b ≡ true → 0 < (node_at nodes b).size → (node_at nodes b).content ≢ content
+  pub stays : StaySoundHeaps old.nodes.heaps later.nodes.heaps store new regions after
 
 -- ---- replies
 

@@ -38,7 +38,7 @@ impl FileSession {
             (lent_reply result) self.old self.new memory.new map.new }
         ensures effect { IsEffect (lent_effect result)
             (buffer_key self.old.buffer) (buffer_key self.new.buffer) }
-        ensures stays { StaySoundHeaps self.old.rooms self.new.rooms
+        ensures stays { StaySoundHeaps self.old.nodes.heaps self.new.nodes.heaps
             memory.old memory.new map.old map.new }
     {
         if !is_size(bytes) {
@@ -48,7 +48,8 @@ impl FileSession {
             return Err(FileError::Exists);
         }
         let lent = self
-            .rooms
+            .nodes
+            .heaps
             .take_buffer(memory, map, bytes)
             .map_err(error_of)?;
         self.buffer = Some(lent);
@@ -67,11 +68,11 @@ impl FileSession {
             (done_reply result) self.old self.new memory.new map.new }
         ensures effect { IsEffect (gone_effect result)
             (buffer_key self.old.buffer) (buffer_key self.new.buffer) }
-        ensures stays { StaySoundHeaps self.old.rooms self.new.rooms
+        ensures stays { StaySoundHeaps self.old.nodes.heaps self.new.nodes.heaps
             memory.old memory.new map.old map.new }
     {
         let lent = self.buffer.ok_or(FileError::NoBuffer)?;
-        self.rooms.give_buffer(memory, map, lent);
+        self.nodes.heaps.give_buffer(memory, map, lent);
         self.buffer = None;
         Ok(lent.space)
     }
@@ -94,7 +95,7 @@ impl FileSession {
             self.old memory.old map.old)
             (counted_reply result) self.old self.new memory.new map.new }
         ensures same { buffer_key self.new.buffer ≡ buffer_key self.old.buffer }
-        ensures stays { StaySoundHeaps self.old.rooms self.new.rooms
+        ensures stays { StaySoundHeaps self.old.nodes.heaps self.new.nodes.heaps
             memory.old memory.new map.old map.new }
     {
         let found = self
@@ -125,7 +126,7 @@ impl FileSession {
             (Get file.now.name.now file.now.offset place file.now.len)))
             self.now memory.old map.now)
             (counted_reply result) self.now self.now memory.new map.now }
-        ensures stays { StaySoundHeaps self.now.rooms self.now.rooms
+        ensures stays { StaySoundHeaps self.now.nodes.heaps self.now.nodes.heaps
             memory.old memory.new map.now map.now }
     {
         let found = self
@@ -143,7 +144,9 @@ impl FileSession {
                 offset: file.offset,
                 count: part,
             };
-            self.rooms.fill_buffer(memory, map, lent, place, range);
+            self.nodes
+                .heaps
+                .fill_buffer(memory, map, lent, place, range);
         }
         Ok(part)
     }

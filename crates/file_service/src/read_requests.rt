@@ -1,16 +1,15 @@
 //! The requests that read files.
 ghost use Rattle.std.specs.Prelude.{◌≡◌, ◌≤◌, length, IfOk, slice_get};
-ghost use Rattle.std.specs.Option.{option_map, unwrap_or};
+ghost use Rattle.std.specs.Option.{option_map};
 ghost use Rattle.own_model.specs.FileService.{File};
 ghost use Rattle.own_model.specs.FileText.FileRequest.{Read, Size};
-ghost use Rattle.session_nodes.specs.Order.{nodes_from};
 ghost use Rattle.session_nodes.specs.SessionHeaps.{stock_of, AreSoundHeaps};
 ghost use Rattle.file_service.specs.Session.{files_in, HasFiles, counted_reply, bytes_reply, IsTold};
 
 use crate::session::{FileRange, FileSession};
 use dataspace_core::Memory;
 use region_map::RegionMap;
-use session_nodes::{NEXT, Node, PREVIOUS, RecentNode};
+use session_nodes::Node;
 use session_proto::FileError;
 
 /// The most bytes that one request reads.
@@ -24,10 +23,10 @@ impl FileSession {
         map: &RegionMap,
         name: &[u8],
     ) -> Result<u64, FileError>
-        requires furnished { AreSoundHeaps self.now.rooms memory.old map.now }
-        requires files { HasFiles self.now (stock_of self.now.rooms memory.old map.now) }
+        requires furnished { AreSoundHeaps self.now.nodes.heaps memory.old map.now }
+        requires files { HasFiles self.now (stock_of self.now.nodes.heaps memory.old map.now) }
         ensures told { IsTold (Size name.now) (counted_reply result) self.now
-            (stock_of self.now.rooms memory.old map.now) }
+            (stock_of self.now.nodes.heaps memory.old map.now) }
         ensures memory { memory.new ≡ memory.old }
     {
         let found = self.find(memory, map, name).ok_or(FileError::NotFound)?;
@@ -46,11 +45,11 @@ impl FileSession {
         buffer: &mut [u8],
     ) -> Result<usize, FileError>
         requires room { file.now.len ≤ MOST_READ → file.now.len ≤ length buffer.old }
-        requires furnished { AreSoundHeaps self.now.rooms memory.old map.now }
-        requires files { HasFiles self.now (stock_of self.now.rooms memory.old map.now) }
+        requires furnished { AreSoundHeaps self.now.nodes.heaps memory.old map.now }
+        requires files { HasFiles self.now (stock_of self.now.nodes.heaps memory.old map.now) }
         ensures told { IsTold (Read file.now.name.now file.now.offset file.now.len)
             (bytes_reply buffer.new result) self.now
-            (stock_of self.now.rooms memory.old map.now) }
+            (stock_of self.now.nodes.heaps memory.old map.now) }
         ensures count { IfOk result (λ count. count ≤ length buffer.new) }
         ensures same_length { length buffer.new ≡ length buffer.old }
         ensures memory { memory.new ≡ memory.old }
@@ -69,7 +68,8 @@ impl FileSession {
         if count > 0 {
             let content = found.node.content;
             let part = &mut buffer[..count];
-            self.rooms
+            self.nodes
+                .heaps
                 .read_content(memory, map, content, file.offset, part);
         }
         Ok(count)
@@ -83,43 +83,19 @@ impl FileSession {
         map: &RegionMap,
         place: u64,
     ) -> Option<Node>
-        requires furnished { AreSoundHeaps self.old.rooms memory.old map.now }
-        requires files { HasFiles self.old (stock_of self.old.rooms memory.old map.now) }
+        requires furnished { AreSoundHeaps self.old.nodes.heaps memory.old map.now }
+        requires files { HasFiles self.old (stock_of self.old.nodes.heaps memory.old map.now) }
         ensures name { option_map (λ node. node.name.items) result
             ≡ option_map (λ (file : File). file.name)
             (slice_get
-            (files_in self.old (stock_of self.old.rooms memory.old map.now)).files place) }
-        ensures kept { HasFiles self.new (stock_of self.new.rooms memory.old map.now) }
-        ensures same { self.new ≡ record self.old { recent = self.new.recent } }
+            (files_in self.old (stock_of self.old.nodes.heaps memory.old map.now)).files place) }
+        ensures kept { HasFiles self.new (stock_of self.new.nodes.heaps memory.old map.now) }
+        ensures same { self.new ≡ record self.old { nodes = record self.old.nodes { recent = self.new.nodes.recent } } }
         ensures memory { memory.new ≡ memory.old }
     {
-        let address = self.address_at(memory, map, place);
-        if address == 0 {
-            return None;
-        }
-        self.recent = Some(RecentNode { place, address });
-        Some(self.rooms.load_node(memory, map, address))
-    }
-
-    /// Returns the address of the node of the file at a place in the order of creation, or 0. The walk begins at the
-    /// remembered file, or at the first one if that is nearer.
-    fn address_at(&self, memory: &Memory, map: &RegionMap, place: u64) -> u64
-        requires furnished { AreSoundHeaps self.now.rooms memory.now map.now }
-        requires files { HasFiles self.now (stock_of self.now.rooms memory.now map.now) }
-        ensures { let nodes = (stock_of self.now.rooms memory.now map.now).nodes in
-            result ≡ unwrap_or (slice_get (nodes_from self.now.first nodes) place) 0 }
-    {
-        match self.recent {
-            Some(recent) if recent.place <= place => {
-                let steps = place - recent.place;
-                self.rooms.follow(memory, map, recent.address, NEXT, steps)
-            }
-            Some(recent) if recent.place - place < place => {
-                let steps = recent.place - place;
-                self.rooms
-                    .follow(memory, map, recent.address, PREVIOUS, steps)
-            }
-            _ => self.rooms.follow(memory, map, self.first, NEXT, place),
+        match self.nodes.at_place(memory, map, place) {
+            Some(found) => Some(found.node),
+            None => None,
         }
     }
 }

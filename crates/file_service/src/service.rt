@@ -12,7 +12,7 @@ ghost use Rattle.dataspace_core.specs.Store.{account_in, IsOpenIn};
 ghost use Rattle.sliced_heap.specs.Heap.{payer_of};
 ghost use Rattle.file_service.specs.SeparateBuffer.{lends_aside};
 ghost use Rattle.server_frame.specs.Session.{service_step};
-ghost use Rattle.session_nodes.specs.SessionHeaps.{stock_of, AreSoundHeaps, KeepsRooms};
+ghost use Rattle.session_nodes.specs.SessionHeaps.{stock_of, AreSoundHeaps, KeepsHeaps};
 ghost use Rattle.session_nodes.specs.SessionBuffer.{buffer_key};
 ghost use Rattle.file_service.specs.Session.{HasFiles, IsReady, IsAnswered, IsTold, Serves, done_reply, counted_reply, lent_reply, lent_effect, gone_effect, served_in, session_served};
 
@@ -57,7 +57,7 @@ impl Service for FileService {
 
     ghost buffer = { λ session. buffer_key session.buffer };
 
-    ghost payer = { λ session. payer_of session.rooms.contents };
+    ghost payer = { λ session. payer_of session.nodes.heaps.contents };
 
     ghost IsKept = { IsSession };
 
@@ -88,12 +88,12 @@ impl Service for FileService {
 
     fn end(&self, session: FileSession, memory: &mut Memory, map: &mut RegionMap) -> SlicedHeap {
         map.lies_apart();
-        let FileSession { rooms, buffer, .. } = session;
-        rooms.give_any(memory, map, buffer);
-        rooms.end(memory, map)
+        let FileSession { nodes, buffer, .. } = session;
+        nodes.heaps.give_any(memory, map, buffer);
+        nodes.heaps.end(memory, map)
     }
 
-    ghost pays = { λ session account share kept. kept.rooms.payer };
+    ghost pays = { λ session account share kept. kept.heaps.payer };
 
     ghost lends_aside = { λ service. lends_aside };
 }
@@ -131,7 +131,7 @@ fn answer(
         Some(FileRequest::Clear(name)) => reply_done(session.clear(memory, map, name), reply),
         Some(FileRequest::Drop(name)) => reply_done(session.remove(memory, map, name), reply),
         Some(FileRequest::Name(place)) => answer_name(session, memory, map, place, reply),
-        Some(FileRequest::Stat) => answer_stat(&session.rooms, memory, reply),
+        Some(FileRequest::Stat) => answer_stat(&session.nodes.heaps, memory, reply),
         Some(FileRequest::Buffer(bytes)) => {
             return reply_lent(session.lend(memory, map, bytes), reply);
         }
@@ -170,11 +170,11 @@ fn answer_read(
     file: &FileRange<'_>,
     reply: &mut Reply,
 )
-    requires furnished { AreSoundHeaps session.now.rooms memory.old map.now }
-    requires files { HasFiles session.now (stock_of session.now.rooms memory.old map.now) }
+    requires furnished { AreSoundHeaps session.now.nodes.heaps memory.old map.now }
+    requires files { HasFiles session.now (stock_of session.now.nodes.heaps memory.old map.now) }
     ensures told { (answer : Answered)
         × ((IsTold (Read file.now.name.now file.now.offset file.now.len) answer session.now
-        (stock_of session.now.rooms memory.old map.now))
+        (stock_of session.now.nodes.heaps memory.old map.now))
         × (reply.new ≡ record reply.old { text = file_reply answer })) }
     ensures memory { memory.new ≡ memory.old }
 {
@@ -196,11 +196,11 @@ fn answer_read_by<const N: usize>(
 )
     requires few { file.now.len ≤ MOST_READ → file.now.len ≤ N }
     requires small { N ≤ MOST_READ }
-    requires furnished { AreSoundHeaps session.now.rooms memory.old map.now }
-    requires files { HasFiles session.now (stock_of session.now.rooms memory.old map.now) }
+    requires furnished { AreSoundHeaps session.now.nodes.heaps memory.old map.now }
+    requires files { HasFiles session.now (stock_of session.now.nodes.heaps memory.old map.now) }
     ensures told { (answer : Answered)
         × ((IsTold (Read file.now.name.now file.now.offset file.now.len) answer session.now
-        (stock_of session.now.rooms memory.old map.now))
+        (stock_of session.now.nodes.heaps memory.old map.now))
         × (reply.new ≡ record reply.old { text = file_reply answer })) }
     ensures memory { memory.new ≡ memory.old }
 {
@@ -222,14 +222,14 @@ fn write(
 ) -> Result<u64, FileError>
     requires hex { bytes_of_hex hex.now ≡ Some (hex_bytes hex.now) }
     requires few { length hex.now ≤ 2 * MOST_WRITTEN }
-    requires furnished { AreSoundHeaps session.old.rooms memory.old map.old }
-    requires files { HasFiles session.old (stock_of session.old.rooms memory.old map.old) }
+    requires furnished { AreSoundHeaps session.old.nodes.heaps memory.old map.old }
+    requires files { HasFiles session.old (stock_of session.old.nodes.heaps memory.old map.old) }
     ensures serves { Serves
         (served_in (Write file.now offset (hex_bytes hex.now)) session.old
-        (stock_of session.old.rooms memory.old map.old))
+        (stock_of session.old.nodes.heaps memory.old map.old))
         (counted_reply result) session.old session.new
-        (stock_of session.new.rooms memory.new map.new) }
-    ensures keeps { KeepsRooms session.old.rooms session.new.rooms
+        (stock_of session.new.nodes.heaps memory.new map.new) }
+    ensures keeps { KeepsHeaps session.old.nodes.heaps session.new.nodes.heaps
         memory.old memory.new map.old map.new }
 {
     if hex.len() <= 2 * FEW_WRITTEN {
@@ -255,14 +255,14 @@ fn write_by<const N: usize>(
     requires hex { bytes_of_hex hex.now ≡ Some (hex_bytes hex.now) }
     requires few { length hex.now ≤ 2 * N }
     requires small { N ≤ MOST_WRITTEN }
-    requires furnished { AreSoundHeaps session.old.rooms memory.old map.old }
-    requires files { HasFiles session.old (stock_of session.old.rooms memory.old map.old) }
+    requires furnished { AreSoundHeaps session.old.nodes.heaps memory.old map.old }
+    requires files { HasFiles session.old (stock_of session.old.nodes.heaps memory.old map.old) }
     ensures serves { Serves
         (served_in (Write file.now offset (hex_bytes hex.now)) session.old
-        (stock_of session.old.rooms memory.old map.old))
+        (stock_of session.old.nodes.heaps memory.old map.old))
         (counted_reply result) session.old session.new
-        (stock_of session.new.rooms memory.new map.new) }
-    ensures keeps { KeepsRooms session.old.rooms session.new.rooms
+        (stock_of session.new.nodes.heaps memory.new map.new) }
+    ensures keeps { KeepsHeaps session.old.nodes.heaps session.new.nodes.heaps
         memory.old memory.new map.old map.new }
 {
     let mut buffer = [0; N];
@@ -279,14 +279,14 @@ fn answer_name(
     place: u64,
     reply: &mut Reply,
 )
-    requires furnished { AreSoundHeaps session.old.rooms memory.old map.now }
-    requires files { HasFiles session.old (stock_of session.old.rooms memory.old map.now) }
+    requires furnished { AreSoundHeaps session.old.nodes.heaps memory.old map.now }
+    requires files { HasFiles session.old (stock_of session.old.nodes.heaps memory.old map.now) }
     ensures told { (answer : Answered)
         × ((Serves (served_in (Name place) session.old
-        (stock_of session.old.rooms memory.old map.now)) answer session.old session.new
-        (stock_of session.new.rooms memory.new map.now))
+        (stock_of session.old.nodes.heaps memory.old map.now)) answer session.old session.new
+        (stock_of session.new.nodes.heaps memory.new map.now))
         × (reply.new ≡ record reply.old { text = file_reply answer })) }
-    ensures rooms { session.new.rooms ≡ session.old.rooms }
+    ensures heaps { session.new.nodes.heaps ≡ session.old.nodes.heaps }
     ensures memory { memory.new ≡ memory.old }
 {
     match session.file_at(memory, map, place) {
@@ -296,14 +296,14 @@ fn answer_name(
 }
 
 /// Writes the reply with use and limits of the session's account.
-fn answer_stat(rooms: &SessionHeaps, memory: &Memory, reply: &mut Reply)
-    requires open { IsOpenIn memory.now (payer_of rooms.now.contents) }
+fn answer_stat(heaps: &SessionHeaps, memory: &Memory, reply: &mut Reply)
+    requires open { IsOpenIn memory.now (payer_of heaps.now.contents) }
     ensures { reply.new ≡ record reply.old {
       text = file_reply (model.FileReply.Quotas
-          (account_in memory.now (payer_of rooms.now.contents)));
+          (account_in memory.now (payer_of heaps.now.contents)));
     } }
 {
-    let account = rooms.account();
+    let account = heaps.account();
     let (ram_used, caps_used) = memory.used(account);
     let (ram_limit, caps_limit) = memory.limits(account);
     let quotas = Quotas {

@@ -4,25 +4,15 @@ use arrayvec::ArrayVec;
 use core_calls::LONGEST_LABEL;
 use dataspace_core::Memory;
 use region_map::RegionMap;
-use session_nodes::{LONGEST_NAME, Node, RecentNode, SessionBuffer, SessionHeaps};
+use session_nodes::{FoundNode, NodeList, SessionBuffer};
 use sliced_heap::SlicedHeap;
-use std::marker::Brand;
-use std::sync::ledger::Blank;
 
-/// What the file service stores for a session. Each file has a node, a block of the heap. The nodes are linked both ways in
-/// the order of creation, and have links of a tree by name.
+/// What the file service stores for a session. Each file has a node.
 #[derive(Drop)]
 pub struct FileSession {
     pub(crate) label: ArrayVec<u8, LONGEST_LABEL>,
-    pub(crate) rooms: SessionHeaps,
-    /// The address of the first file's node, or 0.
-    pub(crate) first: u64,
-    /// The address of the last file's node, or 0.
-    pub(crate) last: u64,
-    /// The address of the node at the root of the tree by name, or 0.
-    pub(crate) root: u64,
-    /// The file that a request found last by its place, unless it was forgotten since.
-    pub(crate) recent: Option<RecentNode>,
+    /// The nodes of its files, each with the file's content.
+    pub(crate) nodes: NodeList,
     /// The buffer that it shares with its client, if it has one.
     pub(crate) buffer: Option<SessionBuffer>,
 }
@@ -35,13 +25,6 @@ pub(crate) struct FileRange<'a> {
     pub(crate) len: u64,
 }
 
-/// A file that is found, with the address of its node.
-#[derive(Drop)]
-pub(crate) struct FoundFile {
-    pub(crate) address: u64,
-    pub(crate) node: Node,
-}
-
 impl FileSession {
     ghost use Rattle.std.specs.Prelude.{◌≡◌, ◌≤◌, length, IfSome, IfNone, None};
     ghost use Rattle.dataspace_core.specs.Share.{Share};
@@ -51,8 +34,9 @@ impl FileSession {
     ghost use Rattle.sliced_heap.specs.Heap.{payer_of};
     ghost use Rattle.sliced_heap.specs.Sliced.{IsLinked};
     ghost use Rattle.server_frame.specs.Session.{HasBlocksAlone};
+    ghost use Rattle.session_nodes.specs.NodeList.{Finds};
     ghost use Rattle.session_nodes.specs.SessionHeaps.{stock_of, AreSoundHeaps};
-    ghost use Rattle.file_service.specs.Session.{value_of, files_in, HasFiles, Finds, IsSession};
+    ghost use Rattle.file_service.specs.Session.{value_of, files_in, HasFiles, IsSession};
 
     /// Creates a session without files and without a buffer.
     pub(crate) fn open(heap: SlicedHeap, label: &[u8]) -> FileSession
@@ -67,44 +51,27 @@ impl FileSession {
         let _ = copy.try_extend_from_slice(label);
         FileSession {
             label: copy,
-            rooms: SessionHeaps::new(heap),
-            first: 0,
-            last: 0,
-            root: 0,
-            recent: None,
+            nodes: NodeList::new(heap),
             buffer: None,
         }
     }
 
-    /// Finds the file of a name, if there is one. The memory is unchanged.
+    /// Finds the node of the file of a name, if there is one. The memory is unchanged.
     pub(crate) fn find(
         &self,
         memory: &mut Memory,
         map: &RegionMap,
         name: &[u8],
-    ) -> Option<FoundFile>
-        requires furnished { AreSoundHeaps self.now.rooms memory.old map.now }
-        requires files { HasFiles self.now (stock_of self.now.rooms memory.old map.now) }
+    ) -> Option<FoundNode>
+        requires furnished { AreSoundHeaps self.now.nodes.heaps memory.old map.now }
+        requires files { HasFiles self.now (stock_of self.now.nodes.heaps memory.old map.now) }
         ensures some { IfSome result
-            (Finds self.now (stock_of self.now.rooms memory.old map.now) name.now) }
+            (Finds self.now.nodes (stock_of self.now.nodes.heaps memory.old map.now) name.now) }
         ensures none { IfNone result
             (file_named name.now
-            (files_in self.now (stock_of self.now.rooms memory.old map.now)) ≡ None) }
+            (files_in self.now (stock_of self.now.nodes.heaps memory.old map.now)) ≡ None) }
         ensures memory { memory.new ≡ memory.old }
     {
-        if name.len() > LONGEST_NAME {
-            return None;
-        }
-        let address = self
-            .rooms
-            .seek::<Brand>(memory, map, self.root, name, Blank::new(1));
-        if address == 0 {
-            return None;
-        }
-        let node = self.rooms.load_node(memory, map, address);
-        if node.name.as_slice() != name {
-            return None;
-        }
-        Some(FoundFile { address, node })
+        self.nodes.find(memory, map, name)
     }
 }

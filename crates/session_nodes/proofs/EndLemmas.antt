@@ -11,7 +11,7 @@ use Rattle.own_model.specs.OwnHeap.{OwnHeap}
 use Rattle.own_model.specs.Region.{Region}
 use Rattle.own_model.specs.Use.{heap_count, heap_size}
 use Rattle.own_model.proofs.NatMapLemmas.{same}
-use Rattle.region_map.specs.Regions.{Regions, of_no_heap}
+use Rattle.region_map.specs.Regions.{Regions}
 use Rattle.dataspace_core.specs.Share.{KeepsShares}
 use Rattle.dataspace_core.specs.Store.{Store, part, account_in}
 use Rattle.heap_core.specs.declared.heap.Heap.{Heap}

@@ -1,5 +1,5 @@
 -- Nodes that stay while others are created, changed and freed.
-use Rattle.std.proofs.Common.{rules, ◌≡◌, ◌≢◌, ℕ, zero, suc, ◌-◌, ◌<◌, ◌≤◌, true, false, cond, eqb, List, [], ◌∷◌, ◌++◌, length, map, take, Option, refl, sym, ap, subst, ◌∙◌, arith}
+use Rattle.std.proofs.Common.{rules, ◌≡◌, ◌≢◌, ℕ, zero, suc, ◌<◌, ◌≤◌, true, false, cond, eqb, List, [], ◌∷◌, ◌++◌, length, take, Option, refl, sym, ap, subst, ◌∙◌, arith}
 use Rattle.std.proofs.lemmas.Bool.{cases_eq}
 use Rattle.std.proofs.lemmas.Bool.Decides.{nat_tests}
 use Rattle.std.specs.Prelude.{IsSome}
@@ -10,10 +10,9 @@ use Rattle.own_model.specs.OwnHeap.{OwnHeap, chunk_with, offset_of}
 use Rattle.own_model.proofs.NatMapLemmas.{some_of, get-remove}
 use Rattle.own_model.proofs.Totals.{len-remove_at}
 use Rattle.sliced_heap.specs.Chain.{is_listed, has_no_repeat}
-use Rattle.session_nodes.specs.Calls.{HasBytes}
-use Rattle.session_nodes.specs.Order.{node_at, link_in, nodes_from, bytes_at, HoldsNode, StandAt}
+use Rattle.session_nodes.specs.Order.{AllStay, OthersStay, Stays, node_at, link_in, nodes_from, bytes_at, HoldsNode, StandAt}
 use Rattle.session_nodes.specs.Links.{last_of}
-use Rattle.session_nodes.proofs.LinkLemmas.{unlisted, listed_first, listed_later, listed_append, once_first, once_later, last_listed, once_appended, once_without, once_apart, leads_kept, leads_appended, leads_without, along_line, map_kept}
+use Rattle.session_nodes.proofs.LinkLemmas.{unlisted, listed_first, listed_later, listed_append, once_first, once_later, last_listed, once_appended, once_without, once_apart, leads_kept, leads_appended, leads_without, along_line}
 
 -- ---- the blocks are found along the links
 
@@ -49,23 +48,17 @@ pub bytes_by : (n : ℕ) (o p : Option (List ℕ)) → (0 < n → o ≡ p) → t
 bytes_by zero o p same = refl
 bytes_by (suc n) o p same = ap (λ x. take (suc n) (unwrap_or x [])) (same (omega arith))
 
--- a block holds the same node as before, except for the link
-pub record Stays (nodes later : OwnHeap) (contents after : NatMap (List ℕ)) (b : ℕ) : Type 0 where
-  pub name : (node_at later b).name ≡ (node_at nodes b).name
-  pub size : (node_at later b).size ≡ (node_at nodes b).size
-  pub content : (node_at later b).content ≡ (node_at nodes b).content
-  pub there : HasBytes later.payloads b 0 96
-  pub chunk : chunk_with later (b - 16) ≡ chunk_with nodes (b - 16)
-  pub offset : offset_of later (b - 16) ≡ offset_of nodes (b - 16)
-  pub bytes : 0 < (node_at nodes b).size → get after (node_at nodes b).content ≡ get contents (node_at nodes b).content
-
--- the nodes of these blocks stay
-abbrev pub AllStay : OwnHeap → OwnHeap → NatMap (List ℕ) → NatMap (List ℕ) → List ℕ → Type 0
-AllStay nodes later contents after blocks = (b : ℕ) → is_listed blocks b ≡ true → Stays nodes later contents after b
-
--- they stay, except that of one block
-abbrev pub OthersStay : OwnHeap → OwnHeap → NatMap (List ℕ) → NatMap (List ℕ) → List ℕ → ℕ → Type 0
-OthersStay nodes later contents after blocks x = (b : ℕ) → is_listed blocks b ≡ true → b ≢ x → Stays nodes later contents after b
+-- a node that stays through one change and the next
+pub stays_then : (nodes mid later : OwnHeap) (contents between after : NatMap (List ℕ)) (b : ℕ) → Stays nodes mid contents between b → Stays mid later between after b → Stays nodes later contents after b
+stays_then nodes mid later contents between after b first second = record {
+  name = second.name ∙ first.name;
+  size = second.size ∙ first.size;
+  content = second.content ∙ first.content;
+  there = second.there;
+  chunk = second.chunk ∙ first.chunk;
+  offset = second.offset ∙ first.offset;
+  bytes = λ some. ap (get after) (sym first.content) ∙ second.bytes (subst (λ n. 0 < n) (sym first.size) some) ∙ ap (get between) first.content ∙ first.bytes some;
+}
 
 -- the chunks in which addresses lie stay
 abbrev pub ChunksStay : OwnHeap → OwnHeap → Type 0

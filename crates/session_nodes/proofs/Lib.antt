@@ -36,3 +36,15 @@ pub mod NodeFreeLemmas
 pub mod EndLemmas
 pub mod BufferLemmas
 pub mod SourceLemmas
+pub mod SearchLemmas
+pub mod TailNodeLemmas
+pub mod AppendLemmas
+pub mod EnterLemmas
+pub mod TakenLemmas
+pub mod SeekLemmas
+pub mod AddressLemmas
+pub mod UnlistLemmas
+pub mod SetLemmas
+pub mod ReplaceLemmas
+pub mod RemoveLemmas
+pub mod DropLemmas

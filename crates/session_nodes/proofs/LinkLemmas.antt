@@ -12,6 +12,13 @@ pub listed_append : (xs ys : List ℕ) (b : ℕ) → is_listed (xs ++ ys) b ≡ 
 listed_append [] ys b = refl
 listed_append (x ∷ xs) ys b = let rest = listed_append xs ys b in grind (arith, nat_tests)
 
+-- a block that is appended is listed, and so are those before it
+pub listed_last : (xs : List ℕ) (a : ℕ) → is_listed (xs ++ a ∷ []) a ≡ true
+listed_last xs a = let l = listed_append xs (a ∷ []) a in grind (arith, nat_tests)
+
+pub listed_front : (xs : List ℕ) (a b : ℕ) → is_listed xs b ≡ true → is_listed (xs ++ a ∷ []) b ≡ true
+listed_front xs a b t = let l = listed_append xs (a ∷ []) b in grind (arith, nat_tests)
+
 -- the last one is listed, the holder among them
 pub last_listed : (h : ℕ) (xs : List ℕ) → is_listed (h ∷ xs) (last_of h xs) ≡ true
 last_listed h [] = listed_first h []

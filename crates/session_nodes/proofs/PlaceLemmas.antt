@@ -1,7 +1,7 @@
 -- Where the blocks of nodes stand: in which chunk, and how far into it. A block stands there while others come and go.
 use Rattle.std.proofs.lemmas.Bool.Decides.{nat_tests}
 use Rattle.std.proofs.Common.{rules, ◌≡◌, ℕ, ◌+◌, ◌-◌, ◌<◌, ◌≤◌, [], ◌∷◌, ◌++◌, length, get_or, Some, sym, ap, subst, ◌∙◌, arith}
-use Rattle.std.proofs.lemmas.List.{length-map, get_or-map, get_or_append_left, length-append, length-set, get_or-set_same}
+use Rattle.std.proofs.lemmas.List.{length-map, get_or_append_left, length-append, length-set, get_or-set_same}
 use Rattle.std.proofs.Math.Seq.{get_or-append_seam}
 use Rattle.std.specs.List.{AllByRecursion}
 use Rattle.own_model.specs.BestFit.{Spot, block_size, chunk_of}
@@ -18,7 +18,7 @@ use Rattle.region_map.specs.Regions.{Regions}
 use Rattle.dataspace_core.specs.Store.{Store}
 use Rattle.heap_core.specs.declared.heap.Heap.{Heap}
 use Rattle.heap_core.specs.declared.words.Chunk.{Chunk}
-use Rattle.heap_core.specs.Heap.{IsSound, chunk_at, heap_in, payer_of, share_at, starts_in, words_in}
+use Rattle.heap_core.specs.Heap.{IsSound, heap_in, payer_of, share_at, starts_in, words_in}
 use Rattle.heap_core.proofs.FoundLemmas.{one_chunk}
 use Rattle.heap_core.proofs.StandLemmas.{blocks, chunk_total, count_blocks}
 use Rattle.server_frame.specs.Session.{holding}

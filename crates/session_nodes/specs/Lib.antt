@@ -8,5 +8,6 @@ pub mod Calls
 pub mod Found
 pub mod Order
 pub mod Index
+pub mod NodeList
 pub mod NameLaws
 pub mod SeparateBuffer

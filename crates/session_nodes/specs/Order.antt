@@ -1,5 +1,5 @@
 -- The nodes of a session in the order of their creation, each with the content that it names.
-use Rattle.std.specs.Prelude.{◌≡◌, ℕ, ◌-◌, ◌<◌, ◌==◌, true, if◌then◌else◌, List, length, map, take, Some}
+use Rattle.std.specs.Prelude.{◌≡◌, ℕ, ◌-◌, ◌≢◌, ◌<◌, ◌==◌, true, if◌then◌else◌, List, length, take, Some}
 use Rattle.std.specs.FinMap.{get, len}
 use Rattle.own_model.specs.Heap.{header}
 use Rattle.own_model.specs.NatMap.{NatMap}
@@ -47,3 +47,23 @@ pub record StandAt (first last : ℕ) (nodes : OwnHeap) (contents : NatMap (List
   pub each : (b : ℕ) → is_listed blocks b ≡ true → HoldsNode nodes contents b
   pub apart : (a b : ℕ) → is_listed blocks a ≡ true → is_listed blocks b ≡ true → 0 < (node_at nodes a).size → 0 < (node_at nodes b).size →
       (node_at nodes a).content ≡ (node_at nodes b).content → a ≡ b
+
+-- ---- what stays
+
+-- a block holds the same node as before, except for the link
+pub record Stays (nodes later : OwnHeap) (contents after : NatMap (List ℕ)) (b : ℕ) : Type 0 where
+  pub name : (node_at later b).name ≡ (node_at nodes b).name
+  pub size : (node_at later b).size ≡ (node_at nodes b).size
+  pub content : (node_at later b).content ≡ (node_at nodes b).content
+  pub there : HasBytes later.payloads b 0 96
+  pub chunk : chunk_with later (b - 16) ≡ chunk_with nodes (b - 16)
+  pub offset : offset_of later (b - 16) ≡ offset_of nodes (b - 16)
+  pub bytes : 0 < (node_at nodes b).size → get after (node_at nodes b).content ≡ get contents (node_at nodes b).content
+
+-- the nodes of these blocks stay
+abbrev pub AllStay : OwnHeap → OwnHeap → NatMap (List ℕ) → NatMap (List ℕ) → List ℕ → Type 0
+AllStay nodes later contents after blocks = (b : ℕ) → is_listed blocks b ≡ true → Stays nodes later contents after b
+
+-- they stay, except that of one block
+abbrev pub OthersStay : OwnHeap → OwnHeap → NatMap (List ℕ) → NatMap (List ℕ) → List ℕ → ℕ → Type 0
+OthersStay nodes later contents after blocks x = (b : ℕ) → is_listed blocks b ≡ true → b ≢ x → Stays nodes later contents after b

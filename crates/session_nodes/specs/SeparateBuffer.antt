@@ -1,8 +1,8 @@
 -- A session's buffer is separate: neither what its heaps have nor what is true of them depends on the buffer's bytes.
-use Rattle.std.proofs.Common.{◌≡◌, ◌≢◌, ℕ, ◌==◌, true, false, true≢false, eqb-true, List, length, drop, Some, is_some, refl, sym, ap, subst, ◌∙◌, arith, inl, inr}
+use Rattle.std.proofs.Common.{◌≡◌, ◌≢◌, ℕ, ◌==◌, true, false, true≢false, eqb-true, List, length, drop, Some, is_some, refl, sym, ap, ◌∙◌, arith, inl, inr}
 use Rattle.std.proofs.lemmas.Bool.{cases_eq}
 use Rattle.std.proofs.lemmas.Bool.Decides.{nat_tests}
-use Rattle.std.proofs.lemmas.Option.{none-some, same_Some}
+use Rattle.std.proofs.lemmas.Option.{same_Some}
 use Rattle.std.specs.Prelude.{Option, None}
 use Rattle.std.specs.Option.{option_map}
 use Rattle.std.specs.FinMap.{get, empty, len}
@@ -34,14 +34,14 @@ pub lent_number : (o : Option ℕ) → is_lent_tag o ≡ true → o ≡ Some of_
 lent_number None e = absurd (true≢false (sym e))
 lent_number (Some k) e = ap Some (eqb-true k of_no_heap e)
 
-module _ (rooms : SessionHeaps) (lent : SessionBuffer) (account : ℕ) (share : Share) (is : AreKept rooms account share) (stands : IsBufferAt lent share) where
+module _ (heaps : SessionHeaps) (lent : SessionBuffer) (account : ℕ) (share : Share) (is : AreKept heaps account share) (stands : IsBufferAt lent share) where
   abbrev region : Region
   region = record { of = lent.space.0; pages = stands.pages }
 
   in_lent : (is_lent_tag (get share.tags lent.start) ≡ true) × (get share.heap lent.start ≡ Some region)
   in_lent = in_numbered is_lent_tag share.heap share.tags lent.start region (ap (λ (m : NatMap Region). get m lent.start) stands.region ∙ get-insert_same empty lent.start region lent.start refl)
 
-  holds : HoldsNodes rooms.nodes share
+  holds : HoldsNodes heaps.nodes share
   holds = is.nodes stands.possible
 
   pub there : (bytes : List ℕ) × (get share.part.spaces lent.space.0 ≡ Some bytes)
@@ -71,8 +71,8 @@ module _ (rooms : SessionHeaps) (lent : SessionBuffer) (account : ℕ) (share : 
         let low = at.few in
         get-insert_other share.part.spaces lent.space.0 bytes r.of (apart s k r at.there at.tag (grind (arith, nat_tests)))
 
-    pub nodes_same : heap_in rooms.nodes T ≡ heap_in rooms.nodes share
-    nodes_same = value_same rooms.nodes share T holds.laid stands_still chunks_same
+    pub nodes_same : heap_in heaps.nodes T ≡ heap_in heaps.nodes share
+    nodes_same = value_same heaps.nodes share T holds.laid stands_still chunks_same
 
     pub contents_same : sliced_of T ≡ sliced_of share
     unfolding sliced_of
@@ -92,13 +92,13 @@ module _ (rooms : SessionHeaps) (lent : SessionBuffer) (account : ℕ) (share : 
     pub buffer_still : IsBufferAt lent T
     buffer_still = record { possible = possible; pages = stands.pages; region = stands.region }
 
-    pub kept_still : AreKept rooms account T
+    pub kept_still : AreKept heaps account T
     kept_still = record {
       payer = is.payer;
       same_payer = is.same_payer;
-      linked = alike_linked share T rooms.contents.first is.linked refl (λ s r block. get-insert_other share.part.spaces lent.space.0 bytes r.of (no_block s r block));
+      linked = alike_linked share T heaps.contents.first is.linked refl (λ s r block. get-insert_other share.part.spaces lent.space.0 bytes r.of (no_block s r block));
       nodes = λ _. record {
-        laid = laid_same rooms.nodes share T holds.laid stands_still chunks_same;
+        laid = laid_same heaps.nodes share T holds.laid stands_still chunks_same;
         no_large = ap (λ (h : OwnHeap). h.large) nodes_same ∙ holds.no_large;
         all = let few = len-insert_at share.part.spaces lent.space.0 bytes there.0 there.1 in
             let chunks = ap (λ (h : OwnHeap). length h.shape.chunks) nodes_same in

@@ -10,24 +10,24 @@ use Rattle.session_nodes.specs.SoundHeaps.{Stock, stock, KeepsNodes, HasSoundHea
 use Rattle.session_nodes.specs.declared.session_heaps.SessionHeaps.{SessionHeaps}
 
 -- between requests both heaps are the account's, and what it has is theirs or the buffer
-pub record AreKept (rooms : SessionHeaps) (account : ℕ) (share : Share) : Type 0 where
-  pub payer : payer_of rooms.contents ≡ account
-  pub same_payer : heap_payer rooms.nodes ≡ account
-  pub linked : IsLinked share rooms.contents.first
-  pub nodes : KeepsNodes rooms.nodes share
+pub record AreKept (heaps : SessionHeaps) (account : ℕ) (share : Share) : Type 0 where
+  pub payer : payer_of heaps.contents ≡ account
+  pub same_payer : heap_payer heaps.nodes ≡ account
+  pub linked : IsLinked share heaps.contents.first
+  pub nodes : KeepsNodes heaps.nodes share
 
 -- the contents of both heaps
 abbrev pub stock_of : SessionHeaps → Store → Regions → Stock
-stock_of rooms store regions = stock rooms.nodes rooms.contents store regions
+stock_of heaps store regions = stock heaps.nodes heaps.contents store regions
 
 -- both heaps are sound while a request is served
 abbrev pub AreSoundHeaps : SessionHeaps → Store → Regions → Type 0
-AreSoundHeaps rooms store regions = HasSoundHeaps rooms.nodes rooms.contents store regions
+AreSoundHeaps heaps store regions = HasSoundHeaps heaps.nodes heaps.contents store regions
 
 -- both heaps are still sound afterwards
 abbrev pub StaySoundHeaps : SessionHeaps → SessionHeaps → Store → Store → Regions → Regions → Type 0
-StaySoundHeaps rooms later old new regions after = KeepsSoundHeaps rooms.contents later.nodes later.contents old new regions after
+StaySoundHeaps heaps later old new regions after = KeepsSoundHeaps heaps.contents later.nodes later.contents old new regions after
 
 -- calls of either heap also keep what is neither's
-abbrev pub KeepsRooms : SessionHeaps → SessionHeaps → Store → Store → Regions → Regions → Type 0
-KeepsRooms rooms later old new regions after = KeepsSession rooms.contents later.nodes later.contents old new regions after
+abbrev pub KeepsHeaps : SessionHeaps → SessionHeaps → Store → Store → Regions → Regions → Type 0
+KeepsHeaps heaps later old new regions after = KeepsSession heaps.contents later.nodes later.contents old new regions after

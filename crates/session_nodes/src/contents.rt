@@ -7,7 +7,7 @@ ghost use Rattle.session_nodes.specs.Calls.{payload_in, content_taken, content_g
 ghost use Rattle.dataspace_core.specs.Store.{account_in, space_at, IsOpenIn};
 ghost use Rattle.sliced_heap.specs.Heap.{payer_of};
 ghost use Rattle.session_nodes.specs.Found.{FindsContent, IsElsewhere, IsThere};
-ghost use Rattle.session_nodes.specs.SessionHeaps.{stock_of, AreSoundHeaps, KeepsRooms};
+ghost use Rattle.session_nodes.specs.SessionHeaps.{stock_of, AreSoundHeaps, KeepsHeaps};
 
 use crate::session_heaps::SessionHeaps;
 use dataspace_core::Memory;
@@ -45,7 +45,7 @@ impl SessionHeaps {
             ≡ content_taken bytes address (stock_of self.old memory.old map.old)) }
         ensures free { IfOk result
             (λ address. get (stock_of self.old memory.old map.old).contents address ≡ None) }
-        ensures keeps { KeepsRooms self.old self.new
+        ensures keeps { KeepsHeaps self.old self.new
             memory.old memory.new map.old map.new }
         ensures memory_err { OnErr result (memory.new ≡ memory.old) }
         ensures map_err { OnErr result (map.new ≡ map.old) }
@@ -76,7 +76,7 @@ impl SessionHeaps {
         requires there { IsSome (get (stock_of self.old memory.old map.old).contents address) }
         ensures given { stock_of self.new memory.new map.new
             ≡ content_given address (stock_of self.old memory.old map.old) }
-        ensures keeps { KeepsRooms self.old self.new
+        ensures keeps { KeepsHeaps self.old self.new
             memory.old memory.new map.old map.new }
     {
         let _ = self.contents.free(memory, map, address);
@@ -125,7 +125,7 @@ impl SessionHeaps {
             (length bytes.now) }
         ensures written { stock_of self.now memory.new map.now
             ≡ content_written address offset bytes.now (stock_of self.now memory.old map.now) }
-        ensures keeps { KeepsRooms self.now self.now
+        ensures keeps { KeepsHeaps self.now self.now
             memory.old memory.new map.now map.now }
     {
         if bytes.is_empty() {
@@ -150,7 +150,7 @@ impl SessionHeaps {
         requires apart { 0 < count → from ≢ to }
         ensures copied { stock_of self.now memory.new map.now
             ≡ content_copied from to count (stock_of self.now memory.old map.now) }
-        ensures keeps { KeepsRooms self.now self.now
+        ensures keeps { KeepsHeaps self.now self.now
             memory.old memory.new map.now map.now }
     {
         if count == 0 {
@@ -189,7 +189,7 @@ impl SessionHeaps {
             ≡ content_written range.address range.offset
             (slice_range bytes place (place + range.count))
             (stock_of self.now memory.old map.now) }
-        ensures keeps { KeepsRooms self.now self.now
+        ensures keeps { KeepsHeaps self.now self.now
             memory.old memory.new map.now map.now }
     {
         let count = range.count;

@@ -1,7 +1,7 @@
 //! Links of nodes in the order of creation: walks along them, over the bytes of one page at a time, and links back.
 ghost use Rattle.std.specs.Prelude.{◌≡◌, ◌≢◌, ℕ, ◌+◌, ◌-◌, ◌%◌, ◌<◌, ◌≤◌, length};
 ghost use Rattle.session_nodes.specs.Calls.{HasBytes};
-ghost use Rattle.session_nodes.specs.SessionHeaps.{stock_of, AreSoundHeaps, KeepsRooms};
+ghost use Rattle.session_nodes.specs.SessionHeaps.{stock_of, AreSoundHeaps, KeepsHeaps};
 ghost use Rattle.session_nodes.specs.Index.{word_at, AreOnTheWay, LinksBack};
 ghost use Rattle.session_nodes.specs.Links.{followed, ShowsLinks};
 
@@ -44,7 +44,7 @@ impl SessionHeaps {
         ensures links { LinksBack address previous
             (stock_of self.now memory.old map.now)
             (stock_of self.now memory.new map.now) }
-        ensures keeps { KeepsRooms self.now self.now
+        ensures keeps { KeepsHeaps self.now self.now
             memory.old memory.new map.now map.now }
     {
         if address != 0 {

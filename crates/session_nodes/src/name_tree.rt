@@ -3,7 +3,7 @@ ghost use Rattle.std.specs.Prelude.{◌≡◌, ℕ, ◌+◌, ◌*◌, ◌%◌, �
 ghost use Rattle.std.specs.Ordering.{nat_cmp};
 ghost use Rattle.trade_base.specs.Word.{word_of, word_bytes};
 ghost use Rattle.dataspace_core.specs.Store.{Exists, space_at};
-ghost use Rattle.session_nodes.specs.SessionHeaps.{stock_of, AreSoundHeaps, KeepsRooms};
+ghost use Rattle.session_nodes.specs.SessionHeaps.{stock_of, AreSoundHeaps, KeepsHeaps};
 ghost use Rattle.heap_core.specs.Blocks.{IsBlankOf};
 ghost use Rattle.session_nodes.specs.Index.{IsNamed, CanEnter, ChangesTree, Enters, Leaves, Seeks, LoadsFew, KeepsNames};
 ghost use Rattle.session_nodes.specs.Node.{rank_by, rank_of, word_from};
@@ -117,7 +117,7 @@ impl<L: Ledger> CountedMemory<'_, L> {
 /// The nodes of a session, as the tree by name.
 #[derive(Drop)]
 pub(crate) struct NameTree<'a, M> {
-    pub(crate) rooms: &'a SessionHeaps,
+    pub(crate) heaps: &'a SessionHeaps,
     pub(crate) map: &'a RegionMap,
     pub(crate) memory: PhantomData<M>,
 }
@@ -151,17 +151,17 @@ impl<'m, L: Ledger> Nodes for NameTree<'_, CountedMemory<'m, L>> {
     ghost Rest = { Store };
 
     ghost IsNode = { λ nodes memory. IsNameNode
-        nodes.rooms.now.nodes nodes.rooms.now.contents memory.memory.now nodes.map.now };
+        nodes.heaps.now.nodes nodes.heaps.now.contents memory.memory.now nodes.map.now };
 
     ghost Keeps = { λ nodes old new.
         (new.memory.ghost_name ≡ old.memory.ghost_name)
-        × KeepsNames nodes.rooms.now.nodes nodes.rooms.now.contents nodes.map.now
+        × KeepsNames nodes.heaps.now.nodes nodes.heaps.now.contents nodes.map.now
         old.memory.now new.memory.now };
 
     ghost rank = { λ key. rank_by (slice_index key.words) };
 
     ghost view = { λ nodes memory. names_in memory.memory.now
-        (stock_of nodes.rooms.now memory.memory.now nodes.map.now).nodes };
+        (stock_of nodes.heaps.now memory.memory.now nodes.map.now).nodes };
 
     ghost plan = { name_plan };
 
@@ -170,7 +170,7 @@ impl<'m, L: Ledger> Nodes for NameTree<'_, CountedMemory<'m, L>> {
     ghost cost = { 6 };
 
     fn step(&self, memory: &mut CountedMemory<'m, L>, key: NameKey, node: u64) -> SearchStep {
-        let (ds, at) = self.rooms.find_node(memory.memory, self.map, node);
+        let (ds, at) = self.heaps.find_node(memory.memory, self.map, node);
         match memory.order(&key.words, ds, at + NAME_LENGTH as u64) {
             Ordering::Less => SearchStep::Left(memory.load(ds, at + LEFT)),
             Ordering::Equal => SearchStep::Here,
@@ -179,7 +179,7 @@ impl<'m, L: Ledger> Nodes for NameTree<'_, CountedMemory<'m, L>> {
     }
 
     fn links(&self, memory: &mut CountedMemory<'m, L>, node: u64) -> Links {
-        let (ds, at) = self.rooms.find_node(memory.memory, self.map, node);
+        let (ds, at) = self.heaps.find_node(memory.memory, self.map, node);
         let left = memory.load(ds, at + LEFT);
         let right = memory.load(ds, at + RIGHT);
         let high = memory.load(ds, at + HIGH);
@@ -187,13 +187,13 @@ impl<'m, L: Ledger> Nodes for NameTree<'_, CountedMemory<'m, L>> {
     }
 
     fn high(&self, memory: &mut CountedMemory<'m, L>, node: u64) -> u64 {
-        let (ds, at) = self.rooms.find_node(memory.memory, self.map, node);
+        let (ds, at) = self.heaps.find_node(memory.memory, self.map, node);
         memory.load(ds, at + HIGH)
     }
 
     fn set_links(&self, memory: &mut CountedMemory<'m, L>, node: u64, links: Links) {
         let bytes = link_bytes(links);
-        self.rooms
+        self.heaps
             .put_bytes(memory.memory, self.map, node, LEFT, &bytes);
     }
 
@@ -208,17 +208,17 @@ impl<'m, L: Ledger> Nodes for NameTree<'_, CountedMemory<'m, L>> {
 impl<'m, L: Ledger> NameTree<'_, CountedMemory<'m, L>> {
     /// Returns the node of a key, or 0 if no node has it.
     pub(crate) fn seek(&self, memory: &mut CountedMemory<'m, L>, root: u64, key: NameKey) -> u64
-        requires furnished { AreSoundHeaps self.now.rooms.now
+        requires furnished { AreSoundHeaps self.now.heaps.now
             memory.old.memory.now self.now.map.now }
         requires named { (blocks : List ℕ) × IsNamed root
-            (stock_of self.now.rooms.now
+            (stock_of self.now.heaps.now
             memory.old.memory.now self.now.map.now).nodes blocks }
         ensures found { Seeks root (rank_by (slice_index key.words))
-            (stock_of self.now.rooms.now
+            (stock_of self.now.heaps.now
             memory.old.memory.now self.now.map.now).nodes result }
         ensures memory { memory.new.memory.now ≡ memory.old.memory.now }
         ensures same_reference { memory.new.memory.ghost_name ≡ memory.old.memory.ghost_name }
-        ensures loads { LoadsFew root (stock_of self.now.rooms.now
+        ensures loads { LoadsFew root (stock_of self.now.heaps.now
             memory.old.memory.now self.now.map.now).nodes 6 memory.old.loads memory.new.loads }
     {
         find(self, memory, root, key)
@@ -232,21 +232,21 @@ impl<'m, L: Ledger> NameTree<'_, CountedMemory<'m, L>> {
         key: NameKey,
         address: u64,
     ) -> u64
-        requires furnished { AreSoundHeaps self.now.rooms.now
+        requires furnished { AreSoundHeaps self.now.heaps.now
             memory.old.memory.now self.now.map.now }
         requires unnamed { (blocks : List ℕ) × CanEnter root blocks address
-            (rank_by (slice_index key.words)) (stock_of self.now.rooms.now
+            (rank_by (slice_index key.words)) (stock_of self.now.heaps.now
             memory.old.memory.now self.now.map.now).nodes }
         ensures enters { Enters root address (rank_by (slice_index key.words)) result
-            (stock_of self.now.rooms.now
+            (stock_of self.now.heaps.now
             memory.old.memory.now self.now.map.now).nodes
-            (stock_of self.now.rooms.now
+            (stock_of self.now.heaps.now
             memory.new.memory.now self.now.map.now).nodes }
-        ensures keeps { KeepsNames self.now.rooms.now.nodes self.now.rooms.now.contents
+        ensures keeps { KeepsNames self.now.heaps.now.nodes self.now.heaps.now.contents
             self.now.map.now memory.old.memory.now memory.new.memory.now }
         ensures same_reference { memory.new.memory.ghost_name ≡ memory.old.memory.ghost_name }
         ensures loads { (blocks : List ℕ) → CanEnter root blocks address
-            (rank_by (slice_index key.words)) (stock_of self.now.rooms.now
+            (rank_by (slice_index key.words)) (stock_of self.now.heaps.now
             memory.old.memory.now self.now.map.now).nodes →
             (n : ℕ) → length blocks < 2 ^ n →
             memory.new.loads ≤ memory.old.loads + 60 * (2 * n + 1) }
@@ -256,20 +256,20 @@ impl<'m, L: Ledger> NameTree<'_, CountedMemory<'m, L>> {
 
     /// Removes the node of a key from the tree and returns the tree's root.
     pub(crate) fn leave(&self, memory: &mut CountedMemory<'m, L>, root: u64, key: NameKey) -> u64
-        requires furnished { AreSoundHeaps self.now.rooms.now
+        requires furnished { AreSoundHeaps self.now.heaps.now
             memory.old.memory.now self.now.map.now }
         requires named { (blocks : List ℕ) × IsNamed root
-            (stock_of self.now.rooms.now
+            (stock_of self.now.heaps.now
             memory.old.memory.now self.now.map.now).nodes blocks }
         ensures gone { Leaves root (rank_by (slice_index key.words)) result
-            (stock_of self.now.rooms.now
+            (stock_of self.now.heaps.now
             memory.old.memory.now self.now.map.now).nodes
-            (stock_of self.now.rooms.now
+            (stock_of self.now.heaps.now
             memory.new.memory.now self.now.map.now).nodes }
-        ensures keeps { KeepsNames self.now.rooms.now.nodes self.now.rooms.now.contents
+        ensures keeps { KeepsNames self.now.heaps.now.nodes self.now.heaps.now.contents
             self.now.map.now memory.old.memory.now memory.new.memory.now }
         ensures same_reference { memory.new.memory.ghost_name ≡ memory.old.memory.ghost_name }
-        ensures loads { LoadsFew root (stock_of self.now.rooms.now
+        ensures loads { LoadsFew root (stock_of self.now.heaps.now
             memory.old.memory.now self.now.map.now).nodes 60 memory.old.loads memory.new.loads }
     {
         remove(self, memory, root, key)
@@ -297,7 +297,7 @@ impl SessionHeaps {
     {
         let mut counted = CountedMemory::<L>::over(memory, blank);
         let nodes = NameTree {
-            rooms: self,
+            heaps: self,
             map,
             memory: PhantomData,
         };
@@ -324,12 +324,12 @@ impl SessionHeaps {
             (stock_of self.now memory.new map.now).nodes }
         ensures tree { ChangesTree (stock_of self.now memory.old map.now)
             (stock_of self.now memory.new map.now) }
-        ensures keeps { KeepsRooms self.now self.now
+        ensures keeps { KeepsHeaps self.now self.now
             memory.old memory.new map.now map.now }
     {
         let mut counted = CountedMemory::<L>::over(memory, blank);
         let nodes = NameTree {
-            rooms: self,
+            heaps: self,
             map,
             memory: PhantomData,
         };
@@ -355,12 +355,12 @@ impl SessionHeaps {
             (stock_of self.now memory.new map.now).nodes }
         ensures tree { ChangesTree (stock_of self.now memory.old map.now)
             (stock_of self.now memory.new map.now) }
-        ensures keeps { KeepsRooms self.now self.now
+        ensures keeps { KeepsHeaps self.now self.now
             memory.old memory.new map.now map.now }
     {
         let mut counted = CountedMemory::<L>::over(memory, blank);
         let nodes = NameTree {
-            rooms: self,
+            heaps: self,
             map,
             memory: PhantomData,
         };

@@ -7,7 +7,7 @@ ghost use Rattle.session_nodes.specs.Calls.{payload_in, node_stored, TakesNode, 
 ghost use Rattle.session_nodes.specs.Found.{FindsNode};
 ghost use Rattle.heap_core.specs.Words.{are_bytes};
 ghost use Rattle.session_nodes.specs.Order.{node_at};
-ghost use Rattle.session_nodes.specs.SessionHeaps.{stock_of, AreSoundHeaps, KeepsRooms};
+ghost use Rattle.session_nodes.specs.SessionHeaps.{stock_of, AreSoundHeaps, KeepsHeaps};
 ghost use Rattle.session_nodes.specs.Index.{IsPadded, KeepsPlace, previous_at};
 ghost use Rattle.own_model.specs.OwnState.{zeros};
 ghost use Rattle.trade_base.specs.Word.{word_bytes};
@@ -38,7 +38,7 @@ impl SessionHeaps {
         ensures taken { IfOk result (λ address.
             TakesNode bytes address (stock_of self.old memory.old map.old)
             (stock_of self.new memory.new map.new)) }
-        ensures keeps { KeepsRooms self.old self.new
+        ensures keeps { KeepsHeaps self.old self.new
             memory.old memory.new map.old map.new }
         ensures memory_err { OnErr result (memory.new ≡ memory.old) }
         ensures map_err { OnErr result (map.new ≡ map.old) }
@@ -54,7 +54,7 @@ impl SessionHeaps {
             (get (stock_of self.old memory.old map.old).nodes.payloads address) }
         ensures given { GivesNode address (stock_of self.old memory.old map.old)
             (stock_of self.new memory.new map.new) }
-        ensures keeps { KeepsRooms self.old self.new
+        ensures keeps { KeepsHeaps self.old self.new
             memory.old memory.new map.old map.new }
     {
         let _ = self.nodes.free(memory, map, address);
@@ -115,7 +115,7 @@ impl SessionHeaps {
             (stock_of self.now memory.new map.now).nodes address }
         ensures there { HasBytes
             (stock_of self.now memory.new map.now).nodes.payloads address 0 96 }
-        ensures keeps { KeepsRooms self.now self.now
+        ensures keeps { KeepsHeaps self.now self.now
             memory.old memory.new map.now map.now }
     {
         let bytes = content_bytes(content, size);
@@ -144,7 +144,7 @@ impl SessionHeaps {
             IsPadded (stock_of self.now memory.new map.now).nodes address }
         ensures previous { previous_at (stock_of self.now memory.new map.now).nodes address
             ≡ previous }
-        ensures keeps { KeepsRooms self.now self.now
+        ensures keeps { KeepsHeaps self.now self.now
             memory.old memory.new map.now map.now }
     {
         self.put_bytes(memory, map, address, 0, &node.to_block(previous));
@@ -168,7 +168,7 @@ impl SessionHeaps {
             ≡ node_stored address offset bytes.now (stock_of self.now memory.old map.now) }
         ensures there { HasBytes
             (stock_of self.now memory.new map.now).nodes.payloads address 0 96 }
-        ensures keeps { KeepsRooms self.now self.now
+        ensures keeps { KeepsHeaps self.now self.now
             memory.old memory.new map.now map.now }
     {
         let (ds, at) = self.find_node(memory, map, address);

@@ -4,7 +4,7 @@ ghost use Rattle.dataspace_core.specs.Store.{Store};
 ghost use Rattle.region_map.specs.Regions.{Regions};
 ghost use Rattle.sliced_heap.specs.declared.heap.SlicedHeap.{SlicedHeap};
 ghost use Rattle.session_nodes.specs.Calls.{content_written, HasBytes};
-ghost use Rattle.session_nodes.specs.SessionHeaps.{stock_of, AreSoundHeaps, KeepsRooms};
+ghost use Rattle.session_nodes.specs.SessionHeaps.{stock_of, AreSoundHeaps, KeepsHeaps};
 ghost use Rattle.session_nodes.specs.Source.{bytes_from, HasSource};
 
 use crate::contents::ContentRange;
@@ -56,7 +56,7 @@ impl SessionHeaps {
         ensures written { stock_of self.now memory.new map.now
             ≡ content_written address offset (bytes_from source.entry memory.old)
             (stock_of self.now memory.old map.now) }
-        ensures keeps { KeepsRooms self.now self.now
+        ensures keeps { KeepsHeaps self.now self.now
             memory.old memory.new map.now map.now }
     {
         match source {

@@ -68,7 +68,7 @@ returns-in-Some-Name c =
     let t = c.answer_name.ensures.told in
     record {
       answered = files_answered c.requires.ready a.request.now _ t.0 a.reply.now _ (read_as a.request.now _ _ r.field-0-is r.ensures.request)
-          (keeps_same c.requires.ready.furnished (ap (λ (r : SessionHeaps). r.nodes) c.answer_name.ensures.rooms) (ap (λ (r : SessionHeaps). r.contents) c.answer_name.ensures.rooms) c.answer_name.ensures.memory refl) t.1.0 t.1.1 c.requires.reply;
+          (keeps_same c.requires.ready.furnished (ap (λ (r : SessionHeaps). r.nodes) c.answer_name.ensures.heaps) (ap (λ (r : SessionHeaps). r.contents) c.answer_name.ensures.heaps) c.answer_name.ensures.memory refl) t.1.0 t.1.1 c.requires.reply;
     }
 
 pub returns-in-Some-Size : goal.returns-in-Some-Size

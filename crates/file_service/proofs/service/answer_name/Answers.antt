@@ -15,8 +15,8 @@ returns-in-None-clause-told c =
     let a = c.args in
     (name_reply None, (named_served a.place None a.session.now c.file_at.new.self a.memory.now _ a.map.now c.file_at.ensures.kept c.file_at.ensures.same c.file_at.ensures.memory c.in-None.ensures.name, c.write-in-None.ensures))
 
-pub returns-in-Some-clause-rooms : goal.returns-in-Some-clause-rooms
-returns-in-Some-clause-rooms c = ap (λ (s : FileSession). s.rooms) c.file_at.ensures.same
+pub returns-in-Some-clause-heaps : goal.returns-in-Some-clause-heaps
+returns-in-Some-clause-heaps c = ap (λ (s : FileSession). s.nodes.heaps) c.file_at.ensures.same
 
-pub returns-in-None-clause-rooms : goal.returns-in-None-clause-rooms
-returns-in-None-clause-rooms c = ap (λ (s : FileSession). s.rooms) c.file_at.ensures.same
+pub returns-in-None-clause-heaps : goal.returns-in-None-clause-heaps
+returns-in-None-clause-heaps c = ap (λ (s : FileSession). s.nodes.heaps) c.file_at.ensures.same

@@ -20,9 +20,11 @@ use Rattle.session_nodes.specs.SoundHeaps.{Stock}
 use Rattle.session_nodes.specs.SessionHeaps.{stock_of, StaySoundHeaps}
 use Rattle.session_nodes.specs.SessionBuffer.{HasBuffer, buffer_key}
 use Rattle.session_nodes.specs.Node.{value_of}
-use Rattle.file_service.specs.Session.{files_in, session_served, counted_reply, Answers, Finds, IsReady}
+use Rattle.session_nodes.specs.NodeList.{Finds}
+use Rattle.file_service.specs.Session.{files_in, session_served, counted_reply, Answers, IsReady}
 use Rattle.session_nodes.proofs.FrontLemmas.{front_part}
-use Rattle.file_service.proofs.SearchLemmas.{found_named, found_long, found_has, found_bytes}
+use Rattle.file_service.proofs.FileFoundLemmas.{found_named}
+use Rattle.session_nodes.proofs.SearchLemmas.{found_long, found_has, found_bytes}
 use Rattle.session_nodes.proofs.SourceLemmas.{buffer_exists}
 use Rattle.file_service.proofs.BufferRequestLemmas as request
 use Rattle.session_nodes.proofs.ResultLemmas.{keeps_same}
@@ -33,24 +35,24 @@ use Rattle.file_service.proofs.session.FileSession.get.Goals as goal
 -- what is found, in the memory after the search
 record IsFoundNow (c : In_ok-found) : Type 0 where
   ready : IsReady c.args.self.now c.find.new.memory c.args.map.now
-  found : Finds c.args.self.now (stock_of c.args.self.now.rooms c.find.new.memory c.args.map.now) c.args.file.now.name.now c.in_ok-found.found
+  found : Finds c.args.self.now.nodes (stock_of c.args.self.now.nodes.heaps c.find.new.memory c.args.map.now) c.args.file.now.name.now c.in_ok-found.found
 
 found_now : (c : In_ok-found) → IsFoundNow c
 found_now c =
-    let finds = subst (λ o. IfSome o (Finds c.args.self.now (stock_of c.args.self.now.rooms c.args.memory.now c.args.map.now) c.args.file.now.name.now)) (c.ok_or.ensures.ok_part ∙ ap result_ok c.in_ok-found.was) c.find.ensures.some in
+    let finds = subst (λ o. IfSome o (Finds c.args.self.now.nodes (stock_of c.args.self.now.nodes.heaps c.args.memory.now c.args.map.now) c.args.file.now.name.now)) (c.ok_or.ensures.ok_part ∙ ap result_ok c.in_ok-found.was) c.find.ensures.some in
     record {
       ready = subst (λ m. IsReady c.args.self.now m c.args.map.now) (sym c.find.ensures.memory) c.requires.ready;
-      found = subst (λ m. Finds c.args.self.now (stock_of c.args.self.now.rooms m c.args.map.now) c.args.file.now.name.now c.in_ok-found.found) (sym c.find.ensures.memory) finds;
+      found = subst (λ m. Finds c.args.self.now.nodes (stock_of c.args.self.now.nodes.heaps m c.args.map.now) c.args.file.now.name.now c.in_ok-found.found) (sym c.find.ensures.memory) finds;
     }
 
 abbrev file_of : (c : In_ok-found) → File
-file_of c = let s : Stock = stock_of c.args.self.now.rooms c.find.new.memory c.args.map.now in file_at s.nodes s.contents c.in_ok-found.found.address
+file_of c = let s : Stock = stock_of c.args.self.now.nodes.heaps c.find.new.memory c.args.map.now in file_at s.nodes s.contents c.in_ok-found.found.address
 
-named_now : (c : In_ok-found) → file_named c.args.file.now.name.now (files_in c.args.self.now (stock_of c.args.self.now.rooms c.find.new.memory c.args.map.now)) ≡ Some (file_of c)
-named_now c = found_named c.args.self.now.first c.args.self.now.last _ _ c.args.file.now.name.now _ c.in_ok-found.found.address (value_of c.in_ok-found.found.node) (found_now c).found
+named_now : (c : In_ok-found) → file_named c.args.file.now.name.now (files_in c.args.self.now (stock_of c.args.self.now.nodes.heaps c.find.new.memory c.args.map.now)) ≡ Some (file_of c)
+named_now c = found_named c.args.self.now.nodes.first c.args.self.now.nodes.last _ _ c.args.file.now.name.now _ c.in_ok-found.found.address (value_of c.in_ok-found.found.node) (found_now c).found
 
 long_now : (c : In_ok-found) → length (file_of c).bytes ≡ c.in_ok-found.found.node.size
-long_now c = found_long c.args.self.now.first c.args.self.now.last _ _ c.args.file.now.name.now _ c.in_ok-found.found.address (value_of c.in_ok-found.found.node) (found_now c).found
+long_now c = found_long c.args.self.now.nodes.first c.args.self.now.nodes.last _ _ c.args.file.now.name.now _ c.in_ok-found.found.address (value_of c.in_ok-found.found.node) (found_now c).found
 
 -- the range is in the buffer
 record IsInRange (c : In_ok-lent) : Type 0 where
@@ -72,7 +74,7 @@ within c =
 pub returns-then-file-size-clause-answers : goal.returns-then-file-size-clause-answers
 returns-then-file-size-clause-answers c =
     let at = (goal.at.returns-then-file-size-clause-answers c).In_ok-found in
-    let s : Stock = stock_of c.args.self.now.rooms c.find.new.memory c.args.map.now in
+    let s : Stock = stock_of c.args.self.now.nodes.heaps c.find.new.memory c.args.map.now in
     let b = bytes_lent c.find.new.memory (buffer_key c.args.self.now.buffer) in
     subst (λ m. Answers (session_served (Some (OfBuffer (Get c.args.file.now.name.now c.args.file.now.offset c.args.place c.args.file.now.len))) c.args.self.now m c.args.map.now) (Refused Gap) c.args.self.now c.args.self.now c.find.new.memory c.args.map.now) c.find.ensures.memory
     (request.told_all (found_now at).ready (Refused Gap) _
@@ -85,7 +87,7 @@ range-requires c = let now = found_now (goal.at.range-requires c).In_ok-found in
 pub returns-in_err-lent-clause-answers : goal.returns-in_err-lent-clause-answers
 returns-in_err-lent-clause-answers c =
     let at = (goal.at.returns-in_err-lent-clause-answers c).In_ok-found in
-    let s : Stock = stock_of c.args.self.now.rooms c.find.new.memory c.args.map.now in
+    let s : Stock = stock_of c.args.self.now.nodes.heaps c.find.new.memory c.args.map.now in
     let b = bytes_lent c.find.new.memory (buffer_key c.args.self.now.buffer) in
     let e = model_error c.in_err-lent.field-0.0 in
     let tells : c.from_residual-in_err-lent.result ≡ Err c.in_err-lent.field-0.0 = search rules in
@@ -99,12 +101,12 @@ returns-in_err-lent-clause-answers c =
 pub fill_buffer-requires-clause-lent : goal.fill_buffer-requires-clause-lent
 fill_buffer-requires-clause-lent c =
     let at = goal.at.fill_buffer-requires-clause-lent c in
-    subst (λ b. HasBuffer b (holding_of c.args.self.now.rooms.contents c.find.new.memory c.args.map.now)) (in_range at.In_ok-lent).lent (found_now at.In_ok-found).ready.lent
+    subst (λ b. HasBuffer b (holding_of c.args.self.now.nodes.heaps.contents c.find.new.memory c.args.map.now)) (in_range at.In_ok-lent).lent (found_now at.In_ok-found).ready.lent
 
 pub fill_buffer-requires-clause-there : goal.fill_buffer-requires-clause-there
 fill_buffer-requires-clause-there c =
     let at = (goal.at.fill_buffer-requires-clause-there c).In_ok-found in
-    found_has c.args.self.now.first c.args.self.now.last _ _ c.args.file.now.name.now _ c.in_ok-found.found.address (value_of c.in_ok-found.found.node) (found_now at).found
+    found_has c.args.self.now.nodes.first c.args.self.now.nodes.last _ _ c.args.file.now.name.now _ c.in_ok-found.found.address (value_of c.in_ok-found.found.node) (found_now at).found
     c.args.file.now.offset c.min-part.result (omega arith) (omega arith)
 
 pub fill_buffer-requires-clause-room : goal.fill_buffer-requires-clause-room
@@ -117,14 +119,14 @@ returns-then-part-gt0-clause-answers c =
     let places = goal.at.returns-then-part-gt0-clause-answers c in
     let at = places.In_ok-found in
     let is = in_range places.In_ok-lent in
-    let s : Stock = stock_of c.args.self.now.rooms c.find.new.memory c.args.map.now in
+    let s : Stock = stock_of c.args.self.now.nodes.heaps c.find.new.memory c.args.map.now in
     let b = bytes_lent c.find.new.memory (buffer_key c.args.self.now.buffer) in
     let node = value_of c.in_ok-found.found.node in
     let found = (found_now at).found in
     let content = payload_in s.contents node.content in
     let n = c.min-part.result in
-    let has = found_has c.args.self.now.first c.args.self.now.last s.nodes s.contents c.args.file.now.name.now _ c.in_ok-found.found.address node found c.args.file.now.offset n (omega arith) (omega arith) in
-    let bytes = found_bytes c.args.self.now.first c.args.self.now.last s.nodes s.contents c.args.file.now.name.now _ c.in_ok-found.found.address node found in
+    let has = found_has c.args.self.now.nodes.first c.args.self.now.nodes.last s.nodes s.contents c.args.file.now.name.now _ c.in_ok-found.found.address node found c.args.file.now.offset n (omega arith) (omega arith) in
+    let bytes = found_bytes c.args.self.now.nodes.first c.args.self.now.nodes.last s.nodes s.contents c.args.file.now.name.now _ c.in_ok-found.found.address node found in
     let part = slice_range content c.args.file.now.offset (c.args.file.now.offset + n) in
     let count : (c.args.file.now.offset + n) - c.args.file.now.offset ≡ n = omega arith in
     let same : take c.args.file.now.len (drop c.args.file.now.offset (file_of at).bytes) ≡ part =
@@ -142,11 +144,11 @@ returns-else-part-gt0-clause-answers c =
     let places = goal.at.returns-else-part-gt0-clause-answers c in
     let at = places.In_ok-found in
     let is = in_range places.In_ok-lent in
-    let s : Stock = stock_of c.args.self.now.rooms c.find.new.memory c.args.map.now in
+    let s : Stock = stock_of c.args.self.now.nodes.heaps c.find.new.memory c.args.map.now in
     let b = bytes_lent c.find.new.memory (buffer_key c.args.self.now.buffer) in
     let node = value_of c.in_ok-found.found.node in
     let content = payload_in s.contents node.content in
-    let bytes = found_bytes c.args.self.now.first c.args.self.now.last s.nodes s.contents c.args.file.now.name.now _ c.in_ok-found.found.address node (found_now at).found in
+    let bytes = found_bytes c.args.self.now.nodes.first c.args.self.now.nodes.last s.nodes s.contents c.args.file.now.name.now _ c.in_ok-found.found.address node (found_now at).found in
     let none : c.min-part.result ≡ 0 = omega arith in
     let same : take c.args.file.now.len (drop c.args.file.now.offset (file_of at).bytes) ≡ [] =
     ap (λ l. take c.args.file.now.len (drop c.args.file.now.offset l)) bytes
@@ -175,4 +177,4 @@ pub fill_buffer-requires-clause-furnished : goal.fill_buffer-requires-clause-fur
 fill_buffer-requires-clause-furnished c = furnished_after c.find.ensures.memory c.requires.ready.furnished
 
 pub returns-then-part-gt0-clause-stays : goal.returns-then-part-gt0-clause-stays
-returns-then-part-gt0-clause-stays c = subst (λ m. StaySoundHeaps c.args.self.now.rooms c.args.self.now.rooms m c.fill_buffer.new.memory c.args.map.now c.args.map.now) c.find.ensures.memory c.fill_buffer.ensures.stays
+returns-then-part-gt0-clause-stays c = subst (λ m. StaySoundHeaps c.args.self.now.nodes.heaps c.args.self.now.nodes.heaps m c.fill_buffer.new.memory c.args.map.now c.args.map.now) c.find.ensures.memory c.fill_buffer.ensures.stays

@@ -27,7 +27,7 @@ returns-in_err-lent-clause-answers c =
 pub returns-clause-answers : goal.returns-clause-answers
 returns-clause-answers c =
     let ok = was_ok c.take_buffer.result c.map_err.result c.in_ok-lent.lent _ c.map_err.ensures.cases c.map_err.ensures.variant c.in_ok-lent.was in
-    let taken = subst (λ r. IfOk r (λ lent. TakesBuffer c.args.bytes lent (stock_of c.args.self.now.rooms c.args.memory.now c.args.map.now) (stock_of c.args.self.now.rooms c.take_buffer.new.memory c.take_buffer.new.map)
-    (holding_of c.args.self.now.rooms.contents c.take_buffer.new.memory c.take_buffer.new.map) c.take_buffer.new.memory)) ok c.take_buffer.ensures.taken in
+    let taken = subst (λ r. IfOk r (λ lent. TakesBuffer c.args.bytes lent (stock_of c.args.self.now.nodes.heaps c.args.memory.now c.args.map.now) (stock_of c.args.self.now.nodes.heaps c.take_buffer.new.memory c.take_buffer.new.map)
+    (holding_of c.args.self.now.nodes.heaps.contents c.take_buffer.new.memory c.take_buffer.new.map) c.take_buffer.new.memory)) ok c.take_buffer.ensures.taken in
     make_done c.requires.ready c.args.bytes (sym c.if-not-is_size.ensures) (sym c.is_some.ensures ∙ c.if-is_some.false) c.in_ok-lent.lent
     (sym c.take_buffer.ensures.refusal ∙ ap result_err ok) taken c.take_buffer.ensures.stays

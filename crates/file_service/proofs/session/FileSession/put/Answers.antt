@@ -18,10 +18,12 @@ use Rattle.session_nodes.specs.SoundHeaps.{Stock}
 use Rattle.session_nodes.specs.SessionHeaps.{stock_of}
 use Rattle.session_nodes.specs.SessionBuffer.{HasBuffer, buffer_key}
 use Rattle.session_nodes.specs.Node.{value_of}
-use Rattle.file_service.specs.Session.{files_in, session_served, counted_reply, Answers, Finds, IsReady}
-use Rattle.file_service.proofs.SearchLemmas.{found_named, found_long}
+use Rattle.session_nodes.specs.NodeList.{Finds}
+use Rattle.file_service.specs.Session.{files_in, session_served, counted_reply, Answers, IsReady}
+use Rattle.file_service.proofs.FileFoundLemmas.{found_named}
+use Rattle.session_nodes.proofs.SearchLemmas.{found_long}
 use Rattle.session_nodes.proofs.AfterLemmas.{furnished_after, keeps_after}
-use Rattle.file_service.proofs.ServeLemmas.{found_name, found_after, files_after}
+use Rattle.file_service.proofs.ServeLemmas.{found_after, files_after}
 use Rattle.session_nodes.proofs.SourceLemmas.{buffer_exists}
 use Rattle.file_service.proofs.BufferRequestLemmas as request
 use Rattle.session_nodes.proofs.ResultLemmas.{keeps_same}
@@ -31,29 +33,29 @@ use Rattle.file_service.proofs.session.FileSession.put.Goals as goal
 -- what is found, in the memory after the search
 record IsFoundNow (c : In_ok-found) : Type 0 where
   ready : IsReady c.args.self.now c.find.new.memory c.args.map.now
-  found : Finds c.args.self.now (stock_of c.args.self.now.rooms c.find.new.memory c.args.map.now) c.args.file.now.name.now c.in_ok-found.found
+  found : Finds c.args.self.now.nodes (stock_of c.args.self.now.nodes.heaps c.find.new.memory c.args.map.now) c.args.file.now.name.now c.in_ok-found.found
 
 found_now : (c : In_ok-found) → IsFoundNow c
 found_now c =
-    let finds = subst (λ o. IfSome o (Finds c.args.self.now (stock_of c.args.self.now.rooms c.args.memory.now c.args.map.now) c.args.file.now.name.now)) (c.ok_or.ensures.ok_part ∙ ap result_ok c.in_ok-found.was) c.find.ensures.some in
+    let finds = subst (λ o. IfSome o (Finds c.args.self.now.nodes (stock_of c.args.self.now.nodes.heaps c.args.memory.now c.args.map.now) c.args.file.now.name.now)) (c.ok_or.ensures.ok_part ∙ ap result_ok c.in_ok-found.was) c.find.ensures.some in
     record {
       ready = subst (λ m. IsReady c.args.self.now m c.args.map.now) (sym c.find.ensures.memory) c.requires.ready;
-      found = subst (λ m. Finds c.args.self.now (stock_of c.args.self.now.rooms m c.args.map.now) c.args.file.now.name.now c.in_ok-found.found) (sym c.find.ensures.memory) finds;
+      found = subst (λ m. Finds c.args.self.now.nodes (stock_of c.args.self.now.nodes.heaps m c.args.map.now) c.args.file.now.name.now c.in_ok-found.found) (sym c.find.ensures.memory) finds;
     }
 
 abbrev file_of : (c : In_ok-found) → File
-file_of c = let s : Stock = stock_of c.args.self.now.rooms c.find.new.memory c.args.map.now in file_at s.nodes s.contents c.in_ok-found.found.address
+file_of c = let s : Stock = stock_of c.args.self.now.nodes.heaps c.find.new.memory c.args.map.now in file_at s.nodes s.contents c.in_ok-found.found.address
 
-named_now : (c : In_ok-found) → file_named c.args.file.now.name.now (files_in c.args.self.now (stock_of c.args.self.now.rooms c.find.new.memory c.args.map.now)) ≡ Some (file_of c)
-named_now c = found_named c.args.self.now.first c.args.self.now.last _ _ c.args.file.now.name.now _ c.in_ok-found.found.address (value_of c.in_ok-found.found.node) (found_now c).found
+named_now : (c : In_ok-found) → file_named c.args.file.now.name.now (files_in c.args.self.now (stock_of c.args.self.now.nodes.heaps c.find.new.memory c.args.map.now)) ≡ Some (file_of c)
+named_now c = found_named c.args.self.now.nodes.first c.args.self.now.nodes.last _ _ c.args.file.now.name.now _ c.in_ok-found.found.address (value_of c.in_ok-found.found.node) (found_now c).found
 
 long_now : (c : In_ok-found) → length (file_of c).bytes ≡ c.in_ok-found.found.node.size
-long_now c = found_long c.args.self.now.first c.args.self.now.last _ _ c.args.file.now.name.now _ c.in_ok-found.found.address (value_of c.in_ok-found.found.node) (found_now c).found
+long_now c = found_long c.args.self.now.nodes.first c.args.self.now.nodes.last _ _ c.args.file.now.name.now _ c.in_ok-found.found.address (value_of c.in_ok-found.found.node) (found_now c).found
 
 pub returns-then-file-found-clause-answers : goal.returns-then-file-found-clause-answers
 returns-then-file-found-clause-answers c =
     let at = (goal.at.returns-then-file-found-clause-answers c).In_ok-found in
-    let s : Stock = stock_of c.args.self.now.rooms c.find.new.memory c.args.map.now in
+    let s : Stock = stock_of c.args.self.now.nodes.heaps c.find.new.memory c.args.map.now in
     let b = bytes_lent c.find.new.memory (buffer_key c.args.self.now.buffer) in
     subst (λ m. Answers (session_served (Some (OfBuffer (Put c.args.file.now.name.now c.args.file.now.offset c.args.place c.args.file.now.len))) c.args.self.now m c.args.map.now) (Refused Gap) c.args.self.now c.args.self.now c.find.new.memory c.args.map.now) c.find.ensures.memory
     (request.told_all (found_now at).ready (Refused Gap) _
@@ -66,7 +68,7 @@ range-requires c = let now = found_now (goal.at.range-requires c).In_ok-found in
 pub returns-in_err-lent-clause-answers : goal.returns-in_err-lent-clause-answers
 returns-in_err-lent-clause-answers c =
     let at = (goal.at.returns-in_err-lent-clause-answers c).In_ok-found in
-    let s : Stock = stock_of c.args.self.now.rooms c.find.new.memory c.args.map.now in
+    let s : Stock = stock_of c.args.self.now.nodes.heaps c.find.new.memory c.args.map.now in
     let b = bytes_lent c.find.new.memory (buffer_key c.args.self.now.buffer) in
     let e = model_error c.in_err-lent.field-0.0 in
     let tells : c.from_residual-in_err-lent.result ≡ Err c.in_err-lent.field-0.0 = search rules in
@@ -93,7 +95,7 @@ overwrite-requires-clause-source c =
     let at = goal.at.overwrite-requires-clause-source c in
     let is = in_range at.In_ok-lent in
     record {
-      stands = subst (λ b. HasBuffer b (holding_of c.args.self.now.rooms.contents c.find.new.memory c.args.map.now)) is.lent (found_now at.In_ok-found).ready.lent;
+      stands = subst (λ b. HasBuffer b (holding_of c.args.self.now.nodes.heaps.contents c.find.new.memory c.args.map.now)) is.lent (found_now at.In_ok-found).ready.lent;
       within = request.range_within c.args.place c.args.file.now.len (space_at c.find.new.memory c.in_ok-lent.lent.space.0).bytes
           (ap (λ b. range_refusal c.args.place c.args.file.now.len (bytes_lent c.find.new.memory (buffer_key b))) (sym is.lent) ∙ is.good);
     }
@@ -103,11 +105,11 @@ returns-clause-answers c =
     let places = goal.at.returns-clause-answers c in
     let at = places.In_ok-found in
     let is = in_range places.In_ok-lent in
-    let s : Stock = stock_of c.args.self.now.rooms c.find.new.memory c.args.map.now in
+    let s : Stock = stock_of c.args.self.now.nodes.heaps c.find.new.memory c.args.map.now in
     let b = bytes_lent c.find.new.memory (buffer_key c.args.self.now.buffer) in
     let node = value_of c.in_ok-found.found.node in
     let bytes = slice_range (space_at c.find.new.memory c.in_ok-lent.lent.space.0).bytes c.args.place (c.args.place + c.args.file.now.len) in
-    let name = found_name c.args.self.now.first c.args.self.now.last c.args.self.now s c.args.file.now.name.now _ c.in_ok-found.found.address node (found_now at).found in
+    let name = (found_now at).found.named in
     let served : put c.args.file.now.offset c.args.place c.args.file.now.len b (file_named c.args.file.now.name.now (files_in c.args.self.now s)) (files_in c.args.self.now s) s.account
     ≡ beside b (written c.args.file.now.offset bytes (file_named c.in_ok-found.found.node.name.items (files_in c.args.self.now s)) (files_in c.args.self.now s) s.account) =
     ap (λ o. put c.args.file.now.offset c.args.place c.args.file.now.len b o (files_in c.args.self.now s) s.account) (named_now at)

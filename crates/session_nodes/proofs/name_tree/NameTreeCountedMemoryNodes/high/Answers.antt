@@ -15,7 +15,7 @@ pub load-requires-clause-exists : goal.load-requires-clause-exists
 load-requires-clause-exists g c = (c.find_node-at.ensures.found 80 8 (omega arith) (omega arith)).there.exists
 
 pub returns-clause-view : goal.returns-clause-view
-returns-clause-view g c = ap (λ m. names_in m (stock_of c.args.self.now.rooms.now m c.args.self.now.map.now).nodes) (c.load.ensures.memory)
+returns-clause-view g c = ap (λ m. names_in m (stock_of c.args.self.now.heaps.now m c.args.self.now.map.now).nodes) (c.load.ensures.memory)
 
 pub returns-clause-keeps : goal.returns-clause-keeps
-returns-clause-keeps g c = (c.load.ensures.same_reference, names_after c.args.self.now.rooms.now.nodes c.args.self.now.rooms.now.contents c.args.self.now.map.now c.load.ensures.memory)
+returns-clause-keeps g c = (c.load.ensures.same_reference, names_after c.args.self.now.heaps.now.nodes c.args.self.now.heaps.now.contents c.args.self.now.map.now c.load.ensures.memory)

@@ -43,7 +43,7 @@ pub load-left-requires-clause-exists : goal.load-left-requires-clause-exists
 load-left-requires-clause-exists g c = (c.find_node-at.ensures.found 64 8 (omega arith) (omega arith)).there.exists
 
 pub returns-clause-view : goal.returns-clause-view
-returns-clause-view g c = ap (λ m. names_in m (stock_of c.args.self.now.rooms.now m c.args.self.now.map.now).nodes) (c.load-high.ensures.memory ∙ c.load-right.ensures.memory ∙ c.load-left.ensures.memory)
+returns-clause-view g c = ap (λ m. names_in m (stock_of c.args.self.now.heaps.now m c.args.self.now.map.now).nodes) (c.load-high.ensures.memory ∙ c.load-right.ensures.memory ∙ c.load-left.ensures.memory)
 
 pub returns-clause-keeps : goal.returns-clause-keeps
-returns-clause-keeps g c = (c.load-high.ensures.same_reference ∙ c.load-right.ensures.same_reference ∙ c.load-left.ensures.same_reference, names_after c.args.self.now.rooms.now.nodes c.args.self.now.rooms.now.contents c.args.self.now.map.now (c.load-high.ensures.memory ∙ c.load-right.ensures.memory ∙ c.load-left.ensures.memory))
+returns-clause-keeps g c = (c.load-high.ensures.same_reference ∙ c.load-right.ensures.same_reference ∙ c.load-left.ensures.same_reference, names_after c.args.self.now.heaps.now.nodes c.args.self.now.heaps.now.contents c.args.self.now.map.now (c.load-high.ensures.memory ∙ c.load-right.ensures.memory ∙ c.load-left.ensures.memory))

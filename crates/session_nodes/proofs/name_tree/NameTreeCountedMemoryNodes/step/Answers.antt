@@ -64,19 +64,19 @@ pub order-requires-clause-exists : goal.order-requires-clause-exists
 order-requires-clause-exists g c = (c.find_node-at.ensures.found 24 40 (omega arith) (omega arith)).there.exists
 
 pub returns-in-Less-clause-view : goal.returns-in-Less-clause-view
-returns-in-Less-clause-view g c = ap (λ m. names_in m (stock_of c.args.self.now.rooms.now m c.args.self.now.map.now).nodes) (c.load.ensures.memory ∙ c.order.ensures.memory)
+returns-in-Less-clause-view g c = ap (λ m. names_in m (stock_of c.args.self.now.heaps.now m c.args.self.now.map.now).nodes) (c.load.ensures.memory ∙ c.order.ensures.memory)
 
 pub returns-in-Less-clause-keeps : goal.returns-in-Less-clause-keeps
-returns-in-Less-clause-keeps g c = (c.load.ensures.same_reference ∙ c.order.ensures.same_reference, names_after c.args.self.now.rooms.now.nodes c.args.self.now.rooms.now.contents c.args.self.now.map.now (c.load.ensures.memory ∙ c.order.ensures.memory))
+returns-in-Less-clause-keeps g c = (c.load.ensures.same_reference ∙ c.order.ensures.same_reference, names_after c.args.self.now.heaps.now.nodes c.args.self.now.heaps.now.contents c.args.self.now.map.now (c.load.ensures.memory ∙ c.order.ensures.memory))
 
 pub returns-in-Equal-clause-view : goal.returns-in-Equal-clause-view
-returns-in-Equal-clause-view g c = ap (λ m. names_in m (stock_of c.args.self.now.rooms.now m c.args.self.now.map.now).nodes) (c.order.ensures.memory)
+returns-in-Equal-clause-view g c = ap (λ m. names_in m (stock_of c.args.self.now.heaps.now m c.args.self.now.map.now).nodes) (c.order.ensures.memory)
 
 pub returns-in-Equal-clause-keeps : goal.returns-in-Equal-clause-keeps
-returns-in-Equal-clause-keeps g c = (c.order.ensures.same_reference, names_after c.args.self.now.rooms.now.nodes c.args.self.now.rooms.now.contents c.args.self.now.map.now c.order.ensures.memory)
+returns-in-Equal-clause-keeps g c = (c.order.ensures.same_reference, names_after c.args.self.now.heaps.now.nodes c.args.self.now.heaps.now.contents c.args.self.now.map.now c.order.ensures.memory)
 
 pub returns-in-Greater-clause-view : goal.returns-in-Greater-clause-view
-returns-in-Greater-clause-view g c = ap (λ m. names_in m (stock_of c.args.self.now.rooms.now m c.args.self.now.map.now).nodes) (c.load-in-Greater.ensures.memory ∙ c.order.ensures.memory)
+returns-in-Greater-clause-view g c = ap (λ m. names_in m (stock_of c.args.self.now.heaps.now m c.args.self.now.map.now).nodes) (c.load-in-Greater.ensures.memory ∙ c.order.ensures.memory)
 
 pub returns-in-Greater-clause-keeps : goal.returns-in-Greater-clause-keeps
-returns-in-Greater-clause-keeps g c = (c.load-in-Greater.ensures.same_reference ∙ c.order.ensures.same_reference, names_after c.args.self.now.rooms.now.nodes c.args.self.now.rooms.now.contents c.args.self.now.map.now (c.load-in-Greater.ensures.memory ∙ c.order.ensures.memory))
+returns-in-Greater-clause-keeps g c = (c.load-in-Greater.ensures.same_reference ∙ c.order.ensures.same_reference, names_after c.args.self.now.heaps.now.nodes c.args.self.now.heaps.now.contents c.args.self.now.map.now (c.load-in-Greater.ensures.memory ∙ c.order.ensures.memory))

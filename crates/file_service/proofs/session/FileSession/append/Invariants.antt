@@ -1,4 +1,0 @@
-use Rattle.file_service.proofs.session.FileSession.append.Given as goal
-
-abbrev pub ghosts-enter : goal.ghosts-enter
-ghosts-enter a = record { name = a.blank.name; parts = a.blank.parts }

@@ -1,4 +1,0 @@
-use Rattle.file_service.proofs.session.FileSession.unlist.Given as goal
-
-abbrev pub ghosts-leave : goal.ghosts-leave
-ghosts-leave a = record { name = a.blank.name; parts = a.blank.parts }
