@@ -1,8 +1,11 @@
 //! The text of a start list with other budgets.
+ghost use Rattle.std.specs.Prelude.{◌≡◌, OnOk};
+ghost use Rattle.serde_json.specs.View.{members_view};
+ghost use Rattle.budget_least.specs.Drafts.{with_size_members, HaveBudget};
 
 use budget_meter::{Budget, Bytes};
 use list_parser::{BootFault, StartList};
-use serde_json::{Value, put};
+use serde_json::{Map, Value, put};
 use std::alloc::Global;
 
 /// A start list's JSON value, in which budgets are replaced, and the place of each entry in it.
@@ -29,11 +32,10 @@ impl Draft {
         pages: u64,
         caps: u64,
     ) -> Result<(), BootFault> {
-        if let Some(Value::Object(machine)) = self.value.pointer_mut("/machine") {
-            put(machine, alloc, "pages", Value::from(pages))?;
-            put(machine, alloc, "caps", Value::from(caps))?;
+        match self.value.pointer_mut("/machine") {
+            Some(Value::Object(machine)) => put_size(machine, alloc, pages, caps),
+            _ => Ok(()),
         }
-        Ok(())
     }
 
     /// Sets the budget of a component. The error is that the host is out of memory.
@@ -46,13 +48,10 @@ impl Draft {
         let Some(place) = self.places.get(component) else {
             return Ok(());
         };
-        if let Some(Value::Object(entry)) = self.value.pointer_mut(place.as_str()) {
-            let shown = Bytes(budget.ram);
-            let ram = format!(in alloc; "{shown}")?;
-            put(entry, alloc, "quantum", Value::from(ram))?;
-            put(entry, alloc, "caps", Value::from(budget.caps))?;
+        match self.value.pointer_mut(place.as_str()) {
+            Some(Value::Object(entry)) => put_budget(entry, alloc, budget),
+            _ => Ok(()),
         }
-        Ok(())
     }
 
     /// Its text, with a line for each member.
@@ -60,6 +59,37 @@ impl Draft {
         let text = self.value.to_string_pretty(alloc)?;
         Ok(text)
     }
+}
+
+// Puts a size into the members of a machine.
+fn put_size(
+    machine: &mut Map<String, Value>,
+    alloc: Global,
+    pages: u64,
+    caps: u64,
+) -> Result<(), BootFault>
+    ensures { OnOk result (members_view machine.new.entries
+        ≡ with_size_members pages caps (members_view machine.old.entries)) }
+{
+    put(machine, alloc, "pages", Value::from(pages))?;
+    put(machine, alloc, "caps", Value::from(caps))?;
+    Ok(())
+}
+
+// Puts a budget into the members of an entry.
+fn put_budget(
+    entry: &mut Map<String, Value>,
+    alloc: Global,
+    budget: Budget,
+) -> Result<(), BootFault>
+    ensures { OnOk result (HaveBudget budget.caps (members_view entry.old.entries)
+        (members_view entry.new.entries)) }
+{
+    let shown = Bytes(budget.ram);
+    let ram = format!(in alloc; "{shown}")?;
+    put(entry, alloc, "quantum", Value::from(ram))?;
+    put(entry, alloc, "caps", Value::from(budget.caps))?;
+    Ok(())
 }
 
 // The number of the init of a component, where that is one of the list itself.

@@ -29,8 +29,8 @@ Exit status:
   1    a failed read or write, too many lines, or no memory during a run
   2    a refused command line, file or start list; with --strict also a finding
   3    a reply that isn't as expected, a line that is no call, a failed test, a
-       broken policy, a denied request, or an unknown component; with --strict
-       also a warning about a line
+       broken policy, coverage below a threshold, a denied request, or an unknown
+       component; with --strict also a warning about a line
   4    `diff` found a difference
   141  the reader of the output closed it
 docs/reference/ has the formats of scenarios, start lists, policies and output.";
@@ -136,7 +136,7 @@ pub(crate) const ALONE: &str =
 pub(crate) const TEST: &str = "Run scenarios as tests and report the results (TAP 13)";
 
 pub(crate) const DIFF: &str =
-    "Compare two start lists: entries, budgets, who reaches whom, and replies";
+    "Compare two start lists: entries, budgets, who reaches whom, breaches of a policy, and replies";
 
 pub(crate) const LEAST: &str = "Compute the sufficient and the minimum budgets of a scenario";
 
@@ -149,6 +149,9 @@ pub(crate) const AS_DONATED: &str = "Keep the donations of the scenario";
 pub(crate) const LEAST_LIST: &str = "Write the start list with the minimum budgets";
 
 pub(crate) const LEAST_SCENARIO: &str = "Write the scenario with the minimum donations";
+
+pub(crate) const SAFE: &str =
+    "Write safe budgets and donations, from which on all suffice, in place of the minimum";
 
 pub(crate) const SCENARIO: &str = "The path of a scenario; - is standard input";
 
@@ -206,6 +209,12 @@ pub(crate) const AFTER: &str = "The start list after the change, in JSON";
 
 pub(crate) const COMPARED: &str = "A scenario whose replies are compared line by line";
 
+pub(crate) const COMPARED_POLICY: &str =
+    "A policy for AFTER; its breaches that BEFORE or AFTER alone has are reported";
+
+pub(crate) const SCENARIO_AFTER: &str =
+    "Run the scenario FILE on AFTER, and SCENARIO on BEFORE alone";
+
 pub(crate) const PATHS: &str =
     "A scenario, a policy, or a folder with these: NAME.scenario runs on NAME.json if that exists, and NAME.json is checked against NAME.policy";
 
@@ -213,6 +222,14 @@ pub(crate) const OTHER_MACHINE: &str =
     "A start list in JSON for scenarios without their own, instead of the built-in machine";
 
 pub(crate) const COVERAGE: &str =
-    "Report which rules decide a request, and which refusals and errors occur";
+    "Report which rules decide a session request, and which script requests which service";
+
+pub(crate) const COVERAGE_CALLS: &str = "Report the coverage, and which refusals and errors occur";
+
+pub(crate) const THRESHOLD: &str =
+    "Report the coverage, and exit with status 3 if less than N percent of the rules and session requests are covered";
+
+pub(crate) const FILTER: &str =
+    "Run only the tests with TEXT in their paths; repeatable, and then one of the texts is enough";
 
 pub(crate) const JUNIT: &str = "Write the results to FILE as JUnit's XML";

@@ -7,9 +7,8 @@ use crate::view::{AccountsForm, RunView, view};
 use cli_base::{
     Machine, MachineChoice, Origin, OutputStream, REFUSED, ReadFailure, STANDARD_INPUT, Settings,
     Spot, Warnings, made_or_status, read_whole, report_boot_fault, report_error, unfolded,
-    warned_status, writer,
+    warned_status, watched_reader, writer,
 };
-use cli_engine::Input;
 use init_core::StartList;
 use line_names::RoundMark;
 use run_scenario::{ScenarioInput, near_component};
@@ -215,7 +214,7 @@ fn played(
     origin: Origin<'_>,
 ) -> RunEnd {
     let coloring = viewing.coloring();
-    let mut reader = Input::new(origin);
+    let mut reader = watched_reader(rt, origin, viewing.printing());
     let stderr = OutputStream::Complained(rt.stderr());
     let mut complaints = writer(rt, stderr, Lines::Complaints, coloring.err);
     if let RunView::Accounts(AccountsForm::Rows(form)) = viewing {

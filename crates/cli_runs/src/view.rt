@@ -1,5 +1,5 @@
 //! The part of a run that a command prints.
-use cli_base::{Coloring, Reader, Writer};
+use cli_base::{Coloring, Printing, Reader, Writer};
 use init_core::BootFault;
 use run_scenario::{ScenarioEnd, ScenarioInput};
 use view_accounts::accounts;
@@ -40,6 +40,14 @@ pub(crate) enum RowsForm {
 }
 
 impl<'a> RunView<'a> {
+    /// Returns when the part is printed: the accounts after the run, and each other part during it.
+    pub(crate) fn printing(self) -> Printing {
+        match self {
+            RunView::Accounts(_) => Printing::Afterwards,
+            _ => Printing::Meanwhile,
+        }
+    }
+
     /// Returns which streams are coloured: only a transcript has colours.
     pub(crate) fn coloring(self) -> Coloring {
         match self {

@@ -1,4 +1,6 @@
 mod AccessLemmas
+mod BreachLemmas
+mod NewBreachLemmas
 mod PairLemmas
 mod ReachLemmas
 mod ReplyLemmas

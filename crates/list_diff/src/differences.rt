@@ -4,6 +4,7 @@ ghost use Rattle.list_diff.specs.Differences.{nothing_differs, same_machine};
 
 use crate::entry_changes::EntryChange;
 use crate::need_changes::NeedChange;
+use crate::policy_breaches::BreachChange;
 use crate::reach_changes::ReachChange;
 use crate::reply_changes::ReplyChange;
 use list_parser::{ListEntry, StartList};
@@ -21,6 +22,8 @@ pub struct ListDifferences<'a> {
     pub changes: &'a [EntryChange],
     /// The labels that are routed to a server on one list alone.
     pub leads: &'a [ReachChange<'a>],
+    /// The breaches of a policy that one list alone has.
+    pub breaches: &'a [BreachChange<'a>],
     /// The components whose budgets suffice for the scenario before and not after.
     pub lacks: &'a [NeedChange<'a>],
     /// The lines of the scenario whose replies differ.
@@ -35,6 +38,7 @@ impl ListDifferences<'_> {
         self.has_same_machine()
             && self.changes.is_empty()
             && self.leads.is_empty()
+            && self.breaches.is_empty()
             && self.lacks.is_empty()
             && self.replies.is_empty()
     }
@@ -75,6 +79,9 @@ impl fmt::Display for ListDifferences<'_> {
         }
         for lead in self.leads {
             lead.fmt(f)?;
+        }
+        for breach in self.breaches {
+            breach.fmt(f)?;
         }
         Ok(())
     }

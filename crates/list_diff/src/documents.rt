@@ -37,6 +37,9 @@ impl ListDifferences<'_> {
         for lead in self.leads {
             lead.list(alloc, &mut listing)?;
         }
+        for breach in self.breaches {
+            breach.list(&mut listing)?;
+        }
         for lack in self.lacks {
             lack.list(&mut listing)?;
         }

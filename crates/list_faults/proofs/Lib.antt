@@ -3,3 +3,4 @@ pub mod PlaceLemmas
 pub mod RuleLemmas
 pub mod StartsLemmas
 pub mod ValueLemmas
+pub mod JsonAdviceLemmas

@@ -1,3 +1,4 @@
 pub mod Places
 pub mod RuleFaults
 pub mod Values
+pub mod JsonAdvice

@@ -6,6 +6,7 @@
 //! ```
 #![tactic(auto)]
 
+mod json_advice;
 mod list_fault;
 mod rule_flaw;
 mod value_flaw;

@@ -1,21 +1,26 @@
 -- The coverage of a machine by the answered calls of a scenario: which of its rows are met.
-use Rattle.std.specs.Prelude.{ℕ, ◌+◌, ◌&&◌, ◌||◌, zero, suc, Bool, false, List, [], ◌∷◌, ◌++◌, map, length, Option, Some, None}
+use Rattle.std.specs.Prelude.{ℕ, ◌+◌, ◌&&◌, ◌==◌, ◌||◌, zero, suc, Bool, true, false, List, [], ◌∷◌, ◌++◌, if◌then◌else◌, map, length, Option, Some, None}
 use Rattle.std.specs.List.{flat_map, list_any}
-use Rattle.std.specs.Option.{option_copied}
+use Rattle.std.specs.Option.{option_copied, option_map}
 use Rattle.std.specs.Str.{bytes_eq}
 use Rattle.trade_base.specs.Refusal.{refusal_name}
-use Rattle.own_model.specs.Listed.{Listed, ListedEntry, ListedRule}
+use Rattle.trade_base.specs.Service.{service_name, services}
+use Rattle.trade_base.specs.declared.service.Service.{Service}
+use Rattle.own_model.specs.Listed.{Binary, Listed, ListedEntry, ListedRule, offers}
+use Rattle.own_model.specs.Listed.Binary.{Script}
 use Rattle.own_model.specs.Call.{Spoken, parsed_call}
 use Rattle.run_exchanges.specs.Exchange.{Exchange}
 use Rattle.view_coverage.specs.Forms.{form_of, forms, is_form_of, refusals_of}
 use Rattle.view_coverage.specs.Requests.{errors_of, is_asked, is_error, request_word, requests}
-use Rattle.view_coverage.specs.Rules.{decided_by, is_rule}
+use Rattle.view_coverage.specs.Rules.{SessionRequest, is_rule, request_of, rules_of_request}
+use Rattle.view_coverage.specs.Views.{request_view}
 use Rattle.view_coverage.specs.declared.request_forms.CoverageRequest.{CoverageRequest}
 use Rattle.view_coverage.specs.declared.event.CoverageEvent.{CoverageEvent}
-use Rattle.view_coverage.specs.declared.event.CoverageEvent.TheVariants.{Refused, Failed, Decided}
+use Rattle.view_coverage.specs.declared.event.CoverageEvent.TheVariants.{Refused, Failed, Decided, Requested}
 use Rattle.view_coverage.specs.declared.event.RouteOwner.{RouteOwner}
 use Rattle.view_coverage.specs.declared.event.RouteOwner.TheVariants.{Own, Inner, Machine}
 use Rattle.view_coverage.specs.declared.event.RulePlace.{RulePlace}
+use Rattle.view_coverage.specs.declared.event.ScriptService.{ScriptService}
 use Rattle.view_coverage.specs.declared.call_forms.CoverageCall.{CoverageCall}
 use Rattle.view_coverage.specs.declared.row.CallEvidence.{CallEvidence}
 use Rattle.view_coverage.specs.declared.row.CoverageRow.{CoverageRow}
@@ -35,25 +40,38 @@ answer_of exchange = record { line = exchange.line; reply = exchange.reply }
 abbrev pub has_rule : List RulePlace → RulePlace → Bool
 has_rule rules rule = list_any (is_rule rule) rules
 
--- the evidence of an answered line: its reply, and the rules that decided its session request. It has the form of the call and
--- the first word of the request, if the line has these.
+-- a session request is one of a script for a service
+abbrev pub is_request : ScriptService → Option SessionRequest → Bool
+is_request asked None = false
+is_request asked (Some request) = asked.client == request.client && bytes_eq request.service (service_name asked.service)
+
+-- the evidence of an answered line: its reply, and the rules that decided its session request. It has the form of the call, the
+-- first word of the request and the session request, if the line has these.
 pub record Evidence : Type 0 where
   pub form : Option CoverageCall
   pub word : Option (List ℕ)
   pub reply : List ℕ
+  pub request : Option SessionRequest
   pub rules : List RulePlace
 
 abbrev pub evidence_in : CallEvidence → Evidence
-evidence_in it = record { form = it.form; word = option_copied it.word; reply = it.answer.text.now; rules = it.rules.now }
+evidence_in it = record {
+  form = it.form;
+  word = option_copied it.word;
+  reply = it.answer.text.now;
+  request = option_map request_view it.request;
+  rules = it.rules.now;
+}
 
 -- the evidence of a line, by its call, if it has one, and by its reply
 abbrev pub evidence_of : Listed → Option Spoken → List ℕ → Evidence
-evidence_of list None reply = record { form = None; word = None; reply = reply; rules = [] }
+evidence_of list None reply = record { form = None; word = None; reply = reply; request = None; rules = [] }
 evidence_of list (Some said) reply = record {
   form = form_of said.call;
   word = request_word said.call;
   reply = reply;
-  rules = decided_by list said reply;
+  request = request_of list said reply;
+  rules = rules_of_request list (request_of list said reply);
 }
 
 abbrev pub evidence : Listed → Answer → Evidence
@@ -64,6 +82,7 @@ abbrev pub shown_with : Evidence → CoverageEvent → Bool
 shown_with it (Refused form refusal) = is_form_of form it.form && bytes_eq it.reply (refusal_name refusal)
 shown_with it (Failed asked error) = is_asked asked it.word && is_error error it.reply
 shown_with it (Decided rule) = has_rule it.rules rule
+shown_with it (Requested asked) = is_request asked it.request
 
 abbrev pub is_shown : Listed → CoverageEvent → Answer → Bool
 is_shown list event answer = shown_with (evidence list answer) event
@@ -110,10 +129,32 @@ calls_rows = flat_map refusal_rows forms
 abbrev pub requests_rows : List CoverageRow
 requests_rows = flat_map error_rows requests
 
--- the rows of a machine, none of them met
+-- an entry of the list provides a service
+abbrev pub is_provided : List ListedEntry → Service → Bool
+is_provided entries service = list_any (λ entry. offers entry.home (service_name service) entry) entries
+
+-- the row of a script's requests of a service, if an entry provides it
+abbrev pub service_rows : List ListedEntry → ℕ → Service → List CoverageRow
+service_rows entries client service =
+    if is_provided entries service then unmet (Requested (record { client = client; service = service })) ∷ [] else []
+
+abbrev pub is_script : Binary → Bool
+is_script Script = true
+is_script _ = false
+
+-- the rows of the session requests of an entry: of a script one for each service
+abbrev pub script_rows : List ListedEntry → ℕ → ListedEntry → List CoverageRow
+script_rows all number entry = if is_script entry.binary then flat_map (service_rows all number) services else []
+
+abbrev pub scripts_rows : List ListedEntry → ℕ → List ListedEntry → List CoverageRow
+scripts_rows all number [] = []
+scripts_rows all number (entry ∷ entries) = script_rows all number entry ++ scripts_rows all (number + 1) entries
+
+-- the rows of a machine, none of them met: of both tables, of each rule, and of each script and service
 abbrev pub rows_of : Listed → List CoverageRow
 rows_of list =
     calls_rows ++ requests_rows ++ route_rows Machine (length list.default_route) ++ rows_of_entries 0 list.entries
+    ++ scripts_rows list.entries 0 list.entries
 
 -- ---- all answers
 

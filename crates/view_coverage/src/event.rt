@@ -8,7 +8,7 @@ ghost use Rattle.view_coverage.specs.Rules.{is_rule, is_same};
 use crate::call_forms::CoverageCall;
 use crate::request_forms::CoverageRequest;
 use core_calls::{Answer, FileError, Outcome, ServiceOutcome};
-use trade_base::Refusal;
+use trade_base::{Refusal, Service};
 
 /// An event that a reply can show.
 #[derive(Clone, Copy)]
@@ -19,6 +19,15 @@ pub enum CoverageEvent {
     Failed(CoverageRequest, FileError),
     /// A rule decides a session request.
     Decided(RulePlace),
+    /// A script requests a session of a service.
+    Requested(ScriptService),
+}
+
+/// A script, by the number of its entry, and a service that it may request.
+#[derive(Clone, Copy)]
+pub struct ScriptService {
+    pub client: usize,
+    pub service: Service,
 }
 
 /// The owner of a route, by number: an entry, an init for the default route of its list, or the machine.

@@ -1,17 +1,18 @@
 //! The rows of a machine, none of them met.
 ghost use Rattle.std.specs.Prelude.{◌≡◌, ◌++◌, length, map, OnOk, IfOk};
 ghost use Rattle.std.specs.List.{flat_map};
-ghost use Rattle.view_coverage.specs.Covered.{error_rows, refusal_rows, route_rows, rows_of, rows_of_entries, rows_of_entry, unmet};
+ghost use Rattle.view_coverage.specs.Covered.{error_rows, is_provided, refusal_rows, route_rows, rows_of, rows_of_entries, rows_of_entry, script_rows, scripts_rows, service_rows, unmet};
 
 use crate::call_forms::{CoverageCall, FORMS};
-use crate::event::{CoverageEvent, RouteOwner, RulePlace};
+use crate::event::{CoverageEvent, RouteOwner, RulePlace, ScriptService};
 use crate::request_forms::{CoverageRequest, REQUESTS};
 use crate::row::CoverageRow;
-use list_parser::{ListEntry, StartList};
+use list_parser::{Binary, ListEntry, StartList};
 use std::alloc::{AllocError, Global};
+use trade_base::{SERVICES, Service};
 
-/// Returns the rows of a machine: of the table of calls, of the table of requests, and of each rule of its start list. Fails if
-/// the host is out of memory.
+/// Returns the rows of a machine: of the table of calls, of the table of requests, of each rule of its start list, and of each
+/// script by service. Fails if the host is out of memory.
 pub(crate) fn rows_of(alloc: Global, list: &StartList) -> Result<Vec<CoverageRow>, AllocError>
     ensures { IfOk result (λ rows. rows.items ≡ rows_of list.now) }
 {
@@ -20,6 +21,7 @@ pub(crate) fn rows_of(alloc: Global, list: &StartList) -> Result<Vec<CoverageRow
     add_requests(&mut rows, &REQUESTS)?;
     add_rules(&mut rows, RouteOwner::Machine, list.default_route().len())?;
     add_entries(&mut rows, list.entries())?;
+    add_scripts(&mut rows, list.entries())?;
     Ok(rows)
 }
 
@@ -102,4 +104,73 @@ fn add_entry(
         add_rules(rows, RouteOwner::Own(number), rules.len())?;
     }
     add_rules(rows, RouteOwner::Inner(number), entry.inner_route().len())
+}
+
+// Adds the session requests of scripts.
+fn add_scripts(rows: &mut Vec<CoverageRow>, entries: &[ListEntry]) -> Result<(), AllocError>
+    ensures { OnOk result
+        (rows.new.items ≡ rows.old.items ++ scripts_rows entries.now 0 entries.now) }
+{
+    for number in 0..entries.len() {
+        add_script(rows, entries, number, &entries[number])?;
+    }
+    Ok(())
+}
+
+// Adds the session requests of an entry: of a script one for each service that is provided.
+fn add_script(
+    rows: &mut Vec<CoverageRow>,
+    entries: &[ListEntry],
+    number: usize,
+    entry: &ListEntry,
+) -> Result<(), AllocError>
+    ensures { OnOk result
+        (rows.new.items ≡ rows.old.items ++ script_rows entries.now number entry.now) }
+{
+    match entry.binary() {
+        Binary::Script => add_services(rows, entries, number, &SERVICES),
+        Binary::Server(_) => Ok(()),
+        Binary::Init => Ok(()),
+    }
+}
+
+// Adds the session requests of a script, one for each of these services that is provided.
+fn add_services(
+    rows: &mut Vec<CoverageRow>,
+    entries: &[ListEntry],
+    client: usize,
+    services: &[Service],
+) -> Result<(), AllocError>
+    ensures { OnOk result
+        (rows.new.items ≡ rows.old.items ++ flat_map (service_rows entries.now client) services.now) }
+{
+    for service in services {
+        add_service(rows, entries, client, *service)?;
+    }
+    Ok(())
+}
+
+// Adds the session requests of a script for a service, if the service is provided.
+fn add_service(
+    rows: &mut Vec<CoverageRow>,
+    entries: &[ListEntry],
+    client: usize,
+    service: Service,
+) -> Result<(), AllocError>
+    ensures { OnOk result
+        (rows.new.items ≡ rows.old.items ++ service_rows entries.now client service) }
+{
+    if is_provided(entries, service) {
+        let asked = ScriptService { client, service };
+        rows.push(unmet(CoverageEvent::Requested(asked)))?;
+    }
+    Ok(())
+}
+
+// Returns whether an entry provides a service.
+fn is_provided(entries: &[ListEntry], service: Service) -> bool
+    ensures { result ≡ is_provided entries.now service }
+{
+    let name = service.name().as_bytes();
+    entries.iter().any(|entry| entry.offers(entry.home(), name))
 }
