@@ -1,6 +1,8 @@
 //! The reader of a scenario: its bytes, and on a terminal how many of its lines are read.
+ghost use Rattle.std.specs.Prelude.{◌≡◌, false};
+
 use crate::streams::Origin;
-use cli_engine::Input;
+use cli_engine::{Input, Source};
 use std::io;
 use std::io::{IsTerminal, Read};
 use std::time::Instant;
@@ -33,7 +35,9 @@ pub fn watched_reader<'a>(
     rt: &'a HostRuntime,
     origin: Origin<'a>,
     printing: Printing,
-) -> Reader<'a> {
+) -> Reader<'a>
+    ensures fresh { ⟦<Reader<'a> as Source>⟧.has_failed result ≡ false }
+{
     let is_seen = printing == Printing::Meanwhile && rt.stdout().is_terminal();
     let progress = if is_seen || !rt.stderr().is_terminal() {
         None
@@ -44,7 +48,9 @@ pub fn watched_reader<'a>(
 }
 
 /// Returns a reader of a scenario that reports no progress.
-pub fn silent_reader(origin: Origin<'_>) -> Reader<'_> {
+pub fn silent_reader<'a>(origin: Origin<'a>) -> Reader<'a>
+    ensures fresh { ⟦<Reader<'a> as Source>⟧.has_failed result ≡ false }
+{
     Input::new(ScenarioBytes {
         origin,
         progress: None,

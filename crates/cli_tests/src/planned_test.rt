@@ -47,6 +47,7 @@ pub(crate) fn select_tests(tests: &mut Vec<PlannedTest>, texts: &[&str])
 }
 
 // Returns whether the path of a test has one of these texts, or there is no text.
+#[tactic(auto, using(crate::proofs::PlanLemmas::list_any_of_map))]
 fn is_selected(texts: &[&str], test: &PlannedTest) -> bool
     ensures { result ≡ is_selected (map (λ text. text.now) texts.now) test.now }
 {
