@@ -1,2 +1,2 @@
-pub mod PlanLemmas
+mod PlanLemmas
 mod RunLemmas
