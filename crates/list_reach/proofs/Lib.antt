@@ -1,7 +1,6 @@
-pub mod TableLemmas
-pub mod DecisionLemmas
+pub mod AdditionLemmas
 pub mod TrailLemmas
 pub mod WaysLemmas
 pub mod WishLemmas
-mod NamedLemmas
+pub mod NamedLemmas
 pub mod ComparisonLemmas

@@ -31,7 +31,8 @@ entries_behind stage line = entries_by stage (resolved_line None stage.stand.kno
 
 -- ---- the turn of a line
 
-on_ok : {E : Type 0} (r : Result Unit E) {P : Type 0} → P → OnOk r P
+-- what holds holds if all is well
+pub on_ok : {E : Type 0} (r : Result Unit E) {P : Type 0} → P → OnOk r P
 on_ok (Ok done) p = p
 on_ok (Err fault) p = tt
 

@@ -1,5 +1,6 @@
 -- A play from line to line: what was played, and what it leaves at its end.
 use Rattle.std.proofs.Common.{◌≡◌, ◌||◌, ℕ, ◌≤◌, List, [], ◌∷◌, ◌++◌, length, Option, Some, None, IfNone, Result, Ok, Err, IfOk, OnOk, is_some, Bool, true, false, ⊎_elim, refl, sym, ◌∙◌, ap, subst, append-nil}
+use Rattle.std.proofs.lemmas.Bool.{or_from, or_parts}
 use Rattle.std.specs.Result.{result_err}
 use Rattle.own_model.specs.LinesOfName.{said_by}
 use Rattle.own_model.specs.StartList.{Entry}
@@ -10,7 +11,6 @@ use Rattle.run_lines.specs.RunOutput.{OutputsUnless}
 use Rattle.run_lines.specs.LineRuns.{EndsAs, EndsFor, Continues, PlaysAll as PlaysLines, HandlesLine}
 use Rattle.run_lines.specs.declared.line_run_fault.LineRunFault.{LineRunFault}
 use Rattle.run_lines.specs.declared.line_run_fault.LineRunFault.TheVariants.{ReadFault, WriteFault, TooManyLines, NoMemory}
-use Rattle.run_lines.proofs.FaultLemmas.{none_of, or_none}
 use Rattle.run_lines.proofs.ToldLemmas.{left_none, said_none}
 use Rattle.run_scenario.specs.Faults.{takes_memory}
 use Rattle.run_scenario.specs.RunCalls.{calls_answered, calls_of_steps, text_of_calls, text_of_steps}
@@ -209,7 +209,7 @@ closes_as (Err NoMemory) a b fails = absurd (let e : false ≡ true = fails.1 in
 
 -- complaints can be told where no fault came
 pub complaints_work : (fault : Option LineRunFault) (k a : Bool) → (k || a) ≡ is_write_fault fault → IfNone fault (a ≡ false)
-complaints_work None k a writing = (none_of k a writing).1
+complaints_work None k a writing = (or_parts k a writing).1
 complaints_work (Some fault) k a writing = tt
 
 -- what is complained of then may not be told
@@ -263,8 +263,8 @@ closed_counts only start begun errors now_errors awaited (Some fault) counts = t
 
 -- whether a write failed
 pub closed_writing : (fault ended : Option LineRunFault) (k a b : Bool) → (k || a) ≡ is_write_fault fault → ClosesAs fault ended a b → (k || b) ≡ is_write_fault ended
-closed_writing None None k a b writing closes = or_none k b (none_of k a writing).0 closes
-closed_writing None (Some fault) k a b writing closes = rw (closes.0, closes.1, (none_of k a writing).0) refl
+closed_writing None None k a b writing closes = or_from k b (or_parts k a writing).0 closes
+closed_writing None (Some fault) k a b writing closes = rw (closes.0, closes.1, (or_parts k a writing).0) refl
 closed_writing (Some fault) ended k a b writing closes = rw (closes.0, closes.1) writing
 
 -- whether a read failed, and what was kept
