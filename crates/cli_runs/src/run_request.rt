@@ -1,5 +1,6 @@
 //! A scenario's run on a machine, over files and the standard streams.
-ghost use Rattle.std.specs.Prelude.{◌≡◌, ◌==◌, if◌then◌else◌};
+ghost use Rattle.std.specs.Prelude.{◌≡◌, ◌==◌, if◌then◌else◌, IfOk, None};
+ghost use Rattle.cli_runs.specs.RunStatus.{HasStatus, start_of};
 
 use crate::accounts::print_accounts;
 use crate::run_end::RunEnd;
@@ -212,7 +213,10 @@ fn played(
     play: ScenarioInput<'_>,
     viewing: RunView<'_>,
     origin: Origin<'_>,
-) -> RunEnd {
+) -> RunEnd
+    ensures status { IfOk result.ended
+        (HasStatus viewing.entry (start_of viewing.entry play.entry) None) }
+{
     let coloring = viewing.coloring();
     let mut reader = watched_reader(rt, origin, viewing.printing());
     let stderr = OutputStream::Complained(rt.stderr());
@@ -223,7 +227,7 @@ fn played(
     let stdout = OutputStream::Printed(io::writer(rt));
     let mut replies = writer(rt, stdout, Lines::Replies, coloring.out);
     let ended = view(
-        rt,
+        rt.alloc(),
         play,
         viewing,
         &mut reader,

@@ -13,7 +13,7 @@ ghost use Rattle.line_grammar.specs.Read.{IsReadAs};
 ghost use Rattle.run_lines.specs.Causes.{HasCause};
 ghost use Rattle.run_scenario.specs.Faults.{fault_before, unplayed};
 ghost use Rattle.run_lines.specs.Faults.{is_write_fault};
-ghost use Rattle.view_runs.specs.Alone.{AreAlike, SeesAlone, alone_behind, alone_sum, alone_call_text, alone_text};
+ghost use Rattle.view_runs.specs.Alone.{AreAlike, CountsAlone, SeesAlone, alone_behind, alone_sum, alone_call_text, alone_text};
 ghost use Rattle.run_scenario.specs.RunCalls.{calls_answered, text_of_steps};
 ghost use Rattle.run_scenario.specs.Texts.{in_brackets, line_text};
 ghost use Rattle.run_scenario.specs.LineSteps.{turns_of};
@@ -296,6 +296,11 @@ pub fn alone<S: Source, K: Sink, E: Sink>(
         false compared.ending
         (S.remaining reader.old) (S.remaining reader.new)
         (S.has_failed reader.new) (K.contents writer.old) (K.contents writer.new)) }
+    ensures counts { IfOk result (λ compared. fault_before (S.has_failed reader.old)
+        (K.has_failed writer.old || E.has_failed complaints.old) ≡ None →
+        IfNone compared.ending.fault (CountsAlone name.now
+        (start_on None play.entry.start play.entry.list.now) (S.remaining reader.old)
+        compared.ending.complaints compared.lines)) }
     ensures same { IfOk result (λ compared. fault_before (S.has_failed reader.old)
         (K.has_failed writer.old || E.has_failed complaints.old) ≡ None →
         IfNone compared.ending.fault (compared.difference ≡ None)) }
@@ -362,6 +367,11 @@ fn run_alone<'a, R: Router + Drop, Q: Router + Drop, S: Source, K: Sink, E: Sink
         (λ _. alone_sum named.now.name.now result.lines)
         false result.ending (S.remaining reader.old) (S.remaining reader.new)
         (S.has_failed reader.new) (K.contents writer.old) (K.contents writer.new) }
+    ensures counts { fault_before (S.has_failed reader.old)
+        (K.has_failed writer.old || E.has_failed complaints.old) ≡ None →
+        IfNone result.ending.fault (CountsAlone named.now.name.now
+        (start_at None machines.whole notes.old.stand notes.old.critic.expected)
+        (S.remaining reader.old) result.ending.complaints result.lines) }
     ensures same { fault_before (S.has_failed reader.old)
         (K.has_failed writer.old || E.has_failed complaints.old) ≡ None →
         IfNone result.ending.fault (result.difference ≡ None) }
