@@ -89,11 +89,11 @@ alone_played name {first = first} {start = start} {core = core} {count = count} 
     same (Some fault) counted sees = tt
 
 -- the errors of the lines, and how many calls of the name they make
-pub alone_counts : (name : List ℕ) {first : RunPosition} {start last core : World} {awaited : Awaited} {count : ℕ} {difference : Option ℕ} {input rest w w' w'' : Option (List ℕ)} {failed : Bool} (played ended : ScenarioEnd) → played.lines ≤ 1000000 →
+pub alone_counts : (name : List ℕ) {first : RunPosition} {start last core : World} (awaited : Awaited) {count : ℕ} {difference : Option ℕ} {input rest w w' w'' : Option (List ℕ)} {failed : Bool} (played ended : ScenarioEnd) → played.lines ≤ 1000000 →
     RunsAll (alone_call_text name start) false (SeesAlone name core count difference start) (CountsErrors None start (tally 0 awaited) played.complaints) None first played.fault played.lines start last [] input rest failed w w' →
     Closes played ended w' w'' (alone_sum name count) →
     IfNone ended.fault (CountsAlone name (start_at None start first awaited) input ended.complaints count)
-alone_counts name {first = first} {start = start} {core = core} {awaited = awaited} {count = count} {difference = difference} {input = input} {rest = rest} {w' = w'} {w'' = w''} {failed = failed} played ended few plays closes =
+alone_counts name {first = first} {start = start} {core = core} awaited {count = count} {difference = difference} {input = input} {rest = rest} {w' = w'} {w'' = w''} {failed = failed} played ended few plays closes =
     by played.fault ended.fault plays.ends plays.counted plays.complained plays.sees closes.writes
   where
     turns : List LineStep
