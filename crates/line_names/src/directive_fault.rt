@@ -1,6 +1,6 @@
 //! Directives that can't be followed in a run line by line.
-ghost use Rattle.std.specs.Prelude.{◌≡◌, IfNone, IfSome, Some, false, true};
-ghost use Rattle.line_names.specs.DirectiveFault.{is_misplaced};
+ghost use Rattle.std.specs.Prelude.{◌≡◌, Some};
+ghost use Rattle.line_names.specs.DirectiveFault.{why_misplaced};
 ghost use Rattle.line_names.specs.Messages.{directive_message};
 ghost use Rattle.line_names.specs.Views.{directive_view};
 
@@ -43,8 +43,7 @@ impl fmt::Display for DirectiveFault {
 impl Directive<'_> {
     /// Returns why the directive can't be followed, or nothing if it can.
     pub fn misplaced(self) -> Option<DirectiveFault>
-        ensures none { IfNone result (is_misplaced (directive_view self.entry) ≡ false) }
-        ensures some { IfSome result (λ _. is_misplaced (directive_view self.entry) ≡ true) }
+        ensures { result ≡ why_misplaced (directive_view self.entry) }
     {
         match self {
             Directive::Repeat => Some(DirectiveFault::Repeat),

@@ -85,7 +85,7 @@ module _ (only : Option (List ℕ)) (world : World) where
   stands_answered stand Skipped answer answers = refl
   stands_answered stand (BadName fault) answer answers = refl
   stands_answered stand (Follow directive) answer answers = refl
-  stands_answered stand (Misplaced column) answer answers = refl
+  stands_answered stand (Misplaced column why) answer answers = refl
   stands_answered stand Nothing answer answers = refl
   stands_answered stand (Log text) answer answers = refl
   stands_answered stand (Call f line reply) answer answers = ap (λ known. record stand { known = known }) (learns_answer stand.known f (line ∷ []) answer answers)
@@ -97,7 +97,7 @@ module _ (only : Option (List ℕ)) (world : World) where
   next_number stand Skipped = refl
   next_number stand (BadName fault) = refl
   next_number stand (Follow directive) = refl
-  next_number stand (Misplaced column) = refl
+  next_number stand (Misplaced column why) = refl
   next_number stand Nothing = refl
   next_number stand (Log text) = refl
   next_number stand (Call f line reply) = refl
@@ -108,7 +108,7 @@ module _ (only : Option (List ℕ)) (world : World) where
   same_ahead stand Skipped = refl
   same_ahead stand (BadName fault) = refl
   same_ahead stand (Follow directive) = refl
-  same_ahead stand (Misplaced column) = refl
+  same_ahead stand (Misplaced column why) = refl
   same_ahead stand Nothing = refl
   same_ahead stand (Log text) = refl
   same_ahead stand (Call f line reply) = refl
@@ -120,7 +120,7 @@ due_behind stand TooLong answer = refl
 due_behind stand Skipped answer = refl
 due_behind stand (BadName fault) answer = refl
 due_behind stand (Follow directive) answer = refl
-due_behind stand (Misplaced column) answer = refl
+due_behind stand (Misplaced column why) answer = refl
 due_behind stand Nothing answer = refl
 due_behind stand (Log text) answer = refl
 due_behind stand (Call f line reply) answer = refl
