@@ -21,7 +21,7 @@ use Rattle.line_friendly.specs.Expected.{meets}
 use Rattle.line_steps.specs.ResolvedLines.{ResolvedLine, is_skipped, resolved_by, resolved_content, resolved_filled}
 use Rattle.line_steps.specs.ResolvedLines.ResolvedLine.{TooLong, Skipped, BadName, Follow, Misplaced, Nothing, Log, Call, BadLine}
 use Rattle.line_steps.specs.ResolvedViews.{resolved_view}
-use Rattle.run_scenario.specs.CallAnswers.{IsAnsweredCall, TakesStep}
+use Rattle.run_scenario.specs.CallAnswers.{AnswersIn, IsAnsweredCall, TakesStep}
 use Rattle.run_lines.specs.Answer.{IsAnswer}
 use Rattle.run_scenario.specs.Judging.{AnswerText, answer_to, text_in}
 use Rattle.run_scenario.specs.LineSteps.{AreBare, Arrives, bare_content, bare_line, calls_in, learnt_by, learnt_from, left_behind, next_stand, plain_line, resolved_at, stand_after, stand_with, turns_from, turns_of}
@@ -57,12 +57,6 @@ same_known false known = refl
 learnt_none : (known : NameTable) (f : FilledLine) (reply : List ℕ) → f.holes ≡ [] → learnt known f reply ≡ known
 learnt_none known f reply none =
     ap (λ (holes : List BoundName). cond (meets reply f.expected) (learnt_of known reply f.expected holes) known) none ∙ same_known (meets reply f.expected) known
-
--- the one of these calls that is answered has this answer in this world, or none is answered
-abbrev pub AnswersIn : Option (List ℕ) → World → List (List ℕ) → Option LineAnswer → Type 0
-AnswersIn only world calls (Some answer) =
-    (call : List ℕ) × (said_by only calls ≡ call ∷ []) × IsAnswer world (heard world.entries call) answer
-AnswersIn only world calls None = said_by only calls ≡ []
 
 module _ (only : Option (List ℕ)) (world : World) where
   -- so its text is known

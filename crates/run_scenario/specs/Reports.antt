@@ -18,6 +18,7 @@ use Rattle.line_names.specs.Tokens.{token_at}
 use Rattle.line_names.specs.declared.directive_fault.DirectiveFault.{DirectiveFault}
 use Rattle.line_names.specs.declared.fault.NameFault.{NameFault}
 use Rattle.line_steps.specs.ResolvedLines.{start_column}
+use Rattle.line_steps.specs.declared.resolved_line.ScenarioCall.{ScenarioCall}
 use Rattle.run_lines.specs.declared.line_answer.LineAnswer.{LineAnswer}
 use Rattle.view_diagnostics.specs.Diagnostics.{SubjectAt, diagnostic}
 use Rattle.view_diagnostics.specs.declared.diagnostics.Severity.TheVariants.{Error}
@@ -26,6 +27,7 @@ use Rattle.view_diagnostics.specs.declared.place.FilePlace.TheVariants.{Byte}
 use Rattle.run_scenario.specs.Complaints.{log_lines_pieces, reply_pieces, unknown_pieces}
 use Rattle.run_scenario.specs.Judging.{Awaited, is_unknown_call}
 use Rattle.run_scenario.specs.declared.source_line.JudgedLine.{JudgedLine}
+use Rattle.run_scenario.specs.declared.source_line.SourceLine.{SourceLine}
 
 -- a line that is checked: its number, its bytes before and after substitution, and its expected reply, if it has one
 pub record CheckedLine : Type 0 where
@@ -40,6 +42,15 @@ checked asked = record {
   given = asked.given.line.now;
   line = asked.line.now;
   reply = option_copied asked.reply;
+}
+
+-- the same of a line that makes a call
+abbrev pub checked_call : SourceLine → ScenarioCall → CheckedLine
+checked_call given call = record {
+  number = given.number;
+  given = given.line.now;
+  line = call.filled.line.now;
+  reply = option_copied call.reply;
 }
 
 -- ---- places
