@@ -28,8 +28,8 @@ status_is ending errors none are =
 
 module _ (view : RunView) (start : RunStart) {input : Option (List ℕ)} where
   -- a run of all lines
-  status_of_run : {told behind : List LineStep → List ℕ} {calls : Bool} {ending : ScenarioEnd} {rest w w' : Option (List ℕ)} {failed : Bool} → ((turns : List LineStep) → has_no_line view turns ≡ false) →
-      IsRunFrom start told behind calls ending input rest failed w w' → HasStatus view start input ending
+  status_of_run : {told behind : List LineStep → List ℕ} {calls : Bool} {reports : List (List ℕ) → Type 0} {ending : ScenarioEnd} {rest w w' : Option (List ℕ)} {failed : Bool} → ((turns : List LineStep) → has_no_line view turns ≡ false) →
+      IsRunFrom start told behind calls reports ending input rest failed w w' → HasStatus view start input ending
   status_of_run {ending = ending} {rest = rest} {failed = failed} silent run = by ending.fault refl run.ends run.complained
     where
       errors : ℕ
@@ -46,8 +46,8 @@ module _ (view : RunView) (start : RunStart) {input : Option (List ℕ)} where
       by (Some fault) is ends counts = tt
 
   -- or a device had failed before
-  pub has_status : {told behind : List LineStep → List ℕ} {calls : Bool} (ending : ScenarioEnd) {rest w w' : Option (List ℕ)} {failed : Bool} {B C D : Type 0} (before : Option LineRunFault) → ((turns : List LineStep) → has_no_line view turns ≡ false) →
-      (before ≡ None → IsRunFrom start told behind calls ending input rest failed w w') → IfSome before (λ fault. (ending ≡ unplayed fault) × B × C × D) → HasStatus view start input ending
+  pub has_status : {told behind : List LineStep → List ℕ} {calls : Bool} {reports : List (List ℕ) → Type 0} (ending : ScenarioEnd) {rest w w' : Option (List ℕ)} {failed : Bool} {B C D : Type 0} (before : Option LineRunFault) → ((turns : List LineStep) → has_no_line view turns ≡ false) →
+      (before ≡ None → IsRunFrom start told behind calls reports ending input rest failed w w') → IfSome before (λ fault. (ending ≡ unplayed fault) × B × C × D) → HasStatus view start input ending
   has_status ending None silent runs stopped = status_of_run silent (runs refl)
   has_status ending (Some fault) silent runs stopped = subst (λ e. HasStatus view start input e) (sym stopped.0) tt
 

@@ -29,9 +29,9 @@ use Rattle.run_scenario.proofs.TallyLemmas.{errors_exact}
 use Rattle.run_scenario.proofs.WriteLemmas.{closes_alone, closes_as, played_from}
 
 -- what is told, and the account list behind it where it is asked for
-pub run_played : (numbers accounts : Bool) (only : Option (List ℕ)) (listed : Listed) {first : RunPosition} {seen : List (List ℕ) → Type 0} {start last : World} {awaited : Awaited} {input rest w w' w'' : Option (List ℕ)} {failed : Bool} (played ended : ScenarioEnd) →
-    RunsAll (text_of_run_call numbers start) false seen (CountsErrors only start (tally 0 awaited) played.complaints) only first played.fault played.lines start last [] input rest failed w w' → Closes played ended w' w'' (accounts_for accounts listed last) →
-    IsRunFrom (start_at only start first awaited) (shown_of numbers only start) (list_behind accounts only listed start) false ended input rest failed w w''
+pub run_played : (numbers accounts : Bool) (only : Option (List ℕ)) (listed : Listed) {first : RunPosition} {seen reports : List (List ℕ) → Type 0} {start last : World} {awaited : Awaited} {input rest w w' w'' : Option (List ℕ)} {failed : Bool} (played ended : ScenarioEnd) →
+    RunsAll (text_of_run_call numbers start) false seen (CountsErrors only start (tally 0 awaited) played.complaints) reports only first played.fault played.lines start last [] input rest failed w w' → Closes played ended w' w'' (accounts_for accounts listed last) →
+    IsRunFrom (start_at only start first awaited) (shown_of numbers only start) (list_behind accounts only listed start) false reports ended input rest failed w w''
 run_played true accounts only listed {w' = w'} {w'' = w''} played ended plays closes =
     played_from played ended plays refl (subst (λ world. Closes played ended w' w'' (accounts_for accounts listed world)) plays.world closes)
 run_played false accounts only listed {first = first} {start = start} {w' = w'} {w'' = w''} played ended plays closes =
@@ -39,9 +39,9 @@ run_played false accounts only listed {first = first} {start = start} {w' = w'} 
     (subst (λ world. Closes played ended w' w'' (accounts_for accounts listed world)) plays.world closes)
 
 -- the rows of a trace, after the text before them
-pub trace_played : (front : List ℕ) (row_text : TraceRow → List ℕ) (takes : Bool) {first : RunPosition} {seen : List (List ℕ) → Type 0} {start last : World} {awaited : Awaited} {input rest w w' : Option (List ℕ)} {failed : Bool} (ending : ScenarioEnd) {header : List ℕ} → header ≡ front →
-    RunsAll (trace_call_text row_text start) takes seen (CountsErrors None start (tally 0 awaited) ending.complaints) None first ending.fault ending.lines start last header input rest failed w w' →
-    IsRunFrom (start_at None start first awaited) (λ turns. front ++ text_of_steps (trace_call_text row_text start) None [] turns) (λ _. []) takes ending input rest failed w w'
+pub trace_played : (front : List ℕ) (row_text : TraceRow → List ℕ) (takes : Bool) {first : RunPosition} {seen reports : List (List ℕ) → Type 0} {start last : World} {awaited : Awaited} {input rest w w' : Option (List ℕ)} {failed : Bool} (ending : ScenarioEnd) {header : List ℕ} → header ≡ front →
+    RunsAll (trace_call_text row_text start) takes seen (CountsErrors None start (tally 0 awaited) ending.complaints) reports None first ending.fault ending.lines start last header input rest failed w w' →
+    IsRunFrom (start_at None start first awaited) (λ turns. front ++ text_of_steps (trace_call_text row_text start) None [] turns) (λ _. []) takes reports ending input rest failed w w'
 trace_played front row_text takes {first = first} {start = start} {w' = w'} ending is plays =
     played_from ending ending plays (ap (λ text. text ++ text_of_steps (trace_call_text row_text start) None [] (turns_of None start first plays.given)) is) (closes_alone ending w')
 
@@ -73,10 +73,10 @@ pub few_of_name : (name : List ℕ) (world : World) (stand : RunPosition) (lines
 few_of_name name world stand lines =
     omega (arith, filter_few (is_line_of name) (calls_of_steps (turns_of None world stand lines)), few_calls (turns_of None world stand lines), turns_length None world stand lines)
 
-pub alone_played : (name : List ℕ) {first : RunPosition} {start last core : World} {awaited : Awaited} {count : ℕ} {difference : Option ℕ} {input rest w w' w'' : Option (List ℕ)} {failed : Bool} (played ended : ScenarioEnd) → played.lines ≤ 1000000 →
-    RunsAll (alone_call_text name start) false (SeesAlone name core count difference start) (CountsErrors None start (tally 0 awaited) played.complaints) None first played.fault played.lines start last [] input rest failed w w' →
+pub alone_played : (name : List ℕ) {reports : List (List ℕ) → Type 0} {first : RunPosition} {start last core : World} {awaited : Awaited} {count : ℕ} {difference : Option ℕ} {input rest w w' w'' : Option (List ℕ)} {failed : Bool} (played ended : ScenarioEnd) → played.lines ≤ 1000000 →
+    RunsAll (alone_call_text name start) false (SeesAlone name core count difference start) (CountsErrors None start (tally 0 awaited) played.complaints) reports None first played.fault played.lines start last [] input rest failed w w' →
     Closes played ended w' w'' (alone_sum name count) →
-    IsRunFrom (start_at None start first awaited) (λ turns. text_of_steps (alone_call_text name start) None [] turns) (λ turns. alone_sum name (length (calls_answered (Some name) turns))) false ended input rest failed w w''
+    IsRunFrom (start_at None start first awaited) (λ turns. text_of_steps (alone_call_text name start) None [] turns) (λ turns. alone_sum name (length (calls_answered (Some name) turns))) false reports ended input rest failed w w''
 alone_played name {first = first} {start = start} {core = core} {count = count} {difference = difference} {w' = w'} {w'' = w''} played ended few plays closes =
     played_from played ended plays refl (closes_as played ended w' w'' _ _ (same played.fault plays.counted plays.sees) closes)
   where
@@ -89,8 +89,8 @@ alone_played name {first = first} {start = start} {core = core} {count = count} 
     same (Some fault) counted sees = tt
 
 -- the errors of the lines, and how many calls of the name they make
-pub alone_counts : (name : List ℕ) {first : RunPosition} {start last core : World} (awaited : Awaited) {count : ℕ} {difference : Option ℕ} {input rest w w' w'' : Option (List ℕ)} {failed : Bool} (played ended : ScenarioEnd) → played.lines ≤ 1000000 →
-    RunsAll (alone_call_text name start) false (SeesAlone name core count difference start) (CountsErrors None start (tally 0 awaited) played.complaints) None first played.fault played.lines start last [] input rest failed w w' →
+pub alone_counts : (name : List ℕ) {reports : List (List ℕ) → Type 0} {first : RunPosition} {start last core : World} (awaited : Awaited) {count : ℕ} {difference : Option ℕ} {input rest w w' w'' : Option (List ℕ)} {failed : Bool} (played ended : ScenarioEnd) → played.lines ≤ 1000000 →
+    RunsAll (alone_call_text name start) false (SeesAlone name core count difference start) (CountsErrors None start (tally 0 awaited) played.complaints) reports None first played.fault played.lines start last [] input rest failed w w' →
     Closes played ended w' w'' (alone_sum name count) →
     IfNone ended.fault (CountsAlone name (start_at None start first awaited) input ended.complaints count)
 alone_counts name {first = first} {start = start} {core = core} awaited {count = count} {difference = difference} {input = input} {rest = rest} {w' = w'} {w'' = w''} {failed = failed} played ended few plays closes =

@@ -9,13 +9,13 @@ use Rattle.view_runs.proofs.alone_run.alone.Goals as goal
 
 pub returns-clause-played : goal.returns-clause-played
 returns-clause-played g c = λ works.
-    played_on c.args.play.list.now None c.args.play.start (λ start turns. text_of_steps (alone_call_text c.args.name.now start) None [] turns) (λ _ turns. alone_sum c.args.name.now (length (calls_answered (Some c.args.name.now) turns))) c.run_alone.result.ending _ _ _ _ _
-    c.in_ok-whole.ensures.started c.new-notes.ensures.stands c.new-notes.ensures.expects (rw c.new-named.ensures.name at (c.run_alone.ensures.played works))
+    played_on c.args.play.list.now None c.args.play.start (λ start turns. text_of_steps (alone_call_text c.args.name.now start) None [] turns) (λ _ turns. alone_sum c.args.name.now (length (calls_answered (Some c.args.name.now) turns))) c.run_alone.result.ending _ _ _ _ _ _ _
+    c.in_ok-whole.ensures.started c.new-notes.ensures.stands c.new-notes.ensures.expects c.new-notes.ensures.subject (rw (c.new-named.ensures.name, c.new-named.ensures.list) at (c.run_alone.ensures.played works))
 
 pub returns-clause-summed : goal.returns-clause-summed
 returns-clause-summed g c = λ works.
-    played_on c.args.play.list.now None c.args.play.start (λ start turns. text_of_steps (alone_call_text c.args.name.now start) None [] turns) (λ _ _. alone_sum c.args.name.now c.run_alone.result.lines) c.run_alone.result.ending _ _ _ _ _
-    c.in_ok-whole.ensures.started c.new-notes.ensures.stands c.new-notes.ensures.expects (rw c.new-named.ensures.name at (c.run_alone.ensures.summed works))
+    played_on c.args.play.list.now None c.args.play.start (λ start turns. text_of_steps (alone_call_text c.args.name.now start) None [] turns) (λ _ _. alone_sum c.args.name.now c.run_alone.result.lines) c.run_alone.result.ending _ _ _ _ _ _ _
+    c.in_ok-whole.ensures.started c.new-notes.ensures.stands c.new-notes.ensures.expects c.new-notes.ensures.subject (rw (c.new-named.ensures.name, c.new-named.ensures.list) at (c.run_alone.ensures.summed works))
 
 pub returns-clause-counts : goal.returns-clause-counts
 returns-clause-counts g c = λ works.
