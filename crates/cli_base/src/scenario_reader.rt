@@ -1,6 +1,10 @@
 //! The reader of a scenario: its bytes, and on a terminal how many of its lines are read.
+ghost use Rattle.std.specs.Prelude.{◌≡◌};
+ghost use Rattle.cli_base.specs.Origins.{origin_bytes};
+
 use crate::streams::Origin;
 use cli_engine::Input;
+use run_lines::Source;
 use std::io;
 use std::io::{IsTerminal, Read};
 use std::time::Instant;
@@ -33,7 +37,9 @@ pub fn watched_reader<'a>(
     rt: &'a HostRuntime,
     origin: Origin<'a>,
     printing: Printing,
-) -> Reader<'a> {
+) -> Reader<'a>
+    ensures { ⟦<Reader<'a> as Source>⟧.remaining result ≡ origin_bytes origin.entry }
+{
     let is_seen = printing == Printing::Meanwhile && rt.stdout().is_terminal();
     let progress = if is_seen || !rt.stderr().is_terminal() {
         None
@@ -44,7 +50,9 @@ pub fn watched_reader<'a>(
 }
 
 /// Returns a reader of a scenario that reports no progress.
-pub fn silent_reader(origin: Origin<'_>) -> Reader<'_> {
+pub fn silent_reader<'a>(origin: Origin<'a>) -> Reader<'a>
+    ensures { ⟦<Reader<'a> as Source>⟧.remaining result ≡ origin_bytes origin.entry }
+{
     Input::new(ScenarioBytes {
         origin,
         progress: None,
@@ -52,6 +60,10 @@ pub fn silent_reader(origin: Origin<'_>) -> Reader<'_> {
 }
 
 impl Read for ScenarioBytes<'_> {
+    ghost use Rattle.cli_base.specs.Origins.{origin_bytes};
+
+    ghost remaining = { λ source. origin_bytes source.origin };
+
     fn read(&mut self, buffer: &mut [u8]) -> io::Result<usize> {
         let count = self.origin.read(buffer)?;
         if let Some(progress) = &mut self.progress {

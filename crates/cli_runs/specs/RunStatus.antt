@@ -1,6 +1,10 @@
 -- The errors that the exit status of a run comes from.
-use Rattle.std.specs.Prelude.{◌≡◌, ℕ, ◌==◌, ◌||◌, Bool, false, List, length, nat_lt, if◌then◌else◌, Option, Some, None, IfNone, IfSome, Ok}
-use Rattle.std.specs.Option.{option_copied}
+use Rattle.std.specs.Prelude.{◌≡◌, ◌⊎◌, ℕ, ◌==◌, ◌||◌, Bool, false, List, length, nat_lt, if◌then◌else◌, Option, Some, None, IfNone, IfSome, IfOk, Result, Ok}
+use Rattle.std.specs.Option.{option_copied, unwrap_or}
+use Rattle.line_names.specs.NameTable.{nothing}
+use Rattle.line_names.specs.RoundMarks.{RoundMark}
+use Rattle.line_steps.specs.RunPosition.{RunPosition, first_position}
+use Rattle.list_parser.specs.declared.fault.BootFault.{BootFault}
 use Rattle.run_scenario.specs.Judging.{errors_of}
 use Rattle.run_scenario.specs.LineSteps.{LineStep}
 use Rattle.run_scenario.specs.RunCalls.{calls_answered}
@@ -8,6 +12,12 @@ use Rattle.run_scenario.specs.ScenarioEnd.{status_of}
 use Rattle.run_scenario.specs.Writes.{AreAll, RunStart, start_on, steps_from}
 use Rattle.run_scenario.specs.declared.scenario_end.ScenarioEnd.{ScenarioEnd}
 use Rattle.run_scenario.specs.declared.scenario_input.ScenarioInput.{ScenarioInput}
+use Rattle.own_model.specs.Listed.{Listed}
+use Rattle.list_parser.specs.StartText.{list_in}
+use Rattle.cli_base.specs.Texts.{bytes_of}
+use Rattle.cli_base.specs.declared.machine.Machine.{Machine}
+use Rattle.cli_base.specs.declared.settings.Settings.{Settings}
+use Rattle.cli_runs.specs.RunEnd.{end_status}
 use Rattle.cli_runs.specs.declared.view.RunView.{RunView}
 use Rattle.cli_runs.specs.declared.view.RunView.TheVariants.{Run, Trace, Accounts, Alone}
 
@@ -40,3 +50,20 @@ abbrev pub HasStatus : RunView → RunStart → Option (List ℕ) → ScenarioEn
 HasStatus view start input ending =
     IfNone ending.fault ((lines : List (List ℕ)) × IfSome input (AreAll lines)
     × (status_of (Ok ending) ≡ (if have_errors view start lines then 3 else 0)))
+
+-- a run ended so, and this is its status, unless nobody reads what is written
+pub record HasPlayed (view : RunView) (start : RunStart) (input : Option (List ℕ)) (status : ℕ) : Type 0 where
+  pub ended : Result ScenarioEnd BootFault
+  pub unread : Bool
+  pub ends : IfOk ended (HasStatus view start input)
+  pub status_is : status ≡ end_status ended unread
+
+-- a run on a machine ended so from this position on, or the host was out of memory before its first line
+abbrev pub EndsPlay : Machine → RunView → RunPosition → Option (List ℕ) → ℕ → Type 0
+EndsPlay machine view first input status =
+    (list : Listed) × (list_in (bytes_of machine.text) ≡ Ok list)
+    × ((status ≡ 1) ⊎ HasPlayed view (start_on (only_of view) first list) input status)
+
+-- the position before the first line of a scenario with these round marks
+abbrev pub start_by : Settings → List RoundMark → RunPosition
+start_by settings marks = first_position (unwrap_or (option_copied settings.known) nothing) marks

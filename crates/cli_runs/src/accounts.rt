@@ -1,5 +1,5 @@
 //! The command `accounts`: the accounts after a scenario.
-ghost use Rattle.std.specs.Prelude.{◌≡◌, IfNone, IfOk, None};
+ghost use Rattle.std.specs.Prelude.{◌≡◌, IfNone, IfOk};
 ghost use Rattle.cli_runs.specs.RunStatus.{HasStatus, start_of};
 ghost use Rattle.cli_runs.specs.declared.view.AccountsForm.{AccountsForm as AccountsForms};
 ghost use Rattle.cli_runs.specs.declared.view.RunView.TheVariants.{Accounts};
@@ -9,7 +9,7 @@ use crate::run_request::{RunRequest, play};
 use crate::view::{AccountsForm, RowsForm, RunView};
 use cli_base::{OutputStream, Reader, Settings, Writer, plain_writer};
 use cli_options::AccountsOptions;
-use run_lines::LineRunFault;
+use run_lines::{LineRunFault, Source};
 use run_scenario::ScenarioInput;
 use std::alloc::AllocError;
 use std::io;
@@ -50,7 +50,7 @@ pub(crate) fn print_accounts(
     complaints: &mut Writer<'_>,
 ) -> RunEnd
     ensures status { (view : AccountsForms) → IfOk result.ended (HasStatus (Accounts view)
-        (start_of (Accounts view) play.entry) None) }
+        (start_of (Accounts view) play.entry) (⟦<Reader<'_> as Source>⟧.remaining reader.old)) }
 {
     let mut nowhere = plain_writer(rt, OutputStream::Dropped);
     match accounts(rt.alloc(), play, reader, &mut nowhere, complaints) {
