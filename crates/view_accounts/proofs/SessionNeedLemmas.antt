@@ -1,8 +1,17 @@
 -- What is kept of sessions once a table was changed at one place.
-use Rattle.std.proofs.Common.{◌≡◌, ℕ, ◌==◌, ◌&&◌, Bool, true, false, cond, eqb-true, Option, Some, None, Result, Ok, Err, OnOk, refl, sym, ◌∙◌, ap, subst}
+use Rattle.std.proofs.Common.{◌≡◌, ℕ, ◌==◌, ◌&&◌, Bool, true, false, cond, eqb-true, List, [], ◌∷◌, ◌++◌, Option, Some, None, Result, Ok, Err, OnOk, refl, sym, ◌∙◌, ap, subst}
 use Rattle.std.proofs.lemmas.Option.{none-some, same_Some}
 use Rattle.std.specs.Option.{option_map}
-use Rattle.view_accounts.specs.SessionNeeds.{Change, ChangesAt}
+use Rattle.own_model.specs.Amounts.{Amounts}
+use Rattle.own_model.specs.OwnState.{NamedBuffer, bytes_of_buffer}
+use Rattle.own_model.specs.Session.{Session, served, upgraded}
+use Rattle.core_calls.specs.declared.quotas.Quotas.{Quotas}
+use Rattle.pd_core.specs.Answer.{quotas_account}
+use Rattle.budget_theorems.specs.Request.{donating}
+use Rattle.budget_theorems.specs.RequestTheorems.{Reaches, session_run}
+use Rattle.budget_theorems.specs.RequestTheorems.Reaches.{Asked, Raised}
+use Rattle.budget_meter.specs.Sessions.{HasReached, IsServedBy}
+use Rattle.view_accounts.specs.SessionNeeds.{Asks, Change, ChangesAt, IsMeasured, Raises}
 use Rattle.view_accounts.specs.declared.session_needs.MeteredSession.{MeteredSession}
 
 -- what is so of a success is so of it in other words
@@ -46,3 +55,25 @@ module _ (component selector : ℕ) (change : Change) (c q : ℕ) (was is : Opti
 pub put_back : {T : Type 0} (b : Bool) (value was is mid : Option T) → mid ≡ cond b None was → is ≡ cond b value mid → is ≡ cond b value was
 put_back true value was is mid taken set = set
 put_back false value was is mid taken set = set ∙ taken
+
+-- a meter that has observed a request
+pub asks_there : (request reply : List ℕ) (account : Quotas) (now : Option Session) (was : Option MeteredSession) (old new : MeteredSession) → Some (quotas_account account) ≡ option_map (λ s. s.account) now → was ≡ Some old → IsMeasured new →
+    ((all : List Reaches) (donation : Amounts) (session : Session) (buffer : Option NamedBuffer) → HasReached all donation session old.meter → IsServedBy reply account buffer (served (bytes_of_buffer buffer) (session_run all (donating donation session)) request) →
+    HasReached (all ++ Asked (bytes_of_buffer buffer) request ∷ []) donation session new.meter) →
+    Asks request reply now was (Some new)
+asks_there request reply account now was old new some is measured hears =
+    let at = some_image (λ s. s.account) now (quotas_account account) some in
+    subst (λ s. Asks request reply s was (Some new)) (sym at.1.0)
+    (subst (λ w. Asks request reply (Some at.0) w (Some new)) (sym is)
+    (measured, λ all donation session buffer reached serves. hears all donation session buffer reached (serves account at.1.1)))
+
+-- or an upgrade
+pub raises_there : (account : Quotas) (now : Option Session) (was : Option MeteredSession) (old new : MeteredSession) → Some (quotas_account account) ≡ option_map (λ s. s.account) now → was ≡ Some old → IsMeasured new →
+    ((all : List Reaches) (donation more : Amounts) (session : Session) → HasReached all donation session old.meter → quotas_account account ≡ (upgraded (session_run all (donating donation session)) more.ram more.caps).account →
+    HasReached (all ++ Raised more ∷ []) donation session new.meter) →
+    Raises now was (Some new)
+raises_there account now was old new some is measured raised =
+    let at = some_image (λ s. s.account) now (quotas_account account) some in
+    subst (λ s. Raises s was (Some new)) (sym at.1.0)
+    (subst (λ w. Raises (Some at.0) w (Some new)) (sym is)
+    (measured, λ all donation more session reached leaves. raised all donation more session reached (at.1.1 ∙ leaves)))
