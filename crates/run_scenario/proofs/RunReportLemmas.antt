@@ -65,4 +65,8 @@ module _ (scope : ReportScope) (only : Option (List ℕ)) where
   pub reports_closed : (start : World) (first : RunPosition) (begun awaited : Awaited) (w w' w'' : Option (List ℕ)) (lines : List (List ℕ)) → awaited ≡ awaited_behind begun (turns_of only start first lines) →
       WritesReports scope (start_at only start first begun) w w' lines → Appends w' w'' (left_over_report scope.subject awaited) → WritesAllReports scope (start_at only start first begun) w w'' lines
   reports_closed start first begun awaited w w' w'' lines awaits (text, reported, grows) then =
-      (text, reported, Appends-more w w' w'' text _ _ grows then (ap (λ a. text ++ left_over_report scope.subject a) (sym awaits)))
+      record {
+        text = text;
+        reported = reported;
+        writes = Appends-more w w' w'' text _ _ grows then (ap (λ a. text ++ left_over_report scope.subject a) (sym awaits));
+      }

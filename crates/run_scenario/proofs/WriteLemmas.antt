@@ -20,7 +20,7 @@ use Rattle.run_scenario.specs.Faults.{fault_before, unplayed}
 use Rattle.run_lines.specs.Faults.{is_write_fault}
 use Rattle.run_scenario.specs.Judging.{Awaited, errors_of, nothing_awaited}
 use Rattle.run_scenario.specs.RunCalls.{text_of_calls, text_of_steps}
-use Rattle.run_scenario.specs.RunReports.{WritesAllReports, scope_of}
+use Rattle.run_scenario.specs.RunReports.{ReportScope, WritesAllReports, scope_of}
 use Rattle.view_diagnostics.specs.Diagnostics.{SubjectAt}
 use Rattle.run_scenario.specs.ScenarioRuns.{CountsErrors, RunsAll, TakesMemoryFor, most_lines, tally}
 use Rattle.run_lines.specs.LineRuns.{EndsFor, WritesOutput}
@@ -207,6 +207,12 @@ played_on listed {calls = calls} only first told behind ending {start = start} {
     (subst (λ world. IsRunFrom (start_at only world first nothing_awaited) (told world) (behind world) calls (WritesAllReports (scope_of noted list) (start_at only world first nothing_awaited) e e') ending input rest failed w w') starts
     (subst (λ stand. IsRunFrom (start_at only start stand nothing_awaited) (told start) (behind start) calls (WritesAllReports (scope_of noted list) (start_at only start stand nothing_awaited) e e') ending input rest failed w w') begins
     (subst (λ expected. IsRunFrom (start_at only start begun expected) (told start) (behind start) calls (WritesAllReports (scope_of noted list) (start_at only start begun expected) e e') ending input rest failed w w') none played)))
+
+-- what the errors hold is what they hold at the end
+pub reported_at : {start first : RunStart} {told behind : List LineStep → List ℕ} {calls : Bool} {scope : ReportScope} {e e1 e2 : Option (List ℕ)} {ending : ScenarioEnd} {input rest : Option (List ℕ)} {failed : Bool} {w w' : Option (List ℕ)} → e2 ≡ e1 →
+    IsRunFrom start told behind calls (WritesAllReports scope first e e1) ending input rest failed w w' → IsRunFrom start told behind calls (WritesAllReports scope first e e2) ending input rest failed w w'
+reported_at {start = start} {first = first} {told = told} {behind = behind} {calls = calls} {scope = scope} {e = e} {ending = ending} {input = input} {rest = rest} {failed = failed} {w = w} {w' = w'} same played =
+    subst (λ held. IsRunFrom start told behind calls (WritesAllReports scope first e held) ending input rest failed w w') (sym same) played
 
 -- ---- within the bounds, and with no failed device, only want of room is a cause to stop
 pub caused : {start : RunStart} {told behind : List LineStep → List ℕ} {calls : Bool} {reports : List (List ℕ) → Type 0} {ending : ScenarioEnd} {input rest : Option (List ℕ)} {failed : Bool} {w w' : Option (List ℕ)} (write_failed : Bool) →

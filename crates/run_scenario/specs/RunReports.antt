@@ -62,7 +62,7 @@ WritesReports scope start old new lines =
     (text : List ℕ) × AreReported scope start.only start.world start.stand start.awaited lines text × Appends old new text
 
 -- and then that of an expected log line that no call follows, if there is one
-abbrev pub WritesAllReports : ReportScope → RunStart → Option (List ℕ) → Option (List ℕ) → List (List ℕ) → Type 0
-WritesAllReports scope start old new lines =
-    (text : List ℕ) × AreReported scope start.only start.world start.stand start.awaited lines text
-    × Appends old new (text ++ left_over_report scope.subject (awaited_behind start.awaited (steps_from start lines)))
+pub record WritesAllReports (scope : ReportScope) (start : RunStart) (old new : Option (List ℕ)) (lines : List (List ℕ)) : Type 0 where
+  pub text : List ℕ
+  pub reported : AreReported scope start.only start.world start.stand start.awaited lines text
+  pub writes : Appends old new (text ++ left_over_report scope.subject (awaited_behind start.awaited (steps_from start lines)))
