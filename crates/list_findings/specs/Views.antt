@@ -5,7 +5,6 @@ use Rattle.std.specs.List.{enumerate_from, list_any}
 use Rattle.std.specs.Str.{bytes_eq}
 use Rattle.trade_base.specs.Service.{service_name, services}
 use Rattle.own_model.specs.Listed.{Listed, ListedEntry, ListedRule}
-use Rattle.list_reach.specs.Additions.{AddsBy}
 use Rattle.list_reach.specs.Deciding.{AreDecisions, DecisionAt}
 use Rattle.list_findings.specs.RuleTargets.{is_script}
 
@@ -73,8 +72,9 @@ abbrev pub IsShown : Listed → ViewOf → Type 0
 IsShown list view = AreDecisions list view.client view.service view.trails
 
 -- these askings have views, after those that were there
-abbrev pub Shows : Listed → List ViewOf → List Asking → List ViewOf → Type 0
-Shows list old more new = AddsBy asking_of (IsShown list) old more new
+pub record Shows (list : Listed) (old : List ViewOf) (more : List Asking) (new : List ViewOf) : Type 0 where
+  pub asked : map asking_of new ≡ map asking_of old ++ more
+  pub shown : All (IsShown list) new
 
 -- all have
 pub record ShowAll (list : Listed) (views : List ViewOf) : Type 0 where

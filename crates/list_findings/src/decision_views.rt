@@ -60,7 +60,7 @@ pub(crate) fn views_of(alloc: Global, list: &StartList) -> Result<Vec<DecisionVi
 }
 
 // Adds those of all scripts that ask for a service.
-#[tactic(auto, using(list_reach::proofs::AdditionLemmas::adds_none, list_reach::proofs::AdditionLemmas::adds_then))]
+#[tactic(auto, using(crate::proofs::ViewLemmas::shows_none, crate::proofs::ViewLemmas::shows_then))]
 fn add_service(
     alloc: Global,
     views: &mut Vec<DecisionView>,
@@ -79,7 +79,7 @@ fn add_service(
 }
 
 // Adds that of an entry, if it is a script's.
-#[tactic(auto, using(list_reach::proofs::AdditionLemmas::adds_none))]
+#[tactic(auto, using(crate::proofs::ViewLemmas::shows_none))]
 fn add_script(
     alloc: Global,
     views: &mut Vec<DecisionView>,
@@ -101,7 +101,7 @@ fn add_script(
 }
 
 // Adds that of a script.
-#[tactic(auto, using(list_reach::proofs::AdditionLemmas::adds_one))]
+#[tactic(auto, using(crate::proofs::ViewLemmas::shows_one))]
 fn add_view(
     alloc: Global,
     views: &mut Vec<DecisionView>,
