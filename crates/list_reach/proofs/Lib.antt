@@ -1,6 +1,7 @@
-pub mod AdditionLemmas
+pub mod TableLemmas
+pub mod DecisionLemmas
 pub mod TrailLemmas
 pub mod WaysLemmas
 pub mod WishLemmas
-pub mod NamedLemmas
+mod NamedLemmas
 pub mod ComparisonLemmas

@@ -2,7 +2,6 @@ pub mod Reach
 pub mod ClientReach
 pub mod RangeReach
 pub mod Table
-pub mod Additions
 pub mod Rows
 pub mod RouteQuery
 pub mod ScriptDecisions

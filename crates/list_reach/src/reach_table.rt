@@ -122,7 +122,7 @@ impl<'a> ReachTable<'a> {
 }
 
 // Adds the cells of an entry, if it is a selected script.
-#[tactic(auto, using(crate::proofs::AdditionLemmas::adds_none))]
+#[tactic(auto, using(crate::proofs::TableLemmas::adds_none))]
 fn add_script(
     alloc: Global,
     cells: &mut Vec<ReachCell>,
@@ -145,7 +145,7 @@ fn add_script(
 }
 
 // Adds the cells of a script.
-#[tactic(auto, using(crate::proofs::AdditionLemmas::adds_none, crate::proofs::AdditionLemmas::adds_then))]
+#[tactic(auto, using(crate::proofs::TableLemmas::adds_none, crate::proofs::TableLemmas::adds_then))]
 fn add_services(
     alloc: Global,
     cells: &mut Vec<ReachCell>,
@@ -198,7 +198,7 @@ fn add_service(
 }
 
 // Adds the cells of a script for one service, by the reach of its requests.
-#[tactic(auto, using(crate::proofs::AdditionLemmas::adds_none, crate::proofs::AdditionLemmas::adds_then))]
+#[tactic(auto, using(crate::proofs::TableLemmas::adds_none, crate::proofs::TableLemmas::adds_then))]
 fn add_cells(
     cells: &mut Vec<ReachCell>,
     chosen: &ReachFilter,
@@ -221,7 +221,7 @@ fn add_cells(
 }
 
 // Adds the cell of a script and a server.
-#[tactic(auto, using(crate::proofs::AdditionLemmas::adds_one))]
+#[tactic(auto, using(crate::proofs::TableLemmas::adds_one))]
 fn add_cell(
     cells: &mut Vec<ReachCell>,
     found: &ServiceReach<'_>,

@@ -1,8 +1,8 @@
 -- The decisions of one service more.
 use Rattle.std.proofs.Common.{ℕ, List, [], ◌∷◌, subst, sym}
 use Rattle.list_reach.specs.Deciding.{AreDecisions}
-use Rattle.list_reach.specs.ScriptDecisions.{AddsDecisions, Asking, IsDecided, asking_of}
-use Rattle.list_reach.proofs.AdditionLemmas.{adds_one}
+use Rattle.list_reach.specs.ScriptDecisions.{AddsDecisions, Asking}
+use Rattle.list_reach.proofs.DecisionLemmas.{decides_one}
 use Rattle.list_reach.proofs.script_decisions.add_service.Goals as goal
 
 pub returns : goal.returns
@@ -12,7 +12,7 @@ returns c =
     let asking : List ℕ → Asking = λ service. record { client = c.args.client; service = service } in
     subst (λ service. AddsDecisions list old (asking service ∷ []) c.push.new.self.items) c.name-service.ensures
     (subst (λ new. AddsDecisions list old (asking c.name-service.result.now ∷ []) new) (sym c.in_ok-push.ensures.items)
-    (adds_one asking_of (IsDecided list) old _ c.requires.decided
+    (decides_one list old _ c.requires.decided
     (record {
       within = c.requires.client;
       entry = c.requires.entry;
