@@ -1,8 +1,8 @@
 //! The kinds of objects that a declared server offers.
-ghost use Rattle.std.specs.Prelude.{◌≡◌, ◌<◌, ◌≤◌, find, length, map, IfSome, IfNone};
+ghost use Rattle.std.specs.Prelude.{◌≡◌, ◌<◌, ◌≤◌, length, IfSome};
 ghost use Rattle.std.specs.Option.{option_map};
 ghost use Rattle.own_model.specs.ObjectKinds.{kind_named};
-ghost use Rattle.object_service.specs.Kinds.{kind_at, model_kind, model_kinds};
+ghost use Rattle.object_service.specs.Kinds.{kind_at, model_kinds};
 
 use arrayvec::ArrayVec;
 use session_nodes::LONGEST_NAME;
@@ -11,19 +11,19 @@ use session_nodes::LONGEST_NAME;
 pub const MOST_KINDS: usize = 16;
 
 /// A kind of objects.
-#[derive(Clone, Copy)]
+#[derive(Drop)]
 pub struct ObjectKind {
     /// The name, of at most 32 bytes.
     pub name: ArrayVec<u8, LONGEST_NAME>,
-    /// The number of bytes of the block that each object takes, 112 to 65,535.
-    pub block: u64,
-    /// The number of bytes of contents that a unit has, at most 65,535.
-    pub bytes: u64,
+    /// The number of bytes of the block that each object takes, at least 112.
+    pub block: u16,
+    /// The number of bytes of contents that a unit has.
+    pub bytes: u16,
 }
 
 /// Returns the number of the kind with a name, or `None` if there is none.
 pub(crate) fn number_of(kinds: &[ObjectKind], name: &[u8]) -> Option<usize>
-    ensures some { IfSome result (λ number. number < length kinds.now) }
+    ensures low { IfSome result (λ number. number < length kinds.now) }
     ensures kind { option_map (λ number. kind_at (model_kinds kinds.now) number) result
         ≡ kind_named name.now (model_kinds kinds.now) }
 {
