@@ -1,15 +1,13 @@
 -- What a session of a declared server is to its client, and what its requests do.
-use Rattle.std.specs.Prelude.{◌≡◌, ℕ, ◌<◌, ◌≢◌, ◌-◌, List, length, Option, Some, None, Result, Ok, Err}
-use Rattle.std.specs.FinMap.{get}
-use Rattle.own_model.specs.Account.{Account, charged}
+use Rattle.std.specs.Prelude.{◌≡◌, ℕ, List, Option, Some, Result, Ok, Err}
+use Rattle.own_model.specs.Account.{Account}
 use Rattle.own_model.specs.Growth.{hole_for}
-use Rattle.own_model.specs.Nodes.{block_taken, content_ram, content_caps}
+use Rattle.own_model.specs.Nodes.{block_taken}
 use Rattle.own_model.specs.ObjectKinds.{ObjectKind}
-use Rattle.own_model.specs.ObjectService.{Objects, ObjectServed, request_served, told, unless_refused, block_refusal, made_by}
+use Rattle.own_model.specs.ObjectService.{DeclaredObject, Objects, ObjectServed, request_served, told, unless_refused, block_refusal, made_by, contents, contents_refusal, with_units, changed}
 use Rattle.own_model.specs.ObjectSession.{HoldingRequest, HoldingServed, holding_request_served}
 use Rattle.own_model.specs.ObjectText as model
-use Rattle.own_model.specs.ObjectText.ObjectReply.{Done, Counted, Lent, Refused}
-use Rattle.own_model.specs.Sliced.{sliced_header, sliced_size}
+use Rattle.own_model.specs.ObjectText.ObjectReply.{Done, Counted, Named, Lent, Refused}
 use Rattle.own_model.specs.Services.ServiceState.{Holding}
 use Rattle.own_model.specs.Session.{Labelled}
 use Rattle.trade_base.specs.declared.id.DsId.{DsId}
@@ -91,15 +89,10 @@ created_in kind name objects account =
     unless_refused (block_refusal kind objects account) objects account
     (made_by kind name (block_taken kind.block (hole_for kind.block objects.shape) objects.shape account) objects)
 
--- a new content of so many bytes is taken, or none for no bytes; no node has it
-pub record TakesContent (size content : ℕ) (old new : Stock) : Type 0 where
-  pub account : new.account ≡ charged old.account (content_ram size) (content_caps size)
-  pub nodes : new.nodes ≡ old.nodes
-  pub free : 0 < size → get old.contents content ≡ None
-  pub payload : List ℕ
-  pub there : 0 < size → get new.contents content ≡ Some payload
-  pub long : length payload ≡ sliced_size size - sliced_header
-  pub others : (a : ℕ) → (0 < size → a ≢ content) → get new.contents a ≡ get old.contents a
+-- an object gets other units
+abbrev pub resized_in : ℕ → DeclaredObject → Objects → Account → ObjectServed
+resized_in units object objects account =
+    unless_refused (contents_refusal (contents (with_units units object)) account) objects account (changed units object objects account)
 
 -- ---- requests of objects and of the buffer
 
@@ -146,6 +139,10 @@ done_reply (Err e) = Refused (model_object_error e)
 abbrev pub counted_reply : Result ℕ ObjectError → model.ObjectReply
 counted_reply (Ok n) = Counted n
 counted_reply (Err e) = Refused (model_object_error e)
+
+-- the kind, the name and the units of an object
+abbrev pub named_reply : DeclaredObject → model.ObjectReply
+named_reply object = Named object.kind.name object.name object.units
 
 -- a buffer is created, with its dataspace
 abbrev pub lent_reply : Result DsId FileError → model.ObjectReply

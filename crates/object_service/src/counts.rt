@@ -2,7 +2,7 @@
 ghost use Rattle.std.specs.Prelude.{◌≡◌, ℕ, ◌==◌, List, [], ◌∷◌, ◌++◌, length, count_by};
 ghost use Rattle.object_service.specs.Counts.{AreCounted, HasRoom, HasCounted};
 
-use crate::kind::MOST_KINDS;
+use object_kinds::MOST_KINDS;
 
 /// Counters of objects: of all, and of those of each kind by its number.
 #[derive(Clone, Copy, Drop)]
