@@ -43,10 +43,10 @@ use Rattle.budget_theorems.specs.Request.{create_tests, filing_tests, put_tests,
 use Rattle.budget_theorems.specs.Test.{Test, test_of, tested_where, small_tests, growth_tests}
 use Rattle.budget_meter.specs.RequestTests.{files_in, shows_charge, tests_by_reply, growth_by_reply, is_granted, IsCreated, IsWritten, IsDone, Changes}
 
-none_more : (c : ℕ) → nat_lt c c ≡ false
+pub none_more : (c : ℕ) → nat_lt c c ≡ false
 none_more c = grind (arith, nat_tests)
 
-one_more : (c : ℕ) → nat_lt c (c + 1) ≡ true
+pub one_more : (c : ℕ) → nat_lt c (c + 1) ≡ true
 one_more c = grind (arith, nat_tests)
 
 pub not_lt : (a b : ℕ) (v : Bool) → nat_lt b a ≡ v → nat_le a b ≡ cond v false true
