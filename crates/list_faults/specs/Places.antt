@@ -58,6 +58,7 @@ member_of field.Route = codes "route"
 member_of field.Reserve = codes "reserve"
 member_of field.ReserveCaps = codes "reserve-caps"
 member_of field.Config = codes "config"
+member_of field.Kinds = codes "kinds"
 
 -- the first value of a list that is no rule, by its place, if the list has at most 32 elements
 abbrev pub bad_rule : Option Data → Option (ℕ × Data)

@@ -124,6 +124,10 @@ pub enum ExpectedValue {
     NoReserve,
     /// The service of the entry's binary.
     Provides,
+    /// The name of the service that the entry declares.
+    DeclaredService,
+    /// The kinds of objects that the entry declares.
+    Kinds,
     /// `true`.
     True,
     /// A text.
@@ -146,12 +150,18 @@ impl fmt::Display for ExpectedValue {
             ExpectedValue::NoInit => "no init, since inits nest at most 3 deep",
             ExpectedValue::Name => "a name as text: 1 to 32 letters, digits, `_`, `-` and `.`",
             ExpectedValue::NewName => "a name that no earlier entry has",
-            ExpectedValue::Binary => "`script`, `log`, `files` or `init`",
+            ExpectedValue::Binary => "`script`, `log`, `files`, `server` or `init`",
             ExpectedValue::Amount => "an amount as text",
             ExpectedValue::Caps => "a whole number from 0 to 4294967295",
             ExpectedValue::NoReserve => "no reserve, since only a script has one",
             ExpectedValue::Provides => {
                 "a list of at most the binary's service: `LOG` of `log`, `File_system` of `files`"
+            }
+            ExpectedValue::DeclaredService => {
+                "a list of exactly one name of a service, neither `LOG` nor `File_system`"
+            }
+            ExpectedValue::Kinds => {
+                "a list of at most 16 kinds: `kind`, a new name, `block` from 112 to 65535, and `bytes` from 0 to 65535"
             }
             ExpectedValue::True => "true",
             ExpectedValue::Text => "a text",
@@ -374,6 +384,7 @@ fn member_of(field: ConfigField) -> &'static str
         ConfigField::Reserve => "reserve",
         ConfigField::ReserveCaps => "reserve-caps",
         ConfigField::Config => "config",
+        ConfigField::Kinds => "kinds",
     }
 }
 
@@ -385,9 +396,10 @@ fn expected_of(entry: &Value, field: ConfigField, taken: bool) -> ExpectedValue 
         ConfigField::Binary => ExpectedValue::Binary,
         ConfigField::Quantum => ExpectedValue::Amount,
         ConfigField::Caps => ExpectedValue::Caps,
-        ConfigField::Provides => ExpectedValue::Provides,
+        ConfigField::Provides => provides_expected(entry),
         ConfigField::Reserve => if_script(entry, ExpectedValue::Amount),
         ConfigField::ReserveCaps => if_script(entry, ExpectedValue::Caps),
+        ConfigField::Kinds => ExpectedValue::Kinds,
         _ => config_expected(entry),
     }
 }
@@ -463,6 +475,15 @@ fn if_script(entry: &Value, expected: ExpectedValue) -> ExpectedValue {
         expected
     } else {
         ExpectedValue::NoReserve
+    }
+}
+
+// The value that is expected of `provides`: a server that declares its service names it.
+fn provides_expected(entry: &Value) -> ExpectedValue {
+    if runs(entry, "server") {
+        ExpectedValue::DeclaredService
+    } else {
+        ExpectedValue::Provides
     }
 }
 
