@@ -49,6 +49,13 @@ impl ObjectService {
     {
         ObjectService { kinds }
     }
+
+    /// Returns the kinds that the service offers.
+    pub fn kinds(&self) -> &[ObjectKind]
+        ensures { result.now ≡ self.now }
+    {
+        self.kinds.as_slice()
+    }
 }
 
 impl Service for ObjectService {
