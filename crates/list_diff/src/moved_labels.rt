@@ -8,7 +8,7 @@ ghost use Rattle.list_diff.specs.Routes.{routes};
 
 use crate::reach_changes::CellPair;
 use list_labels::{ClientLabel, SessionRequests};
-use list_parser::{Binary, ListEntry, StartList};
+use list_parser::{ListEntry, StartList};
 use list_reach::{RoutePath, WitnessedSet};
 use std::alloc::{AllocError, Global};
 
@@ -77,7 +77,7 @@ pub(crate) fn requests_of<'a>(
         → routed_on result label ≡ routes list.now client.now.path service.now label }
 {
     let client = list.find(client.path())?;
-    if list.entries()[client].binary() != Binary::Script {
+    if !list.entries()[client].is_script() {
         return None;
     }
     Some(SessionRequests {
