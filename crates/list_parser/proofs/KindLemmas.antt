@@ -11,7 +11,7 @@ use Rattle.serde_json.specs.declared.value.Value.{Value}
 use Rattle.own_model.proofs.NodeLemmas.{differ_back}
 use Rattle.own_model.specs.ObjectKinds.{AreObjectKinds, IsObjectKind, KindsDiffer, ObjectKind, is_kind, kind_named, most_kinds}
 use Rattle.own_model.specs.Text.{is_name}
-use Rattle.list_parser.specs.Declared.{declared_in, kind_of, kinds_after, with_kind}
+use Rattle.list_parser.specs.DeclaredServers.{declared_in, kind_of, kinds_after, with_kind}
 use Rattle.list_parser.specs.Members.{name_in, name_of}
 
 -- no two services are declared

@@ -12,7 +12,7 @@ use Rattle.own_model.specs.Listed.Binary.{Script, Server, Init}
 use Rattle.own_model.specs.Offer.{Offer}
 use Rattle.own_model.specs.Offer.Offer.{OffersLog, OffersFiles, OffersObjects}
 use Rattle.list_parser.specs.BuiltIn.{built_in}
-use Rattle.list_parser.specs.Declared.{kinds_declared, service_declared}
+use Rattle.list_parser.specs.DeclaredServers.{kinds_declared, service_declared}
 use Rattle.list_parser.specs.declared.fault.BootFault.{BootFault}
 use Rattle.list_parser.specs.declared.fault.BootFault.TheVariants.{BadConfig, DuplicateName, UnknownBinary}
 use Rattle.list_parser.specs.declared.fault.ConfigField.TheVariants as field

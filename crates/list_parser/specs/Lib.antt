@@ -3,7 +3,7 @@ pub mod Members
 pub mod Rules
 pub mod Labels
 pub mod BuiltIn
-pub mod Declared
+pub mod DeclaredServers
 pub mod Services
 pub mod Entries
 pub mod Depth

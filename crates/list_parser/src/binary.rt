@@ -7,7 +7,8 @@ ghost use Rattle.list_parser.specs.Entries.{word_of};
 ghost use Rattle.list_parser.specs.View.{model_binary, word_by};
 
 use crate::declared_service::DeclaredService;
-use std::alloc::{AllocError, Global};
+use std::alloc::AllocError;
+use std::rc::Rc;
 use trade_base::Service;
 
 /// The binary that a component runs.
@@ -18,7 +19,7 @@ pub enum Binary {
     /// A server of a service that the machine has built in.
     Server(Service),
     /// A server of a service that its entry declares.
-    Declared(Box<DeclaredService>),
+    Declared(Rc<DeclaredService>),
     /// An init, which starts entries of its own.
     Init,
 }
@@ -80,17 +81,14 @@ impl Binary {
         }
     }
 
-    /// Copies the binary. Returns an error if the host is out of memory.
-    pub(crate) fn copy(&self, alloc: Global) -> Result<Binary, AllocError>
+    /// Copies the binary. A copy shares the service that a server declares. Returns an error if the host is out of memory.
+    pub(crate) fn copy(&self) -> Result<Binary, AllocError>
         ensures { IfOk result (λ copy. model_binary copy ≡ model_binary self.now) }
     {
         match self {
             Binary::Script => Ok(Binary::Script),
             Binary::Server(service) => Ok(Binary::Server(*service)),
-            Binary::Declared(service) => Ok(Binary::Declared(Box::new(
-                alloc,
-                service.copy(alloc)?,
-            )?)),
+            Binary::Declared(service) => Ok(Binary::Declared(service.clone()?)),
             Binary::Init => Ok(Binary::Init),
         }
     }

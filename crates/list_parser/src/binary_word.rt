@@ -17,6 +17,7 @@ use crate::kinds::read_kinds;
 use crate::name::Name;
 use serde_json::Value;
 use std::alloc::Global;
+use std::rc::Rc;
 use trade_base::Service;
 
 /// A binary that is known by its word alone.
@@ -127,7 +128,7 @@ impl NamedBinary {
             NamedBinary::Known(KnownBinary::Init) => Ok(Binary::Init),
             NamedBinary::Declared(name) => {
                 let service = DeclaredService::new(name, read_kinds(alloc, member)?);
-                Ok(Binary::Declared(Box::new(alloc, service)?))
+                Ok(Binary::Declared(Rc::new(alloc, service)?))
             }
         }
     }

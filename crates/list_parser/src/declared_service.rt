@@ -1,10 +1,9 @@
 //! Services that servers declare in a start list.
-ghost use Rattle.std.specs.Prelude.{◌≡◌, IfOk};
+ghost use Rattle.std.specs.Prelude.{◌≡◌};
 ghost use Rattle.own_model.specs.ObjectKinds.{AreObjectKinds};
 
 use crate::name::Name;
-use object_kinds::{ObjectKind, copy_kinds};
-use std::alloc::{AllocError, Global};
+use object_kinds::ObjectKind;
 use std::marker::Model;
 
 /// A service that a server declares: its name, and the kinds of the objects that its sessions can have.
@@ -16,7 +15,7 @@ pub struct DeclaredService {
 
 impl Model for DeclaredService {
     ghost use Rattle.own_model.specs.ObjectKinds.{AreObjectKinds};
-    ghost use Rattle.list_parser.specs.Declared.{DeclaredService as Declared};
+    ghost use Rattle.list_parser.specs.DeclaredServers.{DeclaredService as Declared};
 
     ghost Value = { Declared };
 
@@ -47,15 +46,5 @@ impl DeclaredService {
         ensures each { AreObjectKinds self.now.kinds }
     {
         self.kinds.as_slice()
-    }
-
-    /// Copies the service. Returns an error if the host is out of memory.
-    pub(crate) fn copy(&self, alloc: Global) -> Result<DeclaredService, AllocError>
-        ensures { IfOk result (λ copy. copy ≡ self.now) }
-    {
-        Ok(DeclaredService {
-            name: self.name.copy(),
-            kinds: copy_kinds(alloc, self.kinds.as_slice())?,
-        })
     }
 }

@@ -236,7 +236,7 @@ impl ListEntry {
     {
         let route = copy_route(alloc, self.route())?;
         let inner_route = copy_rules(alloc, self.inner_route.as_slice())?;
-        let binary = self.binary.copy(alloc)?;
+        let binary = self.binary.copy()?;
         Ok(ListEntry {
             name: self.name.copy(),
             path: self.path.copy(),

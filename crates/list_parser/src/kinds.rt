@@ -3,7 +3,7 @@ ghost use Rattle.std.specs.Prelude.{◌≡◌, ◌≢◌, ◌≤◌, [], is_some
 ghost use Rattle.std.specs.Option.{option_map};
 ghost use Rattle.serde_json.specs.View.{view};
 ghost use Rattle.own_model.specs.ObjectKinds.{AreObjectKinds, IsObjectKind, kind_named};
-ghost use Rattle.list_parser.specs.Declared.{declarable, declared_in, is_built_in, kind_of, kinds_after, kinds_declared, listed_in, service_declared};
+ghost use Rattle.list_parser.specs.DeclaredServers.{declarable, declared_in, is_built_in, kind_of, kinds_after, kinds_declared, listed_in, service_declared};
 ghost use Rattle.list_parser.specs.declared.fault.BootFault.TheVariants.{NoMemory, BadConfig};
 
 use crate::fault::{BootFault, ConfigField};
