@@ -249,7 +249,6 @@ fn expected_of(entry: &Value, field: ConfigField, taken: bool) -> ExpectedValue 
         ConfigField::Provides => provides_expected(entry),
         ConfigField::Reserve => if_script(entry, ExpectedValue::Amount),
         ConfigField::ReserveCaps => if_script(entry, ExpectedValue::Caps),
-        ConfigField::Kinds => ExpectedValue::Kinds,
         _ => config_expected(entry),
     }
 }
@@ -369,15 +368,6 @@ fn if_script(entry: &Value, expected: ExpectedValue) -> ExpectedValue {
         expected
     } else {
         ExpectedValue::NoReserve
-    }
-}
-
-// The value that is expected of `provides`: a server that declares its service names it.
-fn provides_expected(entry: &Value) -> ExpectedValue {
-    if runs(entry, "server") {
-        ExpectedValue::DeclaredService
-    } else {
-        ExpectedValue::Provides
     }
 }
 
