@@ -9,7 +9,7 @@ use Rattle.list_labels.specs.GivenLabels.{IsGiven, leads_to}
 use Rattle.list_labels.specs.LabelRanges.{AskedLabel}
 use Rattle.list_reach.specs.Reach.{NoneRouted}
 use Rattle.list_reach.specs.RangeReach.{IsShortestInRange, NoneRoutedInRange}
-use Rattle.list_reach.specs.Paths.{runs_script, runs_server}
+use Rattle.list_parser.specs.Depth.{runs_script, runs_server}
 use Rattle.list_reach.specs.ClientReach.{is_child}
 use Rattle.list_policy.specs.declared.breach.Breach.{Breach}
 use Rattle.list_policy.specs.declared.breach.Breach.TheVariants as breach

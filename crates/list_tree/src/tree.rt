@@ -121,7 +121,7 @@ fn show_node<W: fmt::Write>(f: &mut fmt::Formatter<W>, node: &TreeNode<'_>) -> f
     write!(f, "{} ({}): ", entry.to_name(), binary.as_str())?;
     node.show_budget(f, ", ")?;
     match binary.service() {
-        Some(service) if entry.provides() => writeln!(f, ", provides {}", service.name()),
+        Some(service) if entry.provides() => writeln!(f, ", provides {service}"),
         Some(_) => f.write_str(", provides nothing\n"),
         None => f.write_str("\n"),
     }
