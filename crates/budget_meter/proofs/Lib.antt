@@ -10,4 +10,5 @@ pub mod HexLemmas
 pub mod FirstLemmas
 pub mod ToldLemmas
 pub mod ObjectToldLemmas
+pub mod KeptStateLemmas
 pub mod SessionLemmas

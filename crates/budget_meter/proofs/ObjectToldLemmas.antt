@@ -326,7 +326,7 @@ module _ (kinds : List ObjectKind) (objects : Objects) (a : Account) (few : a.ra
   pub holding_told : (asked : Option HoldingRequest) → ToldOf asked (told_reply asked)
   holding_told None = by_reply None refl (record { tests = refl; growth = refl; sizes = refl; short = refl })
   holding_told (Some (OfObjects request)) =
-      let all = object_told request in by_reply (Some (OfObjects request)) refl (record { tests = all.0; growth = all.1.0; sizes = all.1.1; short = refl })
+      let all = object_told request in by_reply (Some (OfObjects request)) refl (record { tests = all.0; growth = all.1; sizes = all.2; short = refl })
   holding_told (Some (OfBuffer (MakeBuffer n))) =
       record {
         tests = (request_told no_files a few selector (Some (OfFilesBuffer (MakeBuffer n))) buffer).tests;

@@ -7,5 +7,6 @@ pub mod SessionRuns
 pub mod RequestTests
 pub mod ObjectSizes
 pub mod ObjectTests
+pub mod KeptState
 pub mod Sessions
 pub mod Outcomes

@@ -22,6 +22,10 @@ size_of_object object = record { name = object.name; bytes = object.kind.bytes; 
 abbrev pub known_of : List ObjectKind → Objects → KnownObjects
 known_of kinds objects = record { kinds = kinds; objects = map size_of_object objects.objects }
 
+-- what is known of a new session
+abbrev pub new_known : List ObjectKind → KnownObjects
+new_known kinds = record { kinds = kinds; objects = [] }
+
 abbrev pub has_name : List ℕ → ObjectSize → Bool
 has_name name object = bytes_eq object.name name
 
