@@ -13,7 +13,7 @@ use Rattle.own_model.specs.OwnHeap.{OwnHeap}
 use Rattle.sliced_heap.specs.Chain.{is_listed, has_no_repeat}
 use Rattle.session_nodes.specs.Node.{StoredNode, word_from}
 use Rattle.session_nodes.specs.NodeList.{nodes_in, taken_in, Creates, HasNodes, IsFound, Removes, Replaces}
-use Rattle.session_nodes.specs.Order.{node_at, nodes_from, Stays}
+use Rattle.session_nodes.specs.Order.{node_at, nodes_from, user_at, Stays}
 use Rattle.session_nodes.specs.SoundHeaps.{Stock}
 use Rattle.session_nodes.specs.declared.node_list.NodeList.{NodeList}
 use Rattle.session_nodes.proofs.KeptLemmas.{blocks_are, stays_then}
@@ -21,7 +21,7 @@ use Rattle.session_nodes.proofs.LinkLemmas.{listed_append, listed_front, listed_
 use Rattle.object_service.specs.Calls.{PutsWords, TakesContent}
 use Rattle.object_service.specs.Kinds.{kind_at}
 use Rattle.object_service.specs.Objects.{object_at, objects_of, number_at, numbers_of, unit_at, units_at, word_at, AreObjectNodes, IsObject}
-use Rattle.object_service.proofs.FoundLemmas.{blocks, is_of_name, none_before, none_named, objects_around}
+use Rattle.object_service.proofs.FoundLemmas.{is_of_name, listed_found, none_before, none_named, objects_around}
 use Rattle.object_service.proofs.KeptLemmas.{same_object, same_number, still_object}
 use Rattle.object_service.proofs.ListLemmas.{append_map, with_behind, without_behind}
 use Rattle.object_service.proofs.WordLemmas.{number_is, unit_is}
@@ -146,6 +146,15 @@ module _ (list later : NodeList) (old new : Stock) (name : List ℕ) (previous a
     account_removed is = removes.account ∙ ap (λ n. credited old.account (content_ram n) (content_caps n)) is.size
 
 -- ---- an object with other units
+
+-- it is listed after its content is replaced, and has its words
+module _ (list later : NodeList) (was taken mid : Stock) (name : List ℕ) (previous address : ℕ) (node : StoredNode) (found : IsFound list.first list.last was.nodes was.contents name previous address node)
+    (size content : ℕ) (takes : TakesContent size content was taken) (replaces : Replaces list later address content size taken mid) where
+  pub listed_still : is_listed (nodes_in later mid) address ≡ true
+  listed_still = ap (λ bs. is_listed bs address) (replaces.listed ∙ ap (nodes_from list.first) takes.nodes) ∙ listed_found list.first list.last was.nodes was.contents name previous address node found
+
+  pub room_still : IsObject was.nodes address → 16 ≤ length (user_at mid.nodes address)
+  room_still is = subst (λ user. 16 ≤ length user) (sym (replaces.user ∙ ap (λ (n : OwnHeap). user_at n address) takes.nodes)) is.room
 
 module _ (list later : NodeList) (was taken mid new : Stock) (name : List ℕ) (previous address : ℕ) (node : StoredNode) (found : IsFound list.first list.last was.nodes was.contents name previous address node)
     (size content word units : ℕ) (takes : TakesContent size content was taken) (replaces : Replaces list later address content size taken mid) (puts : PutsWords later address word units mid new)

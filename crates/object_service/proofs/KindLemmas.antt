@@ -1,17 +1,20 @@
 -- Kinds by their names and by their numbers.
-use Rattle.std.proofs.Common.{◌≡◌, ◌≢◌, ℕ, zero, suc, ◌<◌, ◌≤◌, ◌+◌, ◌==◌, cond, true, false, true≢false, List, [], ◌∷◌, count_by, get_or, length, map, Some, None, refl, sym, ap, subst, ◌∙◌, inl, inr, arith}
+use Rattle.std.proofs.Common.{◌≡◌, ◌≢◌, ℕ, zero, suc, ◌<◌, ◌≤◌, ◌+◌, ◌==◌, cond, true, false, true≢false, List, [], ◌∷◌, count_by, get_or, length, map, Option, Some, None, refl, sym, ap, subst, ◌∙◌, inl, inr, arith}
 use Rattle.std.proofs.lemmas.Bool.{cases_eq, cases_lt}
 use Rattle.std.proofs.lemmas.Bool.Decides.{nat_tests}
-use Rattle.std.proofs.lemmas.Option.{none-some}
+use Rattle.std.proofs.lemmas.List.Folds.{find_at}
+use Rattle.std.proofs.lemmas.List.Sums.{sum_by-cons}
+use Rattle.std.proofs.lemmas.Option.{none-some, same_Some, slice_get-get_or, slice_get_past}
 use Rattle.std.proofs.lemmas.Slice.Eq.{bytes_eq-Decides}
-use Rattle.std.specs.List.{AllByRecursion}
+use Rattle.std.specs.List.{AllByRecursion, position, position_or_len, slice_get}
+use Rattle.std.specs.Option.{unwrap_or}
 use Rattle.std.specs.Str.{bytes_eq}
 use Rattle.own_model.specs.ObjectKinds.{ObjectKind, IsObjectKind, KindsDiffer, AreObjectKinds, is_kind, kind_named}
 use Rattle.own_model.specs.ObjectService.{DeclaredObject, is_of_kind}
 use Rattle.own_model.specs.OwnHeap.{OwnHeap}
 use Rattle.own_model.specs.Text.{is_name}
 use Rattle.own_model.proofs.NodeLemmas.{differ_back}
-use Rattle.object_service.specs.Kinds.{kind_at}
+use Rattle.object_service.specs.Kinds.{kind_at, no_kind}
 use Rattle.object_service.specs.Objects.{number_at, object_at}
 
 -- a kind of a list is one that a list can declare
@@ -70,4 +73,29 @@ same_number kinds n number are low = elim (cases_eq n number) [
 pub counted_as : (kinds : List ObjectKind) (nodes : OwnHeap) (number : ℕ) (blocks : List ℕ) → AreObjectKinds kinds → number < length kinds →
     count_by (λ n. n == number) (map (number_at nodes) blocks) ≡ count_by (is_of_kind (kind_at kinds number).name) (map (object_at kinds nodes) blocks)
 counted_as kinds nodes number [] are low = refl
-counted_as kinds nodes number (b ∷ blocks) are low = rw (same_number kinds (number_at nodes b) number are low) (ap (λ n. cond (number_at nodes b == number) 1 0 + n) (counted_as kinds nodes number blocks are low))
+counted_as kinds nodes number (b ∷ blocks) are low =
+    let name = (kind_at kinds number).name in
+    let head : cond (is_of_kind name (object_at kinds nodes b)) 1 0 ≡ cond (number_at nodes b == number) 1 0 = ap (λ t. cond t 1 0) (same_number kinds (number_at nodes b) number are low) in
+    omega (
+      arith,
+      head,
+      counted_as kinds nodes number blocks are low,
+      sum_by-cons (λ n. cond (n == number) 1 0) (number_at nodes b) (map (number_at nodes) blocks),
+      sum_by-cons (λ (o : DeclaredObject). cond (is_of_kind name o) 1 0) (object_at kinds nodes b) (map (object_at kinds nodes) blocks),
+    )
+
+-- ---- the kind of a name, by its number
+
+pub named_some : (kinds : List ObjectKind) (name : List ℕ) (number : ℕ) → position (is_kind name) kinds ≡ Some number → kind_named name kinds ≡ Some (kind_at kinds number)
+named_some kinds name number is =
+    let n = position_or_len (is_kind name) kinds in
+    let low : n < length kinds = grind (arith, nat_tests, none-some) in
+    let same : n ≡ number = grind (arith, nat_tests, same_Some) in
+    let there : slice_get kinds number ≡ Some (get_or kinds number no_kind) = slice_get-get_or kinds number no_kind (omega (arith, low, same)) in
+    find_at (is_kind name) kinds ∙ ap (slice_get kinds) same ∙ there ∙ ap (λ (o : Option ObjectKind). Some (unwrap_or o no_kind)) (sym there)
+
+pub named_none : (kinds : List ObjectKind) (name : List ℕ) → position (is_kind name) kinds ≡ None → kind_named name kinds ≡ None
+named_none kinds name is =
+    let n = position_or_len (is_kind name) kinds in
+    let high : length kinds ≤ n = grind (arith, nat_tests, none-some) in
+    find_at (is_kind name) kinds ∙ slice_get_past kinds n high

@@ -2,8 +2,9 @@
 use Rattle.std.proofs.Common.{rules, ◌≡◌, ◌≢◌, ℕ, ◌+◌, ◌*◌, ◌^◌, ◌<◌, ◌≤◌, ◌==◌, cond, Bool, true, false, true≢false, List, length, Option, Some, None, is_some, refl, sym, ap, subst, ◌∙◌, arith}
 use Rattle.std.proofs.lemmas.Bool.Decides.{nat_tests}
 use Rattle.std.proofs.lemmas.Option.{none-some, same_Some}
-use Rattle.std.specs.Prelude.{nat_lt, nat_le}
+use Rattle.std.specs.Prelude.{slice_get, SomeIff, Result, Ok, Err, MatchResult, is_ok}
 use Rattle.std.specs.Option.{option_map}
+use Rattle.std.specs.Result.{result_ok}
 use Rattle.trade_base.specs.Page.{page_of, is_valid_size}
 use Rattle.trade_base.specs.declared.refusal.Refusal.{Refusal}
 use Rattle.trade_base.specs.declared.refusal.Refusal.TheVariants as refusal
@@ -11,15 +12,15 @@ use Rattle.trade_base.proofs.PageLemmas.{IsLeastPageSize-page_of}
 use Rattle.own_model.specs.Account.{Account, shortage}
 use Rattle.own_model.specs.BestFit.{Spot, block_size}
 use Rattle.own_model.specs.FileService.{error_of}
-use Rattle.own_model.specs.FileText.FileError.{BadName, Exists, NotFound, InvalidSize}
+use Rattle.own_model.specs.FileText.FileError.{BadName, Exists, NotFound, End, InvalidSize}
 use Rattle.own_model.specs.Growth.{Shape, heap_refusal, hole_for, small_refusal}
 use Rattle.own_model.specs.Nodes.{block_taken}
 use Rattle.own_model.specs.ObjectKinds.{ObjectKind, IsObjectKind, kind_named}
-use Rattle.own_model.specs.ObjectService.{DeclaredObject, Objects, ObjectServed, told, object_named, contents, contents_refusal, with_units, changed, made, made_by, resized, dropped, counted}
+use Rattle.own_model.specs.ObjectService.{DeclaredObject, Objects, ObjectServed, told, object_named, contents, contents_refusal, with_units, changed, made, made_by, named, resized, dropped, counted}
 use Rattle.own_model.specs.ObjectText as model
 use Rattle.own_model.specs.ObjectText.ObjectError.{BadKind, Shared}
-use Rattle.own_model.specs.ObjectText.ObjectReply.{Done, Counted, Refused}
-use Rattle.own_model.specs.ObjectText.ObjectRequest.{Make, Resize, Drop, Count, CountKind}
+use Rattle.own_model.specs.ObjectText.ObjectReply.{Done, Refused}
+use Rattle.own_model.specs.ObjectText.ObjectRequest.{Make, Resize, Drop, CountKind, Name}
 use Rattle.own_model.specs.Text.{is_name}
 use Rattle.own_model.proofs.ObjectErrorLemmas.{nodes_are_blocks}
 use Rattle.region_map.specs.Regions.{Regions}
@@ -29,7 +30,7 @@ use Rattle.session_nodes.specs.SessionHeaps.{stock_of}
 use Rattle.session_nodes.specs.SoundHeaps.{Stock}
 use Rattle.session_nodes.specs.declared.node_list.FoundNode.{FoundNode}
 use Rattle.object_service.specs.Calls.{refusal_error}
-use Rattle.object_service.specs.Session.{objects_in, created_in, resized_in, HasObjects, KeepsOwn, Serves, IsTold, served_in}
+use Rattle.object_service.specs.Session.{objects_in, created_in, named_reply, resized_in, HasObjects, KeepsOwn, Serves, IsTold, served_in}
 use Rattle.object_service.specs.declared.session.ObjectSession.{ObjectSession}
 
 -- ---- after a search, which leaves the memory
@@ -170,3 +171,46 @@ module _ (kinds : List ObjectKind) (session : ObjectSession) (has : Stock) where
 
     pub count_done : (kind : ObjectKind) → kind_named name kinds ≡ Some kind → served_in kinds (CountKind name) session has ≡ counted (Some kind) (objects_in kinds session has) has.account
     count_done kind there = ap (λ o. counted o (objects_in kinds session has) has.account) there
+
+-- ---- results
+
+-- what is Ok after its error was mapped was Ok before
+pub was_ok : {T E D : Type 0} (self : Result T E) (mapped : Result T D) (x : T) (Q : E → Type 0) → MatchResult self (λ y. mapped ≡ Ok y) Q → is_ok mapped ≡ is_ok self → mapped ≡ Ok x → self ≡ Ok x
+was_ok (Ok y) mapped x Q cases variant is = let e : y ≡ x = cc in ap Ok e
+was_ok (Err e) mapped x Q cases variant is = absurd (true≢false (ap is_ok (sym is) ∙ variant))
+
+-- ---- NAME
+
+-- the object at a place, or that there are no more
+abbrev pub name_reply : Option model.ObjectReply → model.ObjectReply
+name_reply (Some reply) = reply
+name_reply None = Refused (Shared End)
+
+named_by : (o : Option DeclaredObject) (objects : Objects) (account : Account) → named o objects account ≡ told (name_reply (option_map named_reply o)) objects account
+named_by None objects account = refl
+named_by (Some object) objects account = refl
+
+-- the objects stay, and one is named, whatever node is remembered
+pub named_served : (kinds : List ObjectKind) (place : ℕ) (reply : Option model.ObjectReply) (session later : ObjectSession) (old new : Store) (regions : Regions) →
+    HasObjects later (stock_of later.nodes.heaps old regions) → later ≡ record session { nodes = record session.nodes { recent = later.nodes.recent } } → new ≡ old →
+    reply ≡ option_map named_reply (slice_get (objects_in kinds session (stock_of session.nodes.heaps old regions)).objects place) →
+    let has = stock_of session.nodes.heaps old regions in
+    Serves kinds (served_in kinds (Name place) session has) (name_reply reply) session later (stock_of later.nodes.heaps new regions)
+named_served kinds place reply session later old new regions kept is same reply_is =
+    let has = stock_of session.nodes.heaps old regions in
+    subst (λ m. Serves kinds (served_in kinds (Name place) session has) (name_reply reply) session later (stock_of later.nodes.heaps m regions)) (sym same)
+    (serves_done kinds (served_in kinds (Name place) session has) (name_reply reply) (objects_in kinds session has) has.account session later (stock_of later.nodes.heaps old regions)
+    (named_by (slice_get (objects_in kinds session has).objects place) (objects_in kinds session has) has.account
+    ∙ ap (λ o. told (name_reply o) (objects_in kinds session has) has.account) (sym reply_is))
+    (ap (λ (s : ObjectSession). (stock_of s.nodes.heaps old regions).account) is)
+    (ap (λ (s : ObjectSession). objects_in kinds s (stock_of s.nodes.heaps old regions)) is)
+    kept
+    (record { label = ap (λ (s : ObjectSession). s.label) is; buffer = ap (λ (s : ObjectSession). s.buffer) is }))
+
+-- a sum or a product that is returned is it
+pub sum_is : {E : Type 0} (o : Option ℕ) (r : Result ℕ E) (P : Type 0) (n sum : ℕ) → SomeIff o P sum → o ≡ result_ok r → r ≡ Ok n → n ≡ sum
+sum_is o r P n sum iff ok is = let told = subst (λ (x : Option ℕ). SomeIff x P sum) (ok ∙ ap result_ok is) iff in told.1
+
+-- what was none before it was an error
+pub none_before : {T E : Type 0} (o : Option T) (r : Result T E) (e : E) → o ≡ result_ok r → r ≡ Err e → o ≡ None
+none_before o r e ok is = ok ∙ ap result_ok is

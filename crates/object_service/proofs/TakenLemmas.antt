@@ -1,8 +1,16 @@
 -- Nodes stay where a new content is taken that no node has.
-use Rattle.std.proofs.Common.{◌≡◌, ◌≢◌, ℕ, ◌<◌, true, List, ◌∷◌, ◌++◌, Some, refl, sym, ap, subst, ◌∙◌, arith}
+use Rattle.std.proofs.Common.{◌≡◌, ◌≢◌, ℕ, ◌+◌, ◌-◌, ◌<◌, ◌==◌, cond, true, false, true≢false, List, ◌∷◌, ◌++◌, Some, refl, sym, ap, subst, ◌∙◌, arith}
+use Rattle.std.proofs.lemmas.Bool.Decides.{nat_tests}
 use Rattle.std.proofs.lemmas.Option.{none-some}
+use Rattle.std.specs.Prelude.{None, Result, Ok, Err, MatchResult, IfOk, is_ok}
 use Rattle.std.specs.FinMap.{get}
+use Rattle.own_model.specs.Account.{Account, charged}
+use Rattle.own_model.specs.OwnState.{zeros}
+use Rattle.own_model.specs.Sliced.{sliced_header, sliced_size}
+use Rattle.own_model.proofs.ByteLemmas.{length-zeros}
+use Rattle.own_model.proofs.NatMapLemmas.{get-insert_same, get-insert_other}
 use Rattle.sliced_heap.specs.Chain.{is_listed}
+use Rattle.session_nodes.specs.Calls.{content_taken}
 use Rattle.session_nodes.specs.Index.{IsIndexed}
 use Rattle.session_nodes.specs.Node.{StoredNode}
 use Rattle.session_nodes.specs.NodeList.{HasNodes, IsFound, IsOwn}
@@ -11,6 +19,52 @@ use Rattle.session_nodes.specs.SoundHeaps.{Stock}
 use Rattle.session_nodes.specs.declared.node_list.NodeList.{NodeList}
 use Rattle.session_nodes.proofs.KeptLemmas.{blocks_are, stand_kept}
 use Rattle.object_service.specs.Calls.{TakesContent}
+
+-- ---- what is taken
+
+-- nothing is charged for no bytes
+nothing_charged : (account : Account) → account ≡ charged account 0 0
+nothing_charged account =
+    let ram : account.ram_used ≡ account.ram_used + 0 = omega arith in
+    let caps : account.caps_used ≡ account.caps_used + 0 = omega arith in
+    λ i. record account { ram_used = ram i; caps_used = caps i }
+
+-- no content
+pub takes_none : (stock : Stock) (size : ℕ) → size ≡ 0 → TakesContent size 0 stock stock
+takes_none stock size none =
+    let zero : (size == 0) ≡ true = grind (arith, nat_tests) in
+    record {
+      account = nothing_charged stock.account ∙ sym (λ i. charged stock.account (cond (zero i) 0 (sliced_size size)) (cond (zero i) 0 1));
+      nodes = refl;
+      free = λ some. absurd (omega (arith, some, none));
+      payload = zeros (sliced_size size - sliced_header);
+      there = λ some. absurd (omega (arith, some, none));
+      long = length-zeros (sliced_size size - sliced_header);
+      others = λ a apart. refl;
+    }
+
+-- a content
+pub takes_some : (size content : ℕ) (old new : Stock) → 0 < size → get old.contents content ≡ None → new ≡ content_taken size content old → TakesContent size content old new
+takes_some size content old new some free is =
+    let other : (size == 0) ≡ false = grind (arith, nat_tests) in
+    record {
+      account = ap (λ (s : Stock). s.account) is ∙ sym (λ i. charged old.account (cond (other i) 0 (sliced_size size)) (cond (other i) 0 1));
+      nodes = ap (λ (s : Stock). s.nodes) is;
+      free = λ _. free;
+      payload = zeros (sliced_size size - sliced_header);
+      there = λ _. ap (λ (s : Stock). get s.contents content) is ∙ get-insert_same old.contents content (zeros (sliced_size size - sliced_header)) content refl;
+      long = length-zeros (sliced_size size - sliced_header);
+      others = λ a apart. ap (λ (s : Stock). get s.contents a) is ∙ get-insert_other old.contents content (zeros (sliced_size size - sliced_header)) a (apart some);
+    }
+
+-- what holds of an accepted call holds after its error is mapped
+pub if_ok_mapped : {T E D : Type 0} (self : Result T E) (mapped : Result T D) (Q : E → Type 0) {A B P : T → Type 0} → MatchResult self (λ y. mapped ≡ Ok y) Q → is_ok mapped ≡ is_ok self →
+    IfOk self A → IfOk self B → ((y : T) → A y → B y → P y) → IfOk mapped P
+if_ok_mapped (Ok y) mapped Q {A} {B} {P} cases variant a b f = subst (λ r. IfOk r P) (sym cases) (f y a b)
+if_ok_mapped (Err e) (Ok x) Q cases variant a b f = absurd (true≢false variant)
+if_ok_mapped (Err e) (Err d) Q cases variant a b f = a
+
+-- ---- nodes
 
 module _ (list : NodeList) (was taken : Stock) (size content : ℕ) (takes : TakesContent size content was taken) where
   -- no node has the new content
@@ -62,5 +116,5 @@ module _ (list : NodeList) (was taken : Stock) (size content : ℕ) (takes : Tak
       (λ b t some_b. not_new b (has.stand.each b (ap (λ bs. is_listed bs b) (sym (blocks_are list.first list.last was.nodes was.contents has.blocks has.stand)) ∙ t)) some some_b)
 
   -- and has so many bytes
-  pub content_taken : (node : StoredNode) → 0 < size → HasContent taken.contents (record node { content = content; size = size })
-  content_taken node some = record { payload = takes.payload; there = takes.there some; long = takes.long }
+  pub has_taken : (node : StoredNode) → 0 < size → HasContent taken.contents (record node { content = content; size = size })
+  has_taken node some = record { payload = takes.payload; there = takes.there some; long = takes.long }
