@@ -26,10 +26,10 @@ use Rattle.session_proto.specs.Objects.{model_request}
 use Rattle.session_proto.specs.declared.object.ObjectRequest.{ObjectRequest}
 use Rattle.session_nodes.specs.SoundHeaps.{Stock}
 use Rattle.session_nodes.specs.SessionHeaps.{stock_of, StaySoundHeaps, KeepsHeaps}
-use Rattle.session_nodes.specs.SessionBuffer.{TakesBuffer, HasBuffer, buffer_key}
+use Rattle.session_nodes.specs.SessionBuffer.{HasBuffer, buffer_key}
 use Rattle.session_nodes.specs.declared.session_buffer.SessionBuffer.{SessionBuffer}
 use Rattle.session_nodes.proofs.SourceLemmas.{buffer_kept, buffer_same}
-use Rattle.object_service.specs.Session.{objects_in, served_in, session_served, Answers, HasObjects, IsAnswered, IsReady, Leaves, LeavesSession, Serves}
+use Rattle.object_service.specs.Session.{objects_in, served_in, session_served, Answers, IsAnswered, IsReady, Leaves, LeavesSession, Serves}
 use Rattle.object_service.specs.declared.session.ObjectSession.{ObjectSession}
 
 -- why no buffer is made where the session lends none, and so many bytes have a size
@@ -84,38 +84,17 @@ module _ {session : ObjectSession} {store : Store} {regions : Regions} (ready : 
     label = leaves.own.label;
   }
 
-  module _ (n : ℕ) (valid : is_valid_size n ≡ true) (none : is_some session.buffer ≡ false) where
-    served_by : (o : Option Refusal) → alloc_refusal n has.account ≡ o →
-        session_served kinds (Some (OfBuffer (Make n))) session store regions
-        ≡ lent_beside (objects_in kinds session has) (unless_refused (option_map error_of o) lends no_files has.account (made n no_files has.account))
-    served_by o is = ap (λ r. lent_beside (objects_in kinds session has) (unless_refused r lends no_files has.account (made n no_files has.account)))
-        (short_made n lends has.account valid (lends_some session.buffer store ∙ none) ∙ ap (option_map error_of) is)
-
-    -- a buffer that the account doesn't cover is refused, and leaves all
-    pub make_refused : (r : Refusal) (reply : model.ObjectReply) {new : Store} {after : Regions} → alloc_refusal n has.account ≡ Some r → reply ≡ Refused (Shared (error_of r)) → new ≡ store → after ≡ regions →
-        Answers kinds (session_served kinds (Some (OfBuffer (Make n))) session store regions) reply session session new after
-    make_refused r reply {new} {after} short is same stays =
-        let all = told_all (Refused (Shared (error_of r))) _ (served_by (Some r) short) in
-        subst (λ m. Answers kinds (session_served kinds (Some (OfBuffer (Make n))) session store regions) reply session session m after) (sym same)
-        (subst (λ m. Answers kinds (session_served kinds (Some (OfBuffer (Make n))) session store regions) reply session session store m) (sym stays)
-        (subst (λ p. Answers kinds (session_served kinds (Some (OfBuffer (Make n))) session store regions) p session session store regions) (sym is) all))
-
-    -- else it is lent
-    pub make_done : (lent : SessionBuffer) {new : Store} {after : Regions} → alloc_refusal n has.account ≡ None →
-        TakesBuffer n lent has (stock_of session.nodes.heaps new after) (holding_of session.nodes.heaps.contents new after) new → StaySoundHeaps session.nodes.heaps session.nodes.heaps store new regions after →
-        Answers kinds (session_served kinds (Some (OfBuffer (Make n))) session store regions) model.ObjectReply.Lent session (record session { buffer = Some lent }) new after
-    make_done lent {new} {after} covered taken stays =
-        let is = sym (served_by None covered) in
-        record {
-          reply_is = ap (λ (o : HoldingServed). o.reply) is;
-          leaves = record {
-            ready = record { furnished = stays.furnished; objects = subst (HasObjects session) (sym taken.stock) ready.objects; lent = taken.stands };
-            account = ap (λ (s : Stock). s.account) taken.stock ∙ ap (λ (o : HoldingServed). o.account) is;
-            objects = ap (objects_in kinds session) taken.stock ∙ ap (λ (o : HoldingServed). o.objects) is;
-            buffer = ap Some taken.zero ∙ ap (λ (o : HoldingServed). o.buffer) is;
-            label = refl;
-          };
-        }
+  -- a buffer that the account doesn't cover is refused, and leaves all
+  pub make_refused : (n : ℕ) → is_valid_size n ≡ true → is_some session.buffer ≡ false → (r : Refusal) (reply : model.ObjectReply) {new : Store} {after : Regions} →
+      alloc_refusal n has.account ≡ Some r → reply ≡ Refused (Shared (error_of r)) → new ≡ store → after ≡ regions →
+      Answers kinds (session_served kinds (Some (OfBuffer (Make n))) session store regions) reply session session new after
+  make_refused n valid none r reply {new} {after} short is same stays =
+      let refusal = short_made n lends has.account valid (lends_some session.buffer store ∙ none) ∙ ap (option_map error_of) short in
+      let served = ap (λ e. lent_beside (objects_in kinds session has) (unless_refused e lends no_files has.account (made n no_files has.account))) refusal in
+      let all = told_all (Refused (Shared (error_of r))) _ served in
+      subst (λ m. Answers kinds (session_served kinds (Some (OfBuffer (Make n))) session store regions) reply session session m after) (sym same)
+      (subst (λ m. Answers kinds (session_served kinds (Some (OfBuffer (Make n))) session store regions) reply session session store m) (sym stays)
+      (subst (λ p. Answers kinds (session_served kinds (Some (OfBuffer (Make n))) session store regions) p session session store regions) (sym is) all))
 
   -- ---- what is told
 

@@ -3,6 +3,7 @@ use Rattle.std.proofs.Common.{◌≡◌, ◌≢◌, ℕ, ◌+◌, ◌*◌, ◌<�
 use Rattle.std.proofs.lemmas.Bool.{cases_eq}
 use Rattle.std.proofs.lemmas.Bool.Decides.{nat_tests}
 use Rattle.std.proofs.lemmas.Slice.Eq.{bytes_eq-Decides}
+use Rattle.std.proofs.Math.Nat.{zero-mul}
 use Rattle.std.specs.Prelude.{◌/◌, ◌%◌}
 use Rattle.own_model.specs.Account.{charged, credited}
 use Rattle.own_model.specs.Growth.{shape_given}
@@ -53,9 +54,6 @@ module _ (list later : NodeList) (asked address : ℕ) (name : List ℕ) (old mi
       stays_then old.nodes mid.nodes new.nodes old.contents mid.contents new.contents b (creates.stay b t)
       (puts.others b (ap (λ bs. is_listed bs b) creates.listed ∙ listed_front (nodes_in list old) address b t) (apart b t))
 
-  new_node : node_at new.nodes address ≡ node_at mid.nodes address
-  new_node = puts.node_is
-
   module _ (kinds : List ObjectKind) (kind : ObjectKind) (number : ℕ) (has : HasKind kinds kind number word) where
     number_new : number_at new.nodes address ≡ number
     number_new = ap (λ w. w / 65536) puts.word_is ∙ number_is number kind.bytes word has.low has.word_is
@@ -95,7 +93,7 @@ module _ (list later : NodeList) (asked address : ℕ) (name : List ℕ) (old mi
   nodes_created are b t =
       let size : (node_at new.nodes address).size ≡ 0 = ap (λ (n : StoredNode). n.size) puts.node_is ∙ creates.empty in
       elim (cases_eq b address) [
-        | inl at ↦ subst (IsObject new.nodes) (sym at) (record { room = puts.room; size = size ∙ sym (ap (λ u. u * unit_at new.nodes address) puts.units_are) })
+        | inl at ↦ subst (IsObject new.nodes) (sym at) (record { room = puts.room; size = size ∙ sym (ap (λ u. u * unit_at new.nodes address) puts.units_are ∙ zero-mul (unit_at new.nodes address)) })
         | inr other ↦
             let all = listed_append (nodes_in list old) (address ∷ []) b in
             let listed : is_listed (nodes_in list old ++ address ∷ []) b ≡ true = ap (λ bs. is_listed bs b) (sym listed_new) ∙ t in
@@ -162,14 +160,11 @@ module _ (list later : NodeList) (was taken mid new : Stock) (name : List ℕ) (
   around : nodes_from list.first was.nodes ≡ found.before ++ address ∷ found.behind
   around = blocks_are list.first list.last was.nodes was.contents (found.before ++ address ∷ found.behind) found.stand
 
-  taken_nodes : taken.nodes ≡ was.nodes
-  taken_nodes = takes.nodes
-
   listed_taken : nodes_in list taken ≡ nodes_in list was
   listed_taken = ap (nodes_from list.first) takes.nodes
 
-  pub listed_new : nodes_in later new ≡ nodes_in list was
-  listed_new = puts.listed ∙ replaces.listed ∙ listed_taken
+  pub listed_changed : nodes_in later new ≡ nodes_in list was
+  listed_changed = puts.listed ∙ replaces.listed ∙ listed_taken
 
   other_stays : (b : ℕ) → is_listed (nodes_in list was) b ≡ true → b ≢ address → Stays was.nodes new.nodes taken.contents new.contents b
   other_stays b t other =
@@ -185,7 +180,7 @@ module _ (list later : NodeList) (was taken mid new : Stock) (name : List ℕ) (
 
   pub numbers_changed : numbers_of later.first new.nodes ≡ numbers_of list.first was.nodes
   numbers_changed =
-      ap (map (number_at new.nodes)) listed_new
+      ap (map (number_at new.nodes)) listed_changed
       ∙ map_kept (number_at was.nodes) (number_at new.nodes) (nodes_in list was) (λ b t. elim (cases_eq b address) [
         | inl at ↦ subst (λ a. number_at new.nodes a ≡ number_at was.nodes a) (sym at) number_same
         | inr other ↦ same_number was.nodes new.nodes taken.contents new.contents b (other_stays b t other)
@@ -196,7 +191,7 @@ module _ (list later : NodeList) (was taken mid new : Stock) (name : List ℕ) (
 
   pub nodes_changed : AreObjectNodes list.first was.nodes → size ≡ units * unit_at was.nodes address → AreObjectNodes later.first new.nodes
   nodes_changed are size_is b t =
-      let listed : is_listed (nodes_in list was) b ≡ true = ap (λ bs. is_listed bs b) (sym listed_new) ∙ t in
+      let listed : is_listed (nodes_in list was) b ≡ true = ap (λ bs. is_listed bs b) (sym listed_changed) ∙ t in
       let units_new : units_at new.nodes address ≡ units = puts.units_are in
       elim (cases_eq b address) [
         | inl at ↦ subst (IsObject new.nodes) (sym at) (record {
@@ -243,7 +238,7 @@ module _ (list later : NodeList) (was taken mid new : Stock) (name : List ℕ) (
     pub objects_changed : objects_of kinds later.first new.nodes
         ≡ record (objects_of kinds list.first was.nodes) { objects = with_first (is_named name) (with_units units) (objects_of kinds list.first was.nodes).objects }
     objects_changed =
-        let value = ap (map g) (listed_new ∙ around) ∙ append_map g found.before (address ∷ found.behind) in
+        let value = ap (map g) (listed_changed ∙ around) ∙ append_map g found.before (address ∷ found.behind) in
         let parts : map g found.before ++ g address ∷ map g found.behind ≡ map f found.before ++ with_units units (f address) ∷ map f found.behind =
         ap (λ (xs : List DeclaredObject). xs ++ g address ∷ map g found.behind) same_before
         ∙ ap (λ (x : DeclaredObject). map f found.before ++ x ∷ map g found.behind) changed_object

@@ -45,12 +45,12 @@ pub less_other : (k number : ℕ) (before behind : List ℕ) → k ≢ number �
 less_other k number before behind other =
     let no : (number == k) ≡ false = grind (arith, nat_tests) in
     let less = one_less k number before behind in
-    let none : cond (number == k) 1 0 ≡ 0 = ap (λ t. cond t 1 0) no in
+    let none : ◌≡◌ {A = ℕ} (cond (number == k) 1 0) 0 = ap (λ t. cond t 1 0) no in
     omega (arith, less, none)
 
 pub less_same : (number : ℕ) (before behind : List ℕ) → many number (before ++ number ∷ behind) ≡ many number (before ++ behind) + 1
 less_same number before behind =
     let yes : (number == number) ≡ true = grind (arith, nat_tests) in
     let less = one_less number number before behind in
-    let one : cond (number == number) 1 0 ≡ 1 = ap (λ t. cond t 1 0) yes in
+    let one : ◌≡◌ {A = ℕ} (cond (number == number) 1 0) 1 = ap (λ t. cond t 1 0) yes in
     omega (arith, less, one)

@@ -14,14 +14,19 @@ use Rattle.own_model.specs.ObjectService.{DeclaredObject, is_of_kind}
 use Rattle.own_model.specs.OwnHeap.{OwnHeap}
 use Rattle.own_model.specs.Text.{is_name}
 use Rattle.own_model.proofs.NodeLemmas.{differ_back}
+use Rattle.own_model.proofs.NodeListLemmas.{none_passes}
 use Rattle.object_service.specs.Kinds.{kind_at, no_kind}
 use Rattle.object_service.specs.Objects.{number_at, object_at}
 
--- a kind of a list is one that a list can declare
-pub kind_is : (kinds : List ObjectKind) (number : ℕ) → AllByRecursion IsObjectKind kinds → number < length kinds → IsObjectKind (kind_at kinds number)
-kind_is [] number each low = absurd (omega (arith, low))
-kind_is (kind ∷ kinds) zero each low = each.0
-kind_is (kind ∷ kinds) (suc number) each low = kind_is kinds number each.1 (omega (arith, low))
+-- what holds of each kind of a list holds of the kind of a number
+pub each_at : (P : ObjectKind → Type 0) (kinds : List ObjectKind) (number : ℕ) → AllByRecursion P kinds → number < length kinds → P (kind_at kinds number)
+each_at P [] number each low = absurd (omega (arith, low))
+each_at P (kind ∷ kinds) zero each low = each.0
+each_at P (kind ∷ kinds) (suc number) each low = each_at P kinds number each.1 (omega (arith, low))
+
+-- an element of the list is the kind of its number
+pub kind_by : (kinds : List ObjectKind) (number : ℕ) (kind : ObjectKind) → number < length kinds → kind ≡ get_or kinds number kind → kind_at kinds number ≡ kind
+kind_by kinds number kind low is = ap (λ (o : Option ObjectKind). unwrap_or o no_kind) (slice_get-get_or kinds number kind low) ∙ sym is
 
 -- no kind of a number past the list has a name
 past_none : (kinds : List ObjectKind) (number : ℕ) → length kinds ≤ number → (kind_at kinds number).name ≡ []
@@ -31,9 +36,7 @@ past_none (kind ∷ kinds) (suc number) high = past_none kinds number (omega (ar
 
 -- a name that no kind of a list has
 not_named : (kinds : List ObjectKind) (name : List ℕ) (number : ℕ) → kind_named name kinds ≡ None → number < length kinds → bytes_eq (kind_at kinds number).name name ≡ false
-not_named [] name number none low = absurd (omega (arith, low))
-not_named (kind ∷ kinds) name zero none low = grind (arith, nat_tests, none-some)
-not_named (kind ∷ kinds) name (suc number) none low = not_named kinds name number (grind (arith, nat_tests, none-some)) (omega (arith, low))
+not_named kinds name number none low = each_at (λ kind. is_kind name kind ≡ false) kinds number (none_passes (is_kind name) kinds none) low
 
 -- kinds of two numbers have different names
 names_differ : (kinds : List ObjectKind) (a b : ℕ) → KindsDiffer kinds → a < b → b < length kinds → bytes_eq (kind_at kinds b).name (kind_at kinds a).name ≡ false
@@ -53,7 +56,7 @@ same_number kinds n number are low = elim (cases_eq n number) [
 ] where
   no_name : length kinds ≤ n → bytes_eq (kind_at kinds n).name (kind_at kinds number).name ≡ false
   no_name high =
-      let named = (kind_is kinds number are.each low).name in
+      let named = (each_at IsObjectKind kinds number are.each low).name in
       let none = past_none kinds n high in
       elim (bytes_eq (kind_at kinds n).name (kind_at kinds number).name) as (λ t. bytes_eq (kind_at kinds n).name (kind_at kinds number).name ≡ t → t ≡ false) [
         | true ↦ λ e. let empty : [] ≡ (kind_at kinds number).name = sym none ∙ (bytes_eq-Decides (kind_at kinds n).name (kind_at kinds number).name).0 e in absurd (true≢false (sym named ∙ ap is_name (sym empty)))
@@ -75,7 +78,7 @@ pub counted_as : (kinds : List ObjectKind) (nodes : OwnHeap) (number : ℕ) (blo
 counted_as kinds nodes number [] are low = refl
 counted_as kinds nodes number (b ∷ blocks) are low =
     let name = (kind_at kinds number).name in
-    let head : cond (is_of_kind name (object_at kinds nodes b)) 1 0 ≡ cond (number_at nodes b == number) 1 0 = ap (λ t. cond t 1 0) (same_number kinds (number_at nodes b) number are low) in
+    let head : ◌≡◌ {A = ℕ} (cond (is_of_kind name (object_at kinds nodes b)) 1 0) (cond (number_at nodes b == number) 1 0) = ap (λ t. cond t 1 0) (same_number kinds (number_at nodes b) number are low) in
     omega (
       arith,
       head,

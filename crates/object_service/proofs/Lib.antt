@@ -9,3 +9,4 @@ pub mod TakenLemmas
 pub mod ServeLemmas
 pub mod ReadyLemmas
 pub mod BufferRequestLemmas
+pub mod NameLemmas

@@ -1,5 +1,6 @@
 -- A request of objects does nothing to the buffer.
 use Rattle.std.proofs.Common.{refl}
+use Rattle.own_model.specs.ObjectText.ObjectReply.{Counted}
 use Rattle.session_nodes.proofs.ResultLemmas.{keeps_same}
 use Rattle.session_nodes.specs.SessionHeaps.{stock_of}
 use Rattle.object_service.proofs.BufferRequestLemmas.{objects_answered, read_as}
@@ -39,9 +40,9 @@ returns-in-Some-Count c =
     let r = c.in-Some-Count in
     let has = stock_of a.session.now.nodes.heaps a.memory.now a.map.now in
     record {
-      answered = objects_answered c.requires.ready a.kinds.now a.request.now _ _ a.reply.now _ (read_as a.request.now _ _ r.field-0-is r.ensures)
+      answered = objects_answered c.requires.ready a.kinds.now a.request.now _ (Counted c.count.result) a.reply.now _ (read_as a.request.now _ _ r.field-0-is r.ensures)
           (keeps_same c.requires.ready.furnished refl refl refl refl)
-          (serves_told a.kinds.now _ _ a.session.now has c.requires.ready.objects (c.count.ensures a.kinds.now has c.requires.ready.objects)) c.write-in-Some-Count.ensures c.requires.reply;
+          (serves_told a.kinds.now _ (Counted c.count.result) a.session.now has c.requires.ready.objects (c.count.ensures a.kinds.now has c.requires.ready.objects)) c.write-in-Some-Count.ensures c.requires.reply;
     }
 
 pub returns-in-Some-CountKind : goal.returns-in-Some-CountKind

@@ -17,7 +17,7 @@ use Rattle.session_nodes.specs.SoundHeaps.{Stock}
 use Rattle.object_service.specs.Kinds.{kind_at}
 use Rattle.object_service.specs.Session.{objects_in, created_in, done_reply, served_in, Serves}
 use Rattle.object_service.proofs.FoundLemmas.{found_named, none_found}
-use Rattle.object_service.proofs.KindLemmas.{named_some}
+use Rattle.object_service.proofs.KindLemmas.{kind_by, named_some}
 use Rattle.object_service.proofs.ServeLemmas.{make_created, make_exists, serves_same}
 use Rattle.object_service.proofs.session.ObjectSession.make.Goals.{In_ok-number}
 use Rattle.object_service.proofs.session.ObjectSession.make.Goals as goal
@@ -50,7 +50,9 @@ returns-clause-serves c =
     let was : Stock = stock_of list.heaps c.args.memory.now c.args.map.now in
     let now : Stock = stock_of c.create.new.self.nodes.heaps c.create.new.memory c.create.new.map in
     let none = none_found kinds was.nodes name c.find.result list.first c.find.ensures.none (none_of c.find.result (sym c.is_some.ensures ∙ c.if-is_some.false)) in
-    let kind_is = get_or_kind kinds number _ c.index-kinds-number.is in
+    let low : number < length kinds = subst (λ o. IfSome o (λ n. n < length kinds)) (c.ok_or.ensures.ok_part ∙ ap result_ok c.in_ok-number.was) c.number_of.ensures.low in
+    let kind_is = kind_by kinds number _ low c.index-kinds-number.is in
     let is = make_created kinds session was c.args.kind.now name (kind_at kinds number) (offered (goal.at.returns-clause-serves c).In_ok-number) (sym c.if-not-is_name.ensures) none in
-    let serves = subst (λ m. let s = stock_of list.heaps m c.args.map.now in Serves kinds (created_in (kind_at kinds number) name (objects_in kinds session s) s.account) (done_reply c.create.result) session c.create.new.self now) c.find.ensures.memory (c.create.ensures.serves kinds kind_is) in
+    let created = subst (λ k. let s = stock_of list.heaps c.find.new.memory c.args.map.now in Serves kinds (created_in k name (objects_in kinds session s) s.account) (done_reply c.create.result) session c.create.new.self now) (sym kind_is) (c.create.ensures.serves kinds kind_is) in
+    let serves = subst (λ m. let s = stock_of list.heaps m c.args.map.now in Serves kinds (created_in (kind_at kinds number) name (objects_in kinds session s) s.account) (done_reply c.create.result) session c.create.new.self now) c.find.ensures.memory created in
     subst (λ served. Serves kinds served (done_reply c.create.result) session c.create.new.self now) (sym is) serves

@@ -72,18 +72,17 @@ record IsGone (c : After-remove) : Type 0 where
   counted : AreCounted c.args.self.now.counts (map (number_at (stock_of c.args.self.now.nodes.heaps c.args.memory.now c.args.map.now).nodes) removes.before
       ++ c.load_block_word-word.result / 65536 ∷ map (number_at (stock_of c.args.self.now.nodes.heaps c.args.memory.now c.args.map.now).nodes) removes.behind)
 
-gone : (c : After-remove) → IsGone c
-gone c =
+gone : (c : After-remove) → Finds c.args.self.now.nodes (stock_of c.args.self.now.nodes.heaps c.args.memory.now c.args.map.now) c.args.name.now c.in_ok-found.found → IsGone c
+gone c found =
     let list = c.args.self.now.nodes in
     let address = c.in_ok-found.found.address in
     let was : Stock = stock_of list.heaps c.args.memory.now c.args.map.now in
     let mid : Stock = stock_of list.heaps c.find.new.memory c.args.map.now in
     let now : Stock = stock_of c.remove.new.self.heaps c.remove.new.memory c.remove.new.map in
-    let t = there c.In_ok-found in
     let removes : Removes list c.remove.new.self address was now = subst (λ m. Removes list c.remove.new.self address (stock_of list.heaps m c.args.map.now) now) c.find.ensures.memory c.remove.ensures.removed in
     let word = word_read mid.nodes address c.load_block_word-word.result c.load_block_word-word.ensures ∙ ap (λ m. word_at (stock_of list.heaps m c.args.map.now).nodes address) c.find.ensures.memory in
     let number : c.load_block_word-word.result / 65536 ≡ number_at was.nodes address = ap (λ w. w / 65536) word in
-    let were = numbers_were list c.remove.new.self was now c.args.name.now _ address _ t.found removes in
+    let were = numbers_were list c.remove.new.self was now c.args.name.now _ address _ found removes in
     record {
       removes = removes;
       number = number;
@@ -92,7 +91,7 @@ gone c =
 
 pub remove-requires-2 : goal.remove-requires-2
 remove-requires-2 c =
-    let g = gone (goal.at.remove-requires-2 c).After-remove in
+    let g = gone (goal.at.remove-requires-2 c).After-remove (there (goal.at.remove-requires-2 c).In_ok-found).found in
     let was : Stock = stock_of c.args.self.now.nodes.heaps c.args.memory.now c.args.map.now in
     record { before = map (number_at was.nodes) g.removes.before; behind = map (number_at was.nodes) g.removes.behind; counted = g.counted }
 
@@ -100,7 +99,7 @@ pub returns-clause-serves : goal.returns-clause-serves
 returns-clause-serves c kinds =
     let at = goal.at.returns-clause-serves c in
     let t = there at.In_ok-found in
-    let g = gone at.After-remove in
+    let g = gone at.After-remove t.found in
     let session = c.args.self.now in
     let list = session.nodes in
     let address = c.in_ok-found.found.address in
