@@ -66,7 +66,7 @@ fn route_of<'a>(
 pub(crate) fn requests_of<'a>(
     list: &'a StartList,
     client: &ListEntry,
-    service: &'static str,
+    service: &'a str,
 ) -> Option<SessionRequests<'a>>
     ensures there { IfSome result (λ requests. requests.client < length requests.list.now.entries) }
     ensures list { IfSome result (λ requests. requests.list.now ≡ list.now) }
