@@ -64,7 +64,7 @@ impl ServiceTest {
 
     /// Returns the test that a service of a list passes.
     pub(crate) fn of_service(service: ListService<'_>) -> ServiceTest
-        ensures { name_asked result ≡ Some (service_text service) }
+        ensures { name_asked result ≡ Some (service_text service.entry) }
     {
         match service {
             ListService::BuiltIn(service) => ServiceTest::Known(service),

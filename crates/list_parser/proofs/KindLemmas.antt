@@ -1,5 +1,5 @@
 -- What a server declares.
-use Rattle.std.proofs.Common.{◌≡◌, ℕ, ◌+◌, ◌<◌, ◌≤◌, Bool, true, false, cond, List, [], ◌∷◌, ◌++◌, length, length-append, map, drop, get_or, Option, Some, None, refl, sym, ap, subst, ◌∙◌, add-one, drop-cons, arith}
+use Rattle.std.proofs.Common.{◌≡◌, ℕ, ◌+◌, ◌<◌, ◌≤◌, Bool, true, false, not, cond, ◌||◌, List, [], ◌∷◌, ◌++◌, length, length-append, map, drop, get_or, Option, Some, None, refl, sym, ap, subst, ◌∙◌, add-one, drop-cons, arith}
 use Rattle.std.specs.Prelude.{find, if◌then◌else◌, is_some}
 use Rattle.std.specs.List.{AllByRecursion, list_any}
 use Rattle.std.specs.Option.{option_and_then}
@@ -37,10 +37,10 @@ name_read (Some d) name is = by_text (as_str d) is where
 -- a name is found exactly if a kind has it
 pub kind_found : (name : List ℕ) (kinds : List ObjectKind) → list_any (is_kind name) kinds ≡ is_some (kind_named name kinds)
 kind_found name [] = refl
-kind_found name (kind ∷ kinds) = by_first (is_kind name kind) where
-  by_first : (b : Bool) → cond b true (list_any (is_kind name) kinds) ≡ is_some (cond b (Some kind) (kind_named name kinds))
-  by_first true = refl
-  by_first false = kind_found name kinds
+kind_found name (kind ∷ kinds) = by_first (is_kind name kind) (kind_found name kinds) where
+  by_first : (b : Bool) → list_any (is_kind name) kinds ≡ is_some (kind_named name kinds) → (b || list_any (is_kind name) kinds) ≡ is_some (cond b (Some kind) (kind_named name kinds))
+  by_first true rest = refl
+  by_first false rest = rest
 
 -- a name that no kind has is not the first one's, nor one of the others
 none_first : (name : List ℕ) (kind : ObjectKind) (kinds : List ObjectKind) → kind_named name (kind ∷ kinds) ≡ None → (bytes_eq kind.name name ≡ false) × (kind_named name kinds ≡ None)
@@ -66,6 +66,10 @@ each_last : (kinds : List ObjectKind) (kind : ObjectKind) → AllByRecursion IsO
 each_last [] kind each its = (its, tt)
 each_last (first ∷ kinds) kind each its = (each.0, each_last kinds kind each.1 its)
 
+pub not_so : (b : Bool) → not b ≡ true → b ≡ false
+not_so true is = cc
+not_so false is = refl
+
 none_by_test : (o : Option ObjectKind) → is_some o ≡ false → o ≡ None
 none_by_test None is = refl
 none_by_test (Some kind) is = cc
@@ -79,7 +83,7 @@ pub record AreReadUpTo (kinds : List ObjectKind) (left all : List Data) : Type 0
   pub few : length kinds + length left ≤ 16
 
 pub none_read : (all : List Data) → length all ≤ 16 → AreReadUpTo [] all all
-none_read all few = record { so_far = refl; are = record { each = tt; differ = tt; few = omega arith }; few = few }
+none_read all few = record { so_far = refl; are = record { each = tt; differ = tt; few = omega arith }; few = omega (arith, few) }
 
 one_read : (kinds : List ObjectKind) (d : Data) (rest all : List Data) (kind : ObjectKind) → AreReadUpTo kinds (d ∷ rest) all → kind_of d ≡ Some kind → IsObjectKind kind →
     is_some (kind_named kind.name kinds) ≡ false → AreReadUpTo (kinds ++ kind ∷ []) rest all

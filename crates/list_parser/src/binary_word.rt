@@ -114,12 +114,12 @@ impl NamedBinary {
         alloc: Global,
         member: Option<&Value>,
     ) -> Result<Binary, BootFault>
-        ensures ok { IfOk result (λ binary. with_kinds (model_named_binary self.entry)
+        ensures ok { IfOk result (λ binary. with_kinds (model_named_binary self)
             (option_map (λ value. view value.now) member.entry) ≡ Some (model_binary binary)) }
         ensures refused { IfErr result
             (λ fault. fault ≢ NoMemory → fault ≡ BadConfig ConfigField.Kinds) }
         ensures none { IfErr result
-            (λ fault. fault ≢ NoMemory → with_kinds (model_named_binary self.entry)
+            (λ fault. fault ≢ NoMemory → with_kinds (model_named_binary self)
             (option_map (λ value. view value.now) member.entry) ≡ None) }
     {
         match self {

@@ -1,8 +1,9 @@
 //! The readers of what a server declares: its service, and the kinds of its objects.
-ghost use Rattle.std.specs.Prelude.{◌≡◌, ◌≢◌, ◌≤◌, [], is_some, length, map, IfOk, IfErr, IfSome, Some, None};
+ghost use Rattle.std.specs.Prelude.{◌≡◌, ◌≢◌, ◌≤◌, [], length, map, IfOk, IfErr, IfSome, Some, None};
+ghost use Rattle.std.specs.List.{list_any};
 ghost use Rattle.std.specs.Option.{option_map};
 ghost use Rattle.serde_json.specs.View.{view};
-ghost use Rattle.own_model.specs.ObjectKinds.{AreObjectKinds, IsObjectKind, kind_named};
+ghost use Rattle.own_model.specs.ObjectKinds.{AreObjectKinds, IsObjectKind, is_kind};
 ghost use Rattle.list_parser.specs.DeclaredServers.{declarable, declared_in, is_built_in, kind_of, kinds_after, kinds_declared, listed_in, service_declared};
 ghost use Rattle.list_parser.specs.declared.fault.BootFault.TheVariants.{NoMemory, BadConfig};
 
@@ -47,7 +48,7 @@ fn declared_in(services: &[Value]) -> Option<Name>
 
 /// Returns a name, unless a service that the machine has built in has it.
 fn declarable(name: Name) -> Option<Name>
-    ensures { result ≡ declarable name.entry }
+    ensures { result ≡ declarable name }
 {
     if is_built_in(name.as_bytes()) {
         None
@@ -108,7 +109,7 @@ fn kinds_in(alloc: Global, values: &[Value]) -> Result<Option<Vec<ObjectKind>>, 
 
 /// Returns whether one of the kinds has a name.
 fn has_kind(kinds: &[ObjectKind], name: &str) -> bool
-    ensures { result ≡ is_some (kind_named name.now kinds.now) }
+    ensures { result ≡ list_any (is_kind name.now) kinds.now }
 {
     kinds
         .iter()

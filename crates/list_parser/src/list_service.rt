@@ -25,7 +25,7 @@ pub enum ListService<'a> {
 impl<'a> ListService<'a> {
     /// Returns the name by which clients request the service, and by which its servers provide it.
     pub fn name(self) -> &'a str
-        ensures text { result.now ≡ service_text self }
+        ensures text { result.now ≡ service_text self.entry }
         ensures short { length result.now ≤ 32 }
     {
         match self {
@@ -75,7 +75,14 @@ fn add_name(declared: &mut Vec<Name>, name: &Name) -> Result<(), AllocError>
 fn has_name(declared: &[Name], name: &[u8]) -> bool
     ensures { result ≡ list_any (bytes_eq name.now) (names_with declared.now) }
 {
-    is_built_in(name) || declared.iter().any(|other| name == other.as_bytes())
+    is_built_in(name) || is_declared(declared, name)
+}
+
+/// Returns whether a name is one of these.
+fn is_declared(declared: &[Name], name: &[u8]) -> bool
+    ensures { result ≡ list_any (bytes_eq name.now) declared.now }
+{
+    declared.iter().any(|other| name == other.as_bytes())
 }
 
 /// Copies names. Returns an error if the host is out of memory.

@@ -21,5 +21,5 @@ invariant_of-result c =
       },
       subst HaveParentInits same c.self.invariant.1,
       subst (λ firsts. AreFirst firsts new) (sym c.copy.ensures) (subst (AreFirst c.self.inside.finder.firsts) same c.self.invariant.2),
-      subst (λ declared. AreServices declared new) (sym (c.in_ok-declared.ensures ∙ c.as_slice-3.ensures.value)) (subst (AreServices c.self.inside.declared.items) same c.self.invariant.3),
+      subst (λ declared. AreServices declared new) (sym (c.in_ok-copy_names.ensures ∙ c.as_slice-3.ensures.value)) (subst (AreServices c.self.inside.declared.items) same c.self.invariant.3),
     )

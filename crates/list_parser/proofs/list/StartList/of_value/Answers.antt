@@ -9,6 +9,6 @@ pub invariant_of-result : goal.invariant_of-result
 invariant_of-result c = (
   search rules,
   c.in_ok-read_list.ensures.grow.homes,
-  subst (λ (entries : List ListedEntry). AreFirst c.of.result.firsts entries) c.as_slice.ensures.value c.of.ensures,
-  subst (λ (entries : List ListedEntry). AreServices c.in_ok-declared.declared.items entries) c.as_slice-2.ensures.value c.in_ok-declared.ensures,
+  subst (λ (entries : List ListedEntry). AreFirst c.of.result.firsts entries) c.as_slice-2.ensures.value c.of.ensures,
+  subst (λ (entries : List ListedEntry). AreServices c.in_ok-declared_names.field-0.items entries) c.as_slice.ensures.value c.in_ok-declared_names.ensures,
 )
