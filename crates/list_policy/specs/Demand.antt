@@ -3,8 +3,7 @@ use Rattle.std.specs.Prelude.{◌≡◌, ◌≢◌, ℕ, ◌+◌, ◌&&◌, ◌|
 use Rattle.std.specs.List.{list_all, list_any, slice_get, starts_with}
 use Rattle.std.specs.Option.{option_map, option_to_list, unwrap_or}
 use Rattle.std.specs.Str.{bytes_eq}
-use Rattle.own_model.specs.Listed.{Binary, Listed, ListedEntry, reserve_of}
-use Rattle.own_model.specs.Listed.Binary.{Script, Server, Init}
+use Rattle.own_model.specs.Listed.{Binary, Listed, ListedEntry, reserve_of, service_in}
 use Rattle.list_labels.specs.GivenLabels.{IsGiven, leads_to}
 use Rattle.list_labels.specs.LabelRanges.{AskedLabel}
 use Rattle.list_reach.specs.Reach.{NoneRouted}
@@ -140,9 +139,7 @@ abbrev pub concerns : Listed → LineAt → ℕ → ℕ → Bool
 concerns list line client server = concerns_by list line.demand line.from line.to client server
 
 abbrev pub served_name : Binary → List ℕ
-served_name Script = []
-served_name (Server service offer) = service
-served_name Init = []
+served_name binary = unwrap_or (service_in binary) []
 
 -- the name of the service of the server of a number; of another component nothing
 abbrev pub service_at : Listed → ℕ → List ℕ

@@ -208,7 +208,7 @@ fn add_component(
     }
     match binary.service() {
         Some(service) if entry.provides() => {
-            members.push(("provides", JsonField::Word(service.name())))?;
+            members.push(("provides", JsonField::Text(service.as_bytes())))?;
         }
         Some(_) => members.push(("provides", JsonField::Nothing))?,
         None => {}
@@ -269,7 +269,7 @@ fn add_request<'a>(
     listing.add(&[
         ("kind", JsonField::Word("wish")),
         ("name", JsonField::Text(decision.client.path())),
-        ("service", JsonField::Word(decision.service)),
+        ("service", JsonField::Text(decision.service.as_bytes())),
         ("to", to),
         ("by", JsonField::Text(by.as_bytes())),
         ("label", label),
