@@ -1,5 +1,5 @@
 -- The coverage of a machine by the answered calls of a scenario: which of its rows are met.
-use Rattle.std.specs.Prelude.{ℕ, ◌+◌, ◌&&◌, ◌==◌, ◌||◌, zero, suc, Bool, true, false, List, [], ◌∷◌, ◌++◌, if◌then◌else◌, map, length, nat_lt, position, Option, Some, None}
+use Rattle.std.specs.Prelude.{ℕ, ◌+◌, ◌&&◌, ◌==◌, ◌||◌, zero, suc, Bool, true, false, List, [], ◌∷◌, ◌++◌, if◌then◌else◌, map, length, nat_lt, Option, Some, None}
 use Rattle.std.specs.List.{flat_map, list_any}
 use Rattle.std.specs.Option.{option_and_then, option_copied, option_map}
 use Rattle.std.specs.Str.{bytes_eq}
@@ -43,11 +43,17 @@ abbrev pub is_request : ScriptService → Option ScriptService → Bool
 is_request asked None = false
 is_request asked (Some request) = asked.client == request.client && asked.service == request.service
 
+-- the number of the service of a name among these, the first of which has this number, if one has the name
+abbrev pub service_number : List ℕ → ℕ → List (List ℕ) → Option ℕ
+service_number name number [] = None
+service_number name number (service ∷ services) =
+    if bytes_eq service name then Some number else service_number name (number + 1) services
+
 -- the script and the service of a session request, if the list has the service
 abbrev pub asked_by : Listed → SessionRequest → Option ScriptService
 asked_by list request =
     option_map (λ number. record { client = request.client; service = number })
-    (position (λ service. bytes_eq service request.service) (services_of list.entries))
+    (service_number request.service 0 (services_of list.entries))
 
 abbrev pub asked_in : Listed → Option SessionRequest → Option ScriptService
 asked_in list request = option_and_then (asked_by list) request

@@ -1,12 +1,11 @@
 //! The session request of an answered call, and the rules that decide it.
-ghost use Rattle.std.specs.Prelude.{◌≡◌, ◌∷◌, ◌++◌, ◌<◌, ◌≤◌, [], length, position, IfOk, IfSome, IfNone, OnOk, Some, None};
+ghost use Rattle.std.specs.Prelude.{◌≡◌, ◌∷◌, ◌++◌, ◌<◌, ◌≤◌, [], length, IfOk, IfSome, IfNone, OnOk, Some, None};
 ghost use Rattle.std.specs.List.{slice_get};
 ghost use Rattle.std.specs.Option.{option_and_then, option_map};
 ghost use Rattle.core_calls.specs.Call.{model_call};
-ghost use Rattle.std.specs.Str.{bytes_eq};
 ghost use Rattle.own_model.specs.Listed.{services_of};
 ghost use Rattle.own_model.specs.Session.{given};
-ghost use Rattle.view_coverage.specs.Covered.{asked_in};
+ghost use Rattle.view_coverage.specs.Covered.{asked_in, service_number};
 ghost use Rattle.view_coverage.specs.Rules.{default_of, init_of, init_place, is_turned_away, request_by, request_of, route_by, route_for, rule_in, rules_from, rules_of_request};
 ghost use Rattle.view_coverage.specs.Views.{request_view};
 
@@ -14,7 +13,7 @@ use crate::event::{RouteOwner, RulePlace, ScriptService, is_refused};
 use core_calls::{Answer, Call};
 use list_labels::RouteStep;
 use list_parser::{ListEntry, StartList};
-use list_reach::RoutePath;
+use list_reach::{RoutePath, service_name};
 use session_proto::SessionArgs;
 use std::alloc::{AllocError, Global};
 use trade_base::Refusal;
@@ -103,10 +102,10 @@ pub(crate) fn asked_in(
 // Returns the number of a service of a list, given by its name, if the list has the service.
 fn service_number(list: &StartList, name: &[u8]) -> Option<usize>
     ensures { result
-        ≡ position (λ service. bytes_eq service name.now) (services_of list.now.entries) }
+        ≡ service_number name.now 0 (services_of list.now.entries) }
 {
     for number in 0..list.service_count() {
-        if list.service(number).name().as_bytes() == name {
+        if service_name(list, number).as_bytes() == name {
             return Some(number);
         }
     }

@@ -7,6 +7,7 @@ use crate::event::{CoverageEvent, RouteOwner, RulePlace, ScriptService};
 use crate::row::CoverageRow;
 use crate::scenario_coverage::Coverage;
 use list_parser::StartList;
+use list_reach::service_name;
 use std::alloc::{AllocError, Global};
 
 /// A report on the coverage of the scenarios of some files.
@@ -326,7 +327,7 @@ fn part_name(
         }
         CoverageEvent::Requested(asked) => {
             let path = script_path(alloc, list, asked)?;
-            let service = service_name(alloc, list, asked)?;
+            let service = asked_service(alloc, list, asked)?;
             Ok(Some(PartName::Request(path, service)))
         }
     }
@@ -345,13 +346,13 @@ fn script_path(
 }
 
 // Returns the name of a service.
-fn service_name(
+fn asked_service(
     alloc: Global,
     list: &StartList,
     asked: ScriptService,
 ) -> Result<String, AllocError> {
     if asked.service < list.service_count() {
-        String::from_str(alloc, list.service(asked.service).name())
+        String::from_str(alloc, service_name(list, asked.service))
     } else {
         Ok(String::new(alloc))
     }

@@ -9,6 +9,7 @@ use crate::event::{CoverageEvent, RouteOwner, RulePlace, ScriptService};
 use crate::request_forms::{CoverageRequest, OBJECT_REQUESTS, REQUESTS};
 use crate::row::CoverageRow;
 use list_parser::{ListEntry, StartList};
+use list_reach::service_name;
 use std::alloc::{AllocError, Global};
 use trade_base::SERVICES;
 
@@ -158,7 +159,7 @@ fn add_services(
         ++ services_rows list.now.entries client 0 (services_of list.now.entries)) }
 {
     for service in 0..list.service_count() {
-        let name = list.service(service).name();
+        let name = service_name(list, service);
         add_service(rows, list.entries(), ScriptService { client, service }, name)?;
     }
     Ok(())
