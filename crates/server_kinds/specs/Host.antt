@@ -1,5 +1,5 @@
 -- A server of any service, as the model sees it.
-use Rattle.std.specs.Prelude.{◌≡◌, ℕ, ◌+◌, ◌*◌, ◌<◌, ◌≤◌, List, [], Option, Some, None}
+use Rattle.std.specs.Prelude.{◌≡◌, ℕ, ◌+◌, ◌*◌, ◌<◌, ◌≤◌, List, [], Option, None}
 use Rattle.std.specs.FinMap.{empty}
 use Rattle.slab.specs.Slab.{Slab, ContainsKey, slab_len}
 use Rattle.own_model.specs.NatMap.{NatMap}
@@ -30,12 +30,6 @@ abbrev pub offer_of : AnyServer → Offer
 offer_of (Log server) = OffersLog
 offer_of (Files server) = OffersFiles
 offer_of (Declared server) = OffersObjects server.service
-
--- the kinds of objects that are offered, if these are objects
-abbrev pub offered_kinds : Offer → Option (List ObjectKind)
-offered_kinds OffersLog = None
-offered_kinds OffersFiles = None
-offered_kinds (OffersObjects kinds) = Some kinds
 
 -- what a server stores: its sessions and its map. It also has what the service stores for a session: its value to its
 -- client, its buffer, what is true of it, and that neither depends on the buffer's bytes

@@ -37,7 +37,8 @@ pub enum AnyServer {
 
 impl AnyServer {
     ghost use Rattle.std.specs.Option.{option_copied};
-    ghost use Rattle.server_kinds.specs.Host.{offer_of, offered_kinds, rows_of, Admits, HasSession, IsNew, Serves, StaysServer};
+    ghost use Rattle.object_kinds.specs.Offered.{offered_kinds};
+    ghost use Rattle.server_kinds.specs.Host.{offer_of, rows_of, Admits, HasSession, IsNew, Serves, StaysServer};
 
     /// Returns a server of a built-in service without sessions, with places for `sessions`, on a machine of `pages` pages. Returns
     /// `NoMemory` if the host is out of memory.
