@@ -1,5 +1,5 @@
 -- The objects after one has been created, has got other units, and has been removed.
-use Rattle.std.proofs.Common.{◌≡◌, ◌≢◌, ℕ, ◌+◌, ◌*◌, ◌<◌, ◌≤◌, true, false, List, [], ◌∷◌, ◌++◌, length, map, Some, None, refl, sym, ap, subst, ◌∙◌, inl, inr, arith}
+use Rattle.std.proofs.Common.{◌≡◌, ◌≢◌, ℕ, ◌+◌, ◌*◌, ◌<◌, ◌≤◌, true, List, [], ◌∷◌, ◌++◌, length, map, sym, ap, subst, ◌∙◌, inl, inr, arith}
 use Rattle.std.proofs.lemmas.Bool.{cases_eq}
 use Rattle.std.proofs.lemmas.Bool.Decides.{nat_tests}
 use Rattle.std.proofs.lemmas.Slice.Eq.{bytes_eq-Decides}
@@ -9,16 +9,16 @@ use Rattle.own_model.specs.Account.{charged, credited}
 use Rattle.own_model.specs.Growth.{shape_given}
 use Rattle.own_model.specs.Nodes.{with_first, without_first, content_ram, content_caps}
 use Rattle.own_model.specs.ObjectKinds.{ObjectKind}
-use Rattle.own_model.specs.ObjectService.{DeclaredObject, Objects, is_named, made_in, with_units, contents, contents_credited, resize_charged}
+use Rattle.own_model.specs.ObjectService.{DeclaredObject, is_named, made_in, with_units, contents, contents_credited, resize_charged}
 use Rattle.own_model.specs.OwnHeap.{OwnHeap}
 use Rattle.sliced_heap.specs.Chain.{is_listed, has_no_repeat}
-use Rattle.session_nodes.specs.Node.{StoredNode, word_from}
+use Rattle.session_nodes.specs.Node.{StoredNode}
 use Rattle.session_nodes.specs.NodeList.{nodes_in, taken_in, Creates, HasNodes, IsFound, Removes, Replaces}
 use Rattle.session_nodes.specs.Order.{node_at, nodes_from, user_at, Stays}
 use Rattle.session_nodes.specs.SoundHeaps.{Stock}
 use Rattle.session_nodes.specs.declared.node_list.NodeList.{NodeList}
 use Rattle.session_nodes.proofs.KeptLemmas.{blocks_are, stays_then}
-use Rattle.session_nodes.proofs.LinkLemmas.{listed_append, listed_front, listed_last, map_kept, once_apart, once_later, unlisted}
+use Rattle.session_nodes.proofs.LinkLemmas.{listed_append, listed_front, map_kept, once_apart, once_later, unlisted}
 use Rattle.object_service.specs.Calls.{PutsWords, TakesContent}
 use Rattle.object_service.specs.Kinds.{kind_at}
 use Rattle.object_service.specs.Objects.{object_at, objects_of, number_at, numbers_of, unit_at, units_at, word_at, AreObjectNodes, IsObject}

@@ -1,6 +1,5 @@
 -- Lists in which the first element that passes a test is found, changed or removed after elements that don't pass.
-use Rattle.std.proofs.Common.{arith, rules, ◌≡◌, ℕ, true, false, Bool, List, [], ◌∷◌, ◌++◌, find, map, Some, refl, sym, ap, ◌∙◌}
-use Rattle.std.proofs.lemmas.Bool.Decides.{nat_tests}
+use Rattle.std.proofs.Common.{rules, ◌≡◌, true, false, Bool, List, [], ◌∷◌, ◌++◌, find, map, Some, refl, sym, ap, ◌∙◌}
 use Rattle.std.proofs.lemmas.Option.{none-some}
 use Rattle.std.specs.Prelude.{None}
 use Rattle.own_model.specs.Nodes.{with_first, without_first}

@@ -1,16 +1,16 @@
 -- How requests of objects are served, by the tests that they pass.
-use Rattle.std.proofs.Common.{rules, ◌≡◌, ◌≢◌, ℕ, ◌+◌, ◌*◌, ◌^◌, ◌<◌, ◌≤◌, ◌==◌, cond, Bool, true, false, true≢false, List, length, Option, Some, None, is_some, refl, sym, ap, subst, ◌∙◌, arith}
+use Rattle.std.proofs.Common.{◌≡◌, ◌≢◌, ℕ, ◌+◌, ◌^◌, ◌≤◌, ◌==◌, cond, Bool, true, false, true≢false, List, Option, Some, None, is_some, refl, sym, ap, subst, ◌∙◌, arith}
 use Rattle.std.proofs.lemmas.Bool.Decides.{nat_tests}
 use Rattle.std.proofs.lemmas.Option.{none-some, same_Some}
 use Rattle.std.specs.Prelude.{slice_get, SomeIff, Result, Ok, Err, MatchResult, is_ok}
 use Rattle.std.specs.Option.{option_map}
 use Rattle.std.specs.Result.{result_ok}
-use Rattle.trade_base.specs.Page.{page_of, is_valid_size}
+use Rattle.trade_base.specs.Page.{is_valid_size}
 use Rattle.trade_base.specs.declared.refusal.Refusal.{Refusal}
 use Rattle.trade_base.specs.declared.refusal.Refusal.TheVariants as refusal
 use Rattle.trade_base.proofs.PageLemmas.{IsLeastPageSize-page_of}
-use Rattle.own_model.specs.Account.{Account, shortage}
-use Rattle.own_model.specs.BestFit.{Spot, block_size}
+use Rattle.own_model.specs.Account.{Account}
+use Rattle.own_model.specs.BestFit.{Spot}
 use Rattle.own_model.specs.FileService.{error_of}
 use Rattle.own_model.specs.FileText.FileError.{BadName, Exists, NotFound, End, InvalidSize}
 use Rattle.own_model.specs.Growth.{Shape, heap_refusal, hole_for, small_refusal}

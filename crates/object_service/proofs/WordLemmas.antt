@@ -1,5 +1,5 @@
 -- The words of an object in the bytes of its block.
-use Rattle.std.proofs.Common.{◌≡◌, ℕ, ◌+◌, ◌*◌, ◌^◌, ◌<◌, ◌≤◌, ◌-◌, true, List, [], drop, length, take, sym, ap, ◌∙◌, arith}
+use Rattle.std.proofs.Common.{◌≡◌, ℕ, ◌+◌, ◌*◌, ◌^◌, ◌<◌, ◌≤◌, ◌-◌, true, List, drop, length, take, sym, ap, ◌∙◌, arith}
 use Rattle.std.proofs.lemmas.List.{drop-drop, length-drop}
 use Rattle.std.proofs.lemmas.Nat.{div-mul-add, mod-mul-add}
 use Rattle.std.specs.Prelude.{slice_range, ◌/◌, ◌%◌}
@@ -14,7 +14,7 @@ use Rattle.sliced_heap.specs.Chain.{is_listed}
 use Rattle.session_nodes.specs.Calls.{payload_in, HasBytes}
 use Rattle.session_nodes.specs.Node.{word_from}
 use Rattle.session_nodes.specs.NodeList.{nodes_in, HasNodes, PutsUser}
-use Rattle.session_nodes.specs.Order.{node_at, user_at}
+use Rattle.session_nodes.specs.Order.{user_at}
 use Rattle.session_nodes.specs.SoundHeaps.{Stock}
 use Rattle.session_nodes.specs.declared.node_list.NodeList.{NodeList}
 use Rattle.session_nodes.proofs.KeptLemmas.{blocks_are, stays_then}

@@ -196,14 +196,7 @@ impl ObjectSession {
     }
 
     // Stores the two words of an object after its node.
-    fn put_words(
-        &self,
-        memory: &mut Memory,
-        map: &RegionMap,
-        address: u64,
-        word: u64,
-        units: u64,
-    )
+    fn put_words(&self, memory: &mut Memory, map: &RegionMap, address: u64, word: u64, units: u64)
         requires furnished { AreSoundHeaps self.now.nodes.heaps memory.old map.now }
         requires nodes { HasNodes self.now.nodes (stock_of self.now.nodes.heaps memory.old map.now) }
         requires listed { is_listed

@@ -11,7 +11,7 @@ ghost use Rattle.session_nodes.specs.SoundHeaps.{Stock};
 ghost use Rattle.object_service.specs.Kinds.{kind_at};
 ghost use Rattle.object_service.specs.Session.{counted_reply, named_reply, objects_in, HasObjects, IsTold};
 
-use crate::object_requests::{KIND, UNITS, UNIT_LIMIT};
+use crate::object_requests::{KIND, UNIT_LIMIT, UNITS};
 use crate::session::ObjectSession;
 use dataspace_core::Memory;
 use object_kinds::ObjectKind;

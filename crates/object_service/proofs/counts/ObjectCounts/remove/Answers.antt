@@ -1,5 +1,5 @@
 -- The counter of the number is one less, and so is that of all.
-use Rattle.std.proofs.Common.{◌≡◌, ◌<◌, ◌-◌, ◌∷◌, ◌++◌, ◌∙◌, length, get_or, arith, length-append}
+use Rattle.std.proofs.Common.{◌<◌, ◌-◌, ◌∷◌, ◌++◌, ◌∙◌, length, get_or, arith, length-append}
 use Rattle.std.proofs.Math.ListN.{length-set}
 use Rattle.object_service.proofs.CountLemmas.{all_append, all_back, all_front, less_other, less_same, set_at}
 use Rattle.object_service.proofs.counts.ObjectCounts.remove.Goals as goal

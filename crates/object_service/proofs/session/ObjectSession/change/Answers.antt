@@ -1,5 +1,5 @@
 -- The new content is taken and given to the object, and then its units.
-use Rattle.std.proofs.Common.{◌≡◌, ◌∙◌, ◌*◌, ◌^◌, ◌<◌, Ok, None, sym, ap, subst, refl}
+use Rattle.std.proofs.Common.{◌≡◌, ◌∙◌, ◌*◌, None, sym, ap, subst, refl}
 use Rattle.std.specs.Prelude.{IfOk, ◌%◌}
 use Rattle.std.specs.Option.{option_map}
 use Rattle.std.specs.Result.{result_err}

@@ -1,8 +1,7 @@
 -- The words of the block of the node at the place are the object's.
-use Rattle.std.proofs.Common.{◌≡◌, ◌∙◌, ◌≤◌, ℕ, true, Some, sym, ap, subst, arith}
+use Rattle.std.proofs.Common.{◌≡◌, ◌∙◌, ◌≤◌, ℕ, Some, sym, ap, subst, arith}
 use Rattle.std.specs.Prelude.{IfSome, slice_get}
 use Rattle.std.specs.Option.{option_map}
-use Rattle.sliced_heap.specs.Chain.{is_listed}
 use Rattle.session_nodes.specs.Calls.{HasBytes}
 use Rattle.session_nodes.specs.Node.{StoredNode, value_of}
 use Rattle.session_nodes.specs.NodeList.{nodes_in}

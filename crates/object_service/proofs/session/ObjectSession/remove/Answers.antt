@@ -1,6 +1,6 @@
 -- The node of the object that is found is removed, and the object is counted no more.
-use Rattle.std.proofs.Common.{◌≡◌, ◌≢◌, ◌∙◌, ◌+◌, ◌≤◌, ℕ, true, List, ◌∷◌, ◌++◌, map, Some, None, Err, sym, ap, subst, refl, rules, arith}
-use Rattle.std.specs.Prelude.{IfSome, IfNone, ◌/◌}
+use Rattle.std.proofs.Common.{◌≡◌, ◌∙◌, ◌≤◌, ℕ, true, List, ◌∷◌, ◌++◌, map, Some, Err, sym, ap, subst, refl, rules, arith}
+use Rattle.std.specs.Prelude.{IfSome, ◌/◌}
 use Rattle.std.specs.Result.{result_ok}
 use Rattle.own_model.specs.ObjectKinds.{ObjectKind}
 use Rattle.own_model.specs.ObjectService.{object_named, told}

@@ -1,6 +1,6 @@
 -- The object that is found keeps its units, or gets others.
-use Rattle.std.proofs.Common.{◌≡◌, ◌≢◌, ◌∙◌, ◌+◌, ◌≤◌, ℕ, true, List, ◌∷◌, ◌++◌, map, Some, None, Err, sym, ap, subst, refl, rules, arith}
-use Rattle.std.specs.Prelude.{IfSome, IfNone, ◌/◌}
+use Rattle.std.proofs.Common.{◌≡◌, ◌≢◌, ◌∙◌, ◌≤◌, ℕ, true, List, Some, Err, sym, ap, subst, rules, arith}
+use Rattle.std.specs.Prelude.{IfSome}
 use Rattle.std.specs.Result.{result_ok}
 use Rattle.own_model.specs.ObjectKinds.{ObjectKind}
 use Rattle.own_model.specs.ObjectService.{object_named, told}
