@@ -1,5 +1,5 @@
 -- What a server declares.
-use Rattle.std.proofs.Common.{◌≡◌, ℕ, ◌+◌, ◌<◌, ◌≤◌, Bool, true, false, not, cond, ◌||◌, List, [], ◌∷◌, ◌++◌, length, length-append, map, drop, get_or, Option, Some, None, refl, sym, ap, subst, ◌∙◌, add-one, drop-cons, arith}
+use Rattle.std.proofs.Common.{◌≡◌, ℕ, ◌+◌, ◌<◌, ◌≤◌, Bool, true, false, cond, ◌||◌, List, [], ◌∷◌, ◌++◌, length, length-append, map, drop, get_or, Option, Some, None, refl, sym, ap, subst, ◌∙◌, add-one, drop-cons, arith}
 use Rattle.std.specs.Prelude.{find, if◌then◌else◌, is_some}
 use Rattle.std.specs.List.{AllByRecursion, list_any}
 use Rattle.std.specs.Option.{option_and_then}
@@ -11,7 +11,7 @@ use Rattle.serde_json.specs.declared.value.Value.{Value}
 use Rattle.own_model.proofs.NodeLemmas.{differ_back}
 use Rattle.own_model.specs.ObjectKinds.{AreObjectKinds, IsObjectKind, KindsDiffer, ObjectKind, is_kind, kind_named, most_kinds}
 use Rattle.own_model.specs.Text.{is_name}
-use Rattle.list_parser.specs.DeclaredServers.{declared_in, kind_of, kinds_after, with_kind}
+use Rattle.list_parser.specs.DeclaredServers.{declared_in, kinds_after, with_next}
 use Rattle.list_parser.specs.Members.{name_in, name_of}
 
 -- no two services are declared
@@ -66,10 +66,6 @@ each_last : (kinds : List ObjectKind) (kind : ObjectKind) → AllByRecursion IsO
 each_last [] kind each its = (its, tt)
 each_last (first ∷ kinds) kind each its = (each.0, each_last kinds kind each.1 its)
 
-pub not_so : (b : Bool) → not b ≡ true → b ≡ false
-not_so true is = cc
-not_so false is = refl
-
 none_by_test : (o : Option ObjectKind) → is_some o ≡ false → o ≡ None
 none_by_test None is = refl
 none_by_test (Some kind) is = cc
@@ -85,12 +81,12 @@ pub record AreReadUpTo (kinds : List ObjectKind) (left all : List Data) : Type 0
 pub none_read : (all : List Data) → length all ≤ 16 → AreReadUpTo [] all all
 none_read all few = record { so_far = refl; are = record { each = tt; differ = tt; few = omega arith }; few = omega (arith, few) }
 
-one_read : (kinds : List ObjectKind) (d : Data) (rest all : List Data) (kind : ObjectKind) → AreReadUpTo kinds (d ∷ rest) all → kind_of d ≡ Some kind → IsObjectKind kind →
+one_read : (kinds : List ObjectKind) (d : Data) (rest all : List Data) (kind : ObjectKind) → AreReadUpTo kinds (d ∷ rest) all → with_next kinds d ≡ Some (kinds ++ kind ∷ []) → IsObjectKind kind →
     is_some (kind_named kind.name kinds) ≡ false → AreReadUpTo (kinds ++ kind ∷ []) rest all
 one_read kinds d rest all kind read is its new =
     let longer : length (kinds ++ kind ∷ []) ≡ length kinds + 1 = length-append kinds (kind ∷ []) in
     record {
-      so_far = (let step : kinds_after kinds (d ∷ rest) ≡ kinds_after (kinds ++ kind ∷ []) rest = rw (is, new) refl in sym step ∙ read.so_far);
+      so_far = (let step : kinds_after kinds (d ∷ rest) ≡ kinds_after (kinds ++ kind ∷ []) rest = rw is refl in sym step ∙ read.so_far);
       are = record {
         each = each_last kinds kind read.are.each its;
         differ = differ_last kinds kind read.are.differ (none_by_test (kind_named kind.name kinds) new);
@@ -100,26 +96,16 @@ one_read kinds d rest all kind read is its new =
     }
 
 pub read_more : (kinds : List ObjectKind) (values : List Value) (all : List Data) (place : ℕ) (value : Value) (kind : ObjectKind) → AreReadUpTo kinds (map view (drop place values)) all →
-    place < length values → value ≡ get_or values place value → kind_of (view value) ≡ Some kind → IsObjectKind kind → is_some (kind_named kind.name kinds) ≡ false →
+    place < length values → value ≡ get_or values place value → with_next kinds (view value) ≡ Some (kinds ++ kind ∷ []) → IsObjectKind kind → is_some (kind_named kind.name kinds) ≡ false →
     AreReadUpTo (kinds ++ kind ∷ []) (map view (drop (place + 1) values)) all
 read_more kinds values all place value kind read inside is given its new =
     let next : drop place values ≡ value ∷ drop (place + 1) values = drop-cons values place value inside ∙ rw (add-one, ← is) refl in
     one_read kinds (view value) (map view (drop (place + 1) values)) all kind (subst (λ l. AreReadUpTo kinds (map view l) all) next read) given its new
 
--- ---- where the list has none
-
--- no kind
+-- a value that adds no kind
 pub none_there : (kinds : List ObjectKind) (values : List Value) (all : List Data) (place : ℕ) (value : Value) → AreReadUpTo kinds (map view (drop place values)) all →
-    place < length values → value ≡ get_or values place value → kind_of (view value) ≡ None → kinds_after [] all ≡ None
+    place < length values → value ≡ get_or values place value → with_next kinds (view value) ≡ None → kinds_after [] all ≡ None
 none_there kinds values all place value read inside is none =
     let next : drop place values ≡ value ∷ drop (place + 1) values = drop-cons values place value inside ∙ rw (add-one, ← is) refl in
     let here : kinds_after kinds (view value ∷ map view (drop (place + 1) values)) ≡ None = rw none refl in
-    sym read.so_far ∙ ap (λ l. kinds_after kinds (map view l)) next ∙ here
-
--- a kind whose name an earlier one has
-pub taken_there : (kinds : List ObjectKind) (values : List Value) (all : List Data) (place : ℕ) (value : Value) (kind : ObjectKind) → AreReadUpTo kinds (map view (drop place values)) all →
-    place < length values → value ≡ get_or values place value → kind_of (view value) ≡ Some kind → is_some (kind_named kind.name kinds) ≡ true → kinds_after [] all ≡ None
-taken_there kinds values all place value kind read inside is given taken =
-    let next : drop place values ≡ value ∷ drop (place + 1) values = drop-cons values place value inside ∙ rw (add-one, ← is) refl in
-    let here : kinds_after kinds (view value ∷ map view (drop (place + 1) values)) ≡ None = rw (given, taken) refl in
     sym read.so_far ∙ ap (λ l. kinds_after kinds (map view l)) next ∙ here

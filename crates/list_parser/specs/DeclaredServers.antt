@@ -53,12 +53,12 @@ kind_of d = do
 abbrev pub with_kind : List ObjectKind → ObjectKind → Option (List ObjectKind)
 with_kind before kind = if is_some (kind_named kind.name before) then None else Some (before ++ kind ∷ [])
 
+abbrev pub with_next : List ObjectKind → Data → Option (List ObjectKind)
+with_next before d = option_and_then (with_kind before) (kind_of d)
+
 abbrev pub kinds_after : List ObjectKind → List Data → Option (List ObjectKind)
 kinds_after before [] = Some before
-kinds_after before (d ∷ ds) = do
-  kind ← kind_of d
-  kinds ← with_kind before kind
-  kinds_after kinds ds
+kinds_after before (d ∷ ds) = option_and_then (λ kinds. kinds_after kinds ds) (with_next before d)
 
 -- a list of at most 16 kinds
 abbrev pub kinds_in : List Data → Option (List ObjectKind)

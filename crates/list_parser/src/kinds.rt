@@ -1,10 +1,10 @@
 //! The readers of what a server declares: its service, and the kinds of its objects.
-ghost use Rattle.std.specs.Prelude.{◌≡◌, ◌≢◌, ◌≤◌, [], length, map, IfOk, IfErr, IfSome, Some, None};
+ghost use Rattle.std.specs.Prelude.{◌≡◌, ◌≢◌, ◌≤◌, ◌++◌, ◌∷◌, [], false, is_some, length, map, IfOk, IfErr, IfSome, Some, None};
 ghost use Rattle.std.specs.List.{list_any};
 ghost use Rattle.std.specs.Option.{option_map};
 ghost use Rattle.serde_json.specs.View.{view};
-ghost use Rattle.own_model.specs.ObjectKinds.{AreObjectKinds, IsObjectKind, is_kind};
-ghost use Rattle.list_parser.specs.DeclaredServers.{declarable, declared_in, is_built_in, kind_of, kinds_after, kinds_declared, listed_in, service_declared};
+ghost use Rattle.own_model.specs.ObjectKinds.{AreObjectKinds, IsObjectKind, is_kind, kind_named};
+ghost use Rattle.list_parser.specs.DeclaredServers.{declarable, declared_in, is_built_in, kind_of, kinds_after, kinds_declared, listed_in, service_declared, with_next};
 ghost use Rattle.list_parser.specs.declared.fault.BootFault.TheVariants.{NoMemory, BadConfig};
 
 use crate::fault::{BootFault, ConfigField};
@@ -99,16 +99,38 @@ fn kinds_in(alloc: Global, values: &[Value]) -> Result<Option<Vec<ObjectKind>>, 
 {
     let mut kinds = Vec::new(alloc);
     for value in values {
-        match kind_of(value) {
-            Some(kind) if !has_kind(kinds.as_slice(), kind.name()) => kinds.push(kind)?,
-            _ => return Ok(None),
+        match new_kind(kinds.as_slice(), value) {
+            Some(kind) => kinds.push(kind)?,
+            None => return Ok(None),
         }
     }
     Ok(Some(kinds))
 }
 
+/// Reads the kind in a JSON value. Returns `None` if it is none, or if an earlier kind has its name.
+fn new_kind(before: &[ObjectKind], value: &Value) -> Option<ObjectKind>
+    ensures added { option_map (λ kind. before.now ++ kind ∷ []) result
+        ≡ with_next before.now (view value.now) }
+    ensures kind { IfSome result (λ kind. IsObjectKind kind) }
+    ensures new { IfSome result (λ kind. is_some (kind_named kind.name before.now) ≡ false) }
+{
+    let kind = kind_of(value)?;
+    if has_name_of(before, &kind) {
+        None
+    } else {
+        Some(kind)
+    }
+}
+
+/// Returns whether one of the kinds has the name of another kind.
+fn has_name_of(kinds: &[ObjectKind], other: &ObjectKind) -> bool
+    ensures { result ≡ is_some (kind_named other.now.name kinds.now) }
+{
+    has_name(kinds, other.name())
+}
+
 /// Returns whether one of the kinds has a name.
-fn has_kind(kinds: &[ObjectKind], name: &str) -> bool
+fn has_name(kinds: &[ObjectKind], name: &str) -> bool
     ensures { result ≡ list_any (is_kind name.now) kinds.now }
 {
     kinds
