@@ -1,24 +1,36 @@
 //! Rules of the route table: the test of a session request, and the server to which it is routed.
 ghost use Rattle.std.specs.Prelude.{◌≡◌, IfOk, Some};
+ghost use Rattle.std.specs.Option.{option_copied};
 ghost use Rattle.std.specs.Str.{bytes_eq};
 ghost use Rattle.own_model.specs.Listed.{own_rule};
 ghost use Rattle.own_model.specs.Routes.{as_asked, decided, matches};
-ghost use Rattle.init_core.specs.Rows.{model_lead, name_asked, service_named};
+ghost use Rattle.list_parser.specs.Services.{service_text};
+ghost use Rattle.init_core.specs.Rows.{lead_found, model_lead, name_asked, service_named};
 
-use list_parser::{LabelTest, Name, Rule};
+use list_parser::{DeclaredService, LabelTest, ListService, Name, Rule};
 use std::alloc::{AllocError, Global};
 use std::marker::Model;
+use std::rc::Rc;
 use trade_base::{SERVICES, Service};
 
-/// A server: its service, and its place among the components.
-#[derive(Clone, Copy)]
+/// What a server offers to its sessions.
+#[derive(Drop)]
+pub(crate) enum ServerOffer {
+    /// A service that the machine has built in.
+    BuiltIn(Service),
+    /// A service of objects, which the server's entry declares.
+    Declared(Rc<DeclaredService>),
+}
+
+/// A server: what it offers, and its place among the components.
+#[derive(Drop)]
 pub(crate) struct ServerPlace {
-    pub(crate) kind: Service,
+    pub(crate) kind: ServerOffer,
     pub(crate) place: usize,
 }
 
 /// The result of a rule: where it routes a session request.
-#[derive(Clone, Copy)]
+#[derive(Drop)]
 pub(crate) enum ResolvedTarget {
     /// The request is routed to a server.
     To(ServerPlace),
@@ -47,6 +59,16 @@ impl ServiceTest {
         match service_named(name.as_bytes()) {
             Some(service) => ServiceTest::Known(service),
             None => ServiceTest::Named(name.copy()),
+        }
+    }
+
+    /// Returns the test that a service of a list passes.
+    pub(crate) fn of_service(service: ListService<'_>) -> ServiceTest
+        ensures { name_asked result ≡ Some (service_text service.entry) }
+    {
+        match service {
+            ListService::BuiltIn(service) => ServiceTest::Known(service),
+            ListService::Declared(name) => ServiceTest::Named(name.copy()),
         }
     }
 
@@ -160,20 +182,27 @@ impl ResolvedRule {
     {
         self.service.holds(service) && self.labels.holds(label)
     }
+
+    /// Returns the result of the rule.
+    fn target(&self) -> &ResolvedTarget
+        ensures { model_lead result.now ≡ self.now.to }
+    {
+        &self.to
+    }
 }
 
-/// Returns the result of the first rule that matches, or `Nowhere` if no rule matches.
-pub(crate) fn resolve_request(
-    rules: &[ResolvedRule],
+/// Returns the result of the first rule that matches, or `None` if no rule matches.
+pub(crate) fn resolve_request<'a>(
+    rules: &'a [ResolvedRule],
     service: &ServiceName<'_>,
     label: &[u8],
-) -> ResolvedTarget
-    ensures { model_lead result ≡ decided rules.now service.now label.now }
+) -> Option<&'a ResolvedTarget>
+    ensures { lead_found (option_copied result) ≡ decided rules.now service.now label.now }
 {
     for rule in rules {
         if rule.matches(service, label) {
-            return rule.to;
+            return Some(rule.target());
         }
     }
-    ResolvedTarget::Nowhere
+    None
 }

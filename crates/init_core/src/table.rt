@@ -106,9 +106,9 @@ fn server_for(
         return None;
     };
     match resolve_request(row.rules.as_slice(), service, label) {
-        ResolvedTarget::To(server) => Some(server.place),
-        ResolvedTarget::Nowhere => None,
-        ResolvedTarget::Outward => if row.home == 0 {
+        Some(ResolvedTarget::To(server)) => Some(server.place),
+        Some(ResolvedTarget::Nowhere) | None => None,
+        Some(ResolvedTarget::Outward) => if row.home == 0 {
             None
         } else {
             let label = label_of(row.name.as_bytes(), label);

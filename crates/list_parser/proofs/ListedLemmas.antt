@@ -3,7 +3,6 @@ use Rattle.std.proofs.Common.{◌≡◌, ◌≤◌, nat_lt, Bool, true, false, L
 use Rattle.std.specs.Prelude.{if◌then◌else◌, codes, Result, IfOk}
 use Rattle.serde_json.specs.Data.{Data}
 use Rattle.own_model.specs.Listed.{Listed, ListedEntry}
-use Rattle.list_parser.specs.BuiltIn.{AreBuiltIn}
 use Rattle.list_parser.specs.Entries.{◌>>=◌, ListPlace, Misread, SoFar, all_read, entries_read, outermost, own_of, read_within, value_or}
 use Rattle.list_parser.specs.ListTheorems.{IsListed, ListsAreListed}
 use Rattle.list_parser.specs.Members.{whole_at}
@@ -17,13 +16,6 @@ use Rattle.list_parser.proofs.NestLemmas.{Holds, Stands, all_extend, holds_none,
 read_ok : (r : Result SoFar Misread) (so_far : SoFar) → fault_of r ≡ Ok so_far → r ≡ Ok so_far
 read_ok (Ok x) so_far is = let same : x ≡ so_far = cc in (λ j. Ok (same j))
 read_ok (Err misread) so_far is = cc
-
--- the servers of the entries of all lists are built in
-pub read_built_in : (place : ListPlace) (first so_far : SoFar) (starts : List Data) → place ≡ outermost → first.entries ≡ [] → first.met ≤ 32 →
-    all_read (read_within 3) place first starts ≡ Ok so_far → AreBuiltIn so_far.entries
-read_built_in place first so_far starts outer none few read =
-    let stands = subst (λ (p : List ListedEntry × ListPlace). Stands 3 p.0 p.1) (λ j. (sym none j, sym outer j)) stands_first in
-    (all_extend 3 (read_within 3) (within_reads 3) place first so_far starts read (subst Holds (sym none) holds_none) stands few).holds.built_in
 
 of_value : (d : Data) → Gives IsListed (list_of d)
 of_value d =

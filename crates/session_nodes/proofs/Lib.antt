@@ -39,6 +39,7 @@ pub mod SourceLemmas
 pub mod SearchLemmas
 pub mod TailNodeLemmas
 pub mod AppendLemmas
+pub mod UserLemmas
 pub mod EnterLemmas
 pub mod TakenLemmas
 pub mod SeekLemmas
