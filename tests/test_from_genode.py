@@ -1,5 +1,6 @@
 """tools/from-genode: each element of Genode's configuration, each note, each fault, and routes beside a second reading of both
 forms. The example systems run on the program, if the one that is built knows declared servers."""
+import itertools
 import json
 import os
 import random
@@ -9,7 +10,9 @@ from xml.etree import ElementTree as XML
 import genode_reading
 import pytest
 import start_list_reading
-from commands import EXAMPLES, TOP, Program, needs, tool
+from commands import EXAMPLES, TOP, Program, environment, needs, tool
+from nethrywel_tools.genode_config import Reader
+from nethrywel_tools.genode_list import Port
 
 PORT, COSTS = tool("tools/from-genode"), EXAMPLES / "genode/costs.json"
 SYSTEMS = ("desktop", "gateway", "pump")
@@ -31,6 +34,11 @@ def client(route="", name="app", **more):
     attributes = {"name": name, "caps": "20", "ram": "64K", **more}
     inner = f"<route>{route}</route>" if route else ""
     return "<start " + " ".join(f"{n}='{it}'" for n, it in attributes.items()) + f">{inner}</start>"
+
+
+def short(value):
+    """Returns the end of a text as the name of its test."""
+    return re.sub(r"[^\w.,-]+", " ", value if isinstance(value, str) else str(value))[-60:].strip()
 
 
 class Ported:
@@ -79,7 +87,7 @@ def ported(tmp_path):
     (init("sub", client(name="x")), "sub/x", {"binary": "script", "quantum": "64K"}),
     (init("sub", client(name="x")), "sub", {"binary": "init", "quantum": "1M", "caps": 40}),
     (init("a", init("b", init("c", client()))), "a/b/c/app", {"binary": "script"}),
-])
+], ids=short)
 def test_entry(ported, inner, path, members):
     assert ported(inner).entry(path).items() >= members.items()
 
@@ -101,10 +109,12 @@ SERVED = PARENT + LOG + FILES
     (SERVED + client('<service name="LOG"><child name="files"/><parent/><any-child/></service>'), "app", [{"service": "LOG", "any-child": True}]),
     (SERVED + client('<service name="LOG"><child name="log"/></service>' + ANY), "app", [{"service": "LOG", "child": "log"}, *BOTH]),
     # A parent that is core, and has the service too: no component gets the request.
-    ('<parent-provides><service name="LOG"/></parent-provides>' + LOG + client(ANY), "app", [{"any-service": True, "parent": True}]),
+    ('<parent-provides><service name="LOG"/></parent-provides>' + LOG + client(ANY), "app", []),
+    ('<parent-provides><service name="LOG"/></parent-provides>' + SERVED + client('<service name="LOG" label="a"><parent/></service>' + ANY),
+     "app", [{"service": "LOG", "label": "a", "parent": True}, {"service": "LOG", "parent": True}, {"service": "File_system", "any-child": True}]),
     # No target provides the service: a node of one service denies, and one of any service doesn't decide.
     (SERVED + client('<service name="LOG"><child name="files"/></service>'), "app", [{"service": "LOG", "child": "files"}]),
-    (SERVED + client('<service name="LOG"><parent/></service>'), "app", [{"service": "LOG", "parent": True}]),
+    (SERVED + client('<service name="LOG"><parent/></service>' + ANY), "app", [{"service": "LOG", "parent": True}, *BOTH]),
     (SERVED + client('<any-service><parent/></any-service><service name="LOG"><any-child/></service>'), "app", [{"service": "LOG", "any-child": True}]),
     (SERVED + init("sub", client('<service name="LOG"><parent/></service>')), "sub/app", [{"service": "LOG", "child": "app"}]),
     (SERVED + init("sub", '<parent-provides><service name="LOG"/></parent-provides>' + client("<any-service><parent/></any-service>")),
@@ -121,7 +131,7 @@ SERVED = PARENT + LOG + FILES
      "a", [{"service": "LOG", "label": "", "parent": True}, *BOTH]),
     (SERVED + client(name="a") + client(name="b") + f'<default-route><service name="LOG" unscoped_label="a"><parent/></service>{ANY}</default-route>',
      "b", BOTH),
-])
+], ids=short)
 def test_rules(ported, inner, path, rules):
     assert ported(inner).rules(path) == rules
 
@@ -226,8 +236,8 @@ def test_labels(ported):
      "note: `unscoped_label` becomes the label of one client"),
     (client('<service name="Nic"><any-child/></service>'), "note: no component provides `Nic`, so its rule is left out"),
     (PARENT + client('<service name="ROM"><parent/></service><service name="PD"><parent/></service>'),
-     " note: 2 rules for services of core are left out, since core isn't modelled: `ROM`, `PD`"),
-])
+     " note: rules for services of core are left out, since core isn't modelled: 2, for `ROM`, `PD`"),
+], ids=short)
 def test_note(ported, inner, text):
     """Each element that isn't carried over is a note with its place. With --strict a note on routing or budgets has status 3, and the
     list is written."""
@@ -265,7 +275,7 @@ def test_note(ported, inner, text):
      "error: expected at most 32 entries, found 33; --only NAME,.. takes some with what they reach"),
     (f"<config>{LOG}" + client("".join(f'<service name="LOG" label="{it}"><any-child/></service>' for it in range(33))) + "</config>",
      "error: expected at most 32 rules for `app`, found 33"),
-])
+], ids=short)
 def test_fault(ported, whole, text):
     made = ported(whole, whole=True)
     assert (made.status, made.text) == (2, None) and f"{text}\n" in made.err and made.err.endswith("\n1 error\n"), made.err
@@ -281,7 +291,7 @@ def test_fault(ported, whole, text):
     (b'<?xml version="1.0" encoding="x"?><config/>', "invalid XML: unknown encoding"),
     (b"<config \xff\xff/>", "invalid XML: not well-formed"),
     (b"\x00\x01", "invalid XML"),
-])
+], ids=short)
 def test_hostile(ported, data, text):
     made = ported(data)
     assert (made.status, made.text) == (2, None) and text in made.err and len(made.err.splitlines()) == 2, made.err
@@ -365,34 +375,44 @@ def test_file(tmp_path):
     (tmp_path / "config.xml").write_text("<config/>")
     ran = PORT("config.xml", "-o", "none/list.json", cwd=tmp_path)
     assert ran.status == 1 and ran.err == f"from-genode: {tmp_path}/none/list.json: No such file or directory\n"
-    assert PORT("config.xml", "-o", "/dev/stdout", cwd=tmp_path).ok().startswith('{"_about": "config.xml by nethrywel-from-genode"')
+    PORT("config.xml", "-o", "list.json", cwd=tmp_path).ok()
+    assert (tmp_path / "list.json").read_text().startswith('{"_about": "config.xml by nethrywel-from-genode"')
 
 
-def routed(steps, service, label):
-    return start_list_reading.route(steps, service, label) if steps else None
+def test_missing_package(tmp_path):
+    """Without the parser the tool reports what to do, and writes nothing."""
+    (tmp_path / "defusedxml.py").write_text("raise ModuleNotFoundError(name=__name__)\n")
+    ran = PORT("-o", tmp_path / "list.json", EXAMPLES / "genode/pump.xml", env=environment(PYTHONPATH=tmp_path))
+    assert (ran.status, ran.err) == (1, "from-genode: python3-defusedxml isn't here; run dev/setup\n")
+    assert not (tmp_path / "list.json").exists()
 
 
-@pytest.mark.parametrize("seed", range(12))
-def test_random_routes(ported, seed):
-    """Each label of each component is routed as Genode's init routes it, in configurations drawn at random."""
-    draw = random.Random(seed)
-    root = XML.Element("config")
-    genode_reading.drawn_config(draw, root, 0)
-    made = ported(XML.tostring(root))
-    found, asked = start_list_reading.components(made.value), 0
-    for steps in genode_reading.clients(root):
+def wrong_routes(root, value):
+    """Yields for each session request whether it reaches a server, and the request if the list routes it in another way than
+    Genode's init."""
+    found = start_list_reading.components(value)
+    for steps in (it for it in genode_reading.clients(root) if it[-1][1].find("config") is None):
         path = "/".join(it.get("name") for _, it in steps)
         scripts = [found[it] for it in (path, f"{path}.client") if it in found and found[it][-1][1]["binary"] == "script"]
-        for service in genode_reading.SERVICES:
-            for label in (*genode_reading.TEXTS, "alice", "bob -> a", "x"):
-                to = genode_reading.route(steps, service, label)
-                here = start_list_reading.route(scripts[0], service, label) if scripts else None
-                asked += to is not None
-                # (a component that asks itself alone is no client here)
-                expected = None if to is None or not scripts and "/".join(to) == path else "/".join(to)
-                if steps[-1][1].find("config") is None:
-                    assert here in (expected, f"{expected}.{service}"[:32]) if expected else here is None, (path, service, label)
-    assert asked
+        for service, label in itertools.product(genode_reading.SERVICES, (*genode_reading.TEXTS, "alice", "bob -> a", "x")):
+            to = "/".join(genode_reading.route(steps, service, label) or ())
+            here = start_list_reading.route(scripts[0], service, label) if scripts else None
+            # (a component that asks itself alone is no client here)
+            expected = (to, f"{to}.{service}") if to and (scripts or to != path) else (None,)
+            yield bool(to), None if here in expected else (path, service, label, to, here)
+
+
+def test_random_routes():
+    """Each label of each component is routed as Genode's init routes it, in configurations drawn at random."""
+    reaching = 0
+    for seed in range(60):
+        root = XML.Element("config")
+        genode_reading.drawn_config(random.Random(seed), root, 0)
+        text = Port(Reader(XML.tostring(root)), {}, 1).text("drawn")
+        for reaches, wrong in wrong_routes(root, start_list_reading.check_list(text)):
+            reaching += reaches
+            assert not wrong, XML.tostring(root)
+    assert reaching > 1000
 
 
 def ported_system(folder, name):
@@ -437,9 +457,9 @@ def test_system_runs(declared, tmp_path, name):
 
 
 ANSWERS = {
-    "desktop": (("browser/page", "vault", "none"), ("editor", "vault", "some"), ("browser/downloads", "documents", "some")),
-    "gateway": (("acme", "store_acme", "some"), ("acme", "store_globex", "none"), ("gateway.client", "store_acme", "some")),
-    "pump": (("control", "valve", "always"), ("display", "valve", "none")),
+    "desktop": [("browser/page", "vault", "none"), ("browser/agent", "vault", "some"), ("editor", "vault", "some")],
+    "gateway": [("acme", "globex_store", "none"), ("acme", "gateway", "always"), ("gateway.client", "acme_store", "some")],
+    "pump": [("control", "valve", "always"), ("display", "valve", "none"), ("display", "report_rom.ROM", "some")],
 }
 
 
@@ -459,12 +479,22 @@ def test_grown_kind(declared, tmp_path):
     assert declared("diff", made, grown).status == 4
 
 
+LABELS = ("", "a", "passwords", "letters", "saved", "acme", "globex", "dose", "lettersa", "agent -> passwords")
+
+
 @pytest.mark.parametrize("name", SYSTEMS)
-@pytest.mark.parametrize("service, path", [(it, to) for it in ("File_system", "Gui", "Nic") for to in ("vault", "store_acme", "valve")])
-def test_answers_by_reading(tmp_path, name, service, path):
-    """The second reading agrees with the answers: no script reaches a server that its policy denies."""
+def test_answers_by_reading(tmp_path, name):
+    """The second reading of start lists has the same answers, label by label."""
     found = start_list_reading.components(start_list_reading.check_list(ported_system(tmp_path, name).read_text()))
-    denied = [it[:2] for it in ANSWERS[name] if it[2] == "none" and it[1] == path]
-    for client_path, server in denied:
-        for label in ("", "a", "vault", "store_acme", "page -> vault", "downloads -> x"):
-            assert routed(found[client_path], service, label) != server
+    for path, server, reach in ANSWERS[name]:
+        (service,) = found[server][-1][1]["provides"]
+        labels = [it for it in LABELS if start_list_reading.route(found[path], service, it) == server]
+        assert ("none" if not labels else "always" if len(labels) == len(LABELS) else "some") == reach, (path, server, labels)
+
+
+def test_minimum(declared, tmp_path):
+    """What the gateway must donate, as docs/howto/genode.md has it: RAM from, RAM below, and capabilities of each session."""
+    made = ported_system(tmp_path, "gateway")
+    rows = json.loads(declared("least", "--json", "--machine", made, tmp_path / "gateway.scenario").ok())
+    found = [(it["line"], it["ram_from"], it["ram_below"], it["caps_from"]) for it in rows if it.get("component") == "gateway.client" and it.get("session")]
+    assert found == [(2, 233472, None, 5), (9, 12288, 20480, 4), (9, 24576, None, 4), (12, 8192, None, 3)]

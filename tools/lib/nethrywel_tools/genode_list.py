@@ -82,7 +82,8 @@ def take(init: Init, paths: list[str]):
         it = todo.pop()
         if it not in kept:
             kept.add(it)
-            todo += [server for service in services for server in reached(it, service, with_ambiguous=True)]
+            # (an init makes no requests)
+            todo += [server for service in services if not it.inner for server in reached(it, service, with_ambiguous=True)]
             todo += [it.home.owner] if it.home.owner else []
     for one in [init, *(it.inner for it in kept if it.inner)]:
         one.components = [it for it in one.components if it in kept]
@@ -196,10 +197,12 @@ def rule_of(it: ListRule) -> dict:
 
 
 def lined(value, depth=1) -> str:
-    """Returns a JSON text, with the parts of a list or an object on lines of their own if one line is too short for all."""
+    """Returns a JSON text. A list or an object that is too long for a line has lines for its parts."""
     flat = json.dumps(value, ensure_ascii=False)
     if len(flat) + depth <= WIDTH or not isinstance(value, (dict, list)):
         return flat
-    named = value.items() if isinstance(value, dict) else ((None, it) for it in value)
-    parts = [("" if name is None else json.dumps(name) + ": ") + lined(it, depth + 1) for name, it in named]
-    return flat[0] + (",\n" + " " * depth).join(parts) + flat[-1]
+    new = "\n" + " " * depth
+    if isinstance(value, list):
+        return f"[{new}{f',{new}'.join(lined(it, depth + 1) for it in value)}]"
+    parts = ((new if "{" in json.dumps(it) else " ") + f"{json.dumps(name)}: {lined(it, depth + 1)}" for name, it in value.items())
+    return "{" + ",".join(parts).lstrip() + "}"

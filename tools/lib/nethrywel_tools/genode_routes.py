@@ -116,6 +116,9 @@ class Routes:
                 labels = tuple((kind, self.label(text, kind, rule, client)) for kind, text in it.items())
                 made += [ListRule(None, labels, found[asked[0]])] if is_wide else [ListRule(one, labels, to) for one, to in found.items()]
                 decided |= set(found) if not labels else set()
+        # (at the end of the outermost list's rules, parent denies as no rule does)
+        while made and not client.home.owner and made[-1].target[0] == TargetKind.PARENT.value:
+            made.pop()
         return made
 
     def member(self, client: Component, rule: RouteRule, service: str) -> tuple[str, str | bool] | None:

@@ -89,4 +89,6 @@ def parse(data: bytes) -> Element:
         raise WrongText("expected no document type and no entities, found some", builder.place()) from fault
     except SAXParseException as fault:
         raise WrongText(f"invalid XML: {fault.getMessage()}", builder.place()) from fault
+    except LookupError as fault:
+        raise WrongText(f"invalid XML: {fault}") from fault
     return builder.root
