@@ -209,7 +209,7 @@ def test_labels(ported):
     ('<start name="a" caps="1"><resource name="RAM" quantum="1" constrain_phys="yes"/></start>',
      "1:34: note: budgets: `constrain_phys` of `<resource>` isn't carried over"),
     ('<start name="a" caps="1" ram="1"><config/></start>',
-     "1:42: note: `<config>` of `a` isn't carried over: a script makes the calls of the scenario"),
+     "1:42: note: `<config>` of `a` isn't carried over: the scenario has the calls of a script"),
     (LOG.replace("</start>", "<config/></start>"), "note: `<config>` of `log` isn't carried over: a server accepts each session that is routed to it"),
     (LOG.replace("</start>", '<config><policy label="a"/></config></start>'),
      "note: routing: `<policy>` of `log` isn't carried over: a server accepts each session that is routed to it"),
@@ -236,7 +236,7 @@ def test_labels(ported):
      "note: `unscoped_label` becomes the label of one client"),
     (client('<service name="Nic"><any-child/></service>'), "note: no component provides `Nic`, so its rule is left out"),
     (PARENT + client('<service name="ROM"><parent/></service><service name="PD"><parent/></service>'),
-     " note: rules for services of core are left out, since core isn't modelled: 2, for `ROM`, `PD`"),
+     " note: rules for services of core, which isn't modelled, are left out: 2, for `ROM`, `PD`"),
 ], ids=short)
 def test_note(ported, inner, text):
     """Each element that isn't carried over is a note with its place. With --strict a note on routing or budgets has status 3, and the
@@ -271,6 +271,8 @@ def test_note(ported, inner, text):
     (f"<config>{init('a', init('b', init('c', init('d', ''))))}</config>", "expected inits nested at most 3 deep, found one more"),
     (f"<config>{client(ram='17M')}</config>", "error: expected budgets of at most 4096 pages and 4096 capabilities, found 4352 and 20; --scale 2 fits"),
     (f"<config>{client(caps='10000')}</config>", "error: expected budgets of at most 4096 pages and 4096 capabilities, found 16 and 10000; --scale 3 fits"),
+    ("<config>" + "".join(client(name=f"a{it}") for it in range(257)) + "</config>",
+     "error: expected at most 256 components and 64 services, found 257 and 0"),
     ("<config>" + "".join(client(name=f"a{it}") for it in range(33)) + "</config>",
      "error: expected at most 32 entries, found 33; --only NAME,.. takes some with what they reach"),
     (f"<config>{LOG}" + client("".join(f'<service name="LOG" label="{it}"><any-child/></service>' for it in range(33))) + "</config>",
@@ -287,6 +289,7 @@ def test_fault(ported, whole, text):
     (b'<!DOCTYPE c [<!ENTITY a SYSTEM "file:///etc/passwd">]><config>&a;</config>', "expected no document type and no entities"),
     (b"<config>&a;</config>", "invalid XML: undefined entity"),
     (b"<config>" + b"<start>" * 100_000, "expected at most 64 nested elements, found more"),
+    (b"<config>" + b"<start/>" * 10_000, "expected at most 10000 elements, found more"),
     (b"<config>" + b" " * (1 << 20), "expected at most 1048576 bytes, found 1048584"),
     (b'<?xml version="1.0" encoding="x"?><config/>', "invalid XML: unknown encoding"),
     (b"<config \xff\xff/>", "invalid XML: not well-formed"),

@@ -7,7 +7,7 @@ from enum import Enum
 from .genode_xml import Element, Place, WrongText, parse
 
 NAME, LABELS = r"[A-Za-z0-9_.-]{1,32}", ("label", "label_prefix", "label_suffix", "label_last", "unscoped_label")
-SCALES, DEPTH = {"": 0, "K": 10, "M": 20, "G": 30}, 3
+SCALES, DEPTH, COMPONENTS, SERVICES = {"": 0, "K": 10, "M": 20, "G": 30}, 3, 256, 64
 
 
 class Concern(Enum):
@@ -127,6 +127,10 @@ class Reader:
         if root.name != "config":
             raise WrongText(f"expected `<config>`, found `<{root.name}>`", root.place)
         self.init = self.init_of(root, None, 0)
+        components, services = len([*self.init.all()]), len(self.init.services())
+        if components > COMPONENTS or services > SERVICES:
+            found = f"found {components} and {services}"
+            raise WrongText(f"expected at most {COMPONENTS} components and {SERVICES} services, {found}")
 
     def note(self, *parts):
         self.notes.append(Note(*parts))
@@ -143,9 +147,10 @@ class Reader:
         if depth > DEPTH:
             raise WrongText(f"expected inits nested at most {DEPTH} deep, found one more", owner.place)
         self.leave(owner, config, (), ("parent-provides", "default", "default-route", "alias", "start"))
-        services, default = config.all("parent-provides", "service"), config.first("default") or Element("default", {}, config.place)
+        default = config.first("default") or Element("default", {}, config.place)
         self.leave(owner, default, ("caps", "ram"))
-        made = Init(owner, {it.text("name") for it in services}, {it.text("name"): it.text("child") for it in config.all("alias")})
+        services = {it.text("name") for it in config.all("parent-provides", "service")}
+        made = Init(owner, services, {it.text("name"): it.text("child") for it in config.all("alias")})
         for it in config.all("start"):
             self.start(it, made, default, depth)
         route = config.first("default-route")
@@ -198,7 +203,7 @@ class Reader:
         if config is None:
             return
         policy = config.first("policy") if made.provides and not config.first("default-policy") else None
-        why = "a server accepts each session that is routed to it" if made.provides else "a script makes the calls of the scenario"
+        why = "a server accepts each session that is routed to it" if made.provides else "the scenario has the calls of a script"
         text = f"`<{'policy' if policy else 'config'}>` of `{made.name}` isn't carried over: {why}"
         self.note(made, (policy or config).place, text, Concern.ROUTING if policy else Concern.NOTHING)
 

@@ -75,7 +75,7 @@ def take(init: Init, paths: list[str]):
     known, services, kept = {it.path: it for it in init.all()}, init.services(), set()
     unknown = [it for it in paths if it not in known]
     if unknown:
-        raise WrongText(f"unknown component `{unknown[0]}`; expected the name of a `<start>`, with its inits' names as `INIT/NAME`")
+        raise WrongText(f"unknown component `{unknown[0]}`; expected the name of a `<start>`, or `INIT/NAME` within an init")
     todo = [known[it] for it in paths]
     todo += [inner for it in todo if it.inner for inner in it.inner.all()]
     while todo:
@@ -93,7 +93,8 @@ class Port:
     """Makes the start list of a configuration, with its notes."""
 
     def __init__(self, reader: Reader, costs: dict[str, list[Kind]], scale: int):
-        self.init, self.costs, self.scale, self.found, services = reader.init, costs, scale, [*reader.notes], reader.init.services()
+        self.init, self.costs, self.scale, self.found = reader.init, costs, scale, [*reader.notes]
+        services = self.init.services()
         asking = {it for it in self.init.all() if any(reached(it, service) - {it} for service in services)}
         inits = [self.init, *(it.inner for it in self.init.all() if it.inner)]
         self.names = {it: Names(it, asking, self.found) for it in inits}
@@ -163,7 +164,7 @@ class Port:
         core = [it.service for it in self.routes.left if it not in other]
         if core:
             names = ", ".join(f"`{it}`" for it in dict.fromkeys(core))
-            found.append(Note(None, None, f"rules for services of core are left out, since core isn't modelled: {len(core)}, for {names}"))
+            found.append(Note(None, None, f"rules for services of core, which isn't modelled, are left out: {len(core)}, for {names}"))
         # (the same text at one place, of several clients of a default route, is one note)
         once = {(it.place, it.text): it for it in found}
         return sorted(once.values(), key=lambda it: it.place or (1 << 30, 0))
@@ -186,7 +187,8 @@ def entry_of(it: Entry) -> dict:
     amounts = [f"{it.ram >> bits}{unit}" for unit, bits in (("M", 20), ("K", 10)) if it.ram and it.ram % (1 << bits) == 0]
     made = {"name": it.name, "binary": it.binary, "quantum": [*amounts, str(it.ram)][0], "caps": it.caps}
     made |= {"provides": [it.service]} if it.service else {}
-    made |= {"kinds": [{"kind": one.kind, "block": one.block, "bytes": one.bytes} for one in it.kinds]} if it.kinds is not None else {}
+    kinds = [{"kind": one.kind, "block": one.block, "bytes": one.bytes} for one in it.kinds or ()]
+    made |= {"kinds": kinds} if it.kinds is not None else {}
     made |= {"route": [rule_of(one) for one in it.route]} if it.route is not None else {}
     return made | ({"config": members_of(it)} if it.entries is not None else {})
 
@@ -204,5 +206,5 @@ def lined(value, depth=1) -> str:
     new = "\n" + " " * depth
     if isinstance(value, list):
         return f"[{new}{f',{new}'.join(lined(it, depth + 1) for it in value)}]"
-    parts = ((new if "{" in json.dumps(it) else " ") + f"{json.dumps(name)}: {lined(it, depth + 1)}" for name, it in value.items())
-    return "{" + ",".join(parts).lstrip() + "}"
+    parts = (f"{json.dumps(name)}: {lined(it, depth + 1)}" for name, it in value.items())
+    return "{" + ",".join((new if "{" in it else " ") + it for it in parts).lstrip() + "}"

@@ -1,6 +1,7 @@
 """Genode's routes as rules of a start list, in which a rule has one target, and the names of components there."""
 import re
 from dataclasses import dataclass
+from functools import cache
 from itertools import count
 
 from .genode_config import NAME, Component, Concern, Init, Note, RouteRule, Target, TargetKind
@@ -68,6 +69,7 @@ def conditions(rule: RouteRule, client: str) -> list[dict[str, str]]:
     return [{**plain, "label": last}, *([{**plain, "label_suffix": ends[1]}] if ends[1].endswith(ends[0]) else [])]
 
 
+@cache
 def target_of(rule: RouteRule, home: Init, service: str) -> Target | None:
     """Returns the first target that provides a service. If none does, a node of one service denies the request, and a node of any
     service doesn't decide it."""
@@ -114,7 +116,8 @@ class Routes:
             is_wide = rule.service is None and found and len(found) == len(asked) and len(set(found.values())) == 1
             for it in conditions(rule, client.name):
                 labels = tuple((kind, self.label(text, kind, rule, client)) for kind, text in it.items())
-                made += [ListRule(None, labels, found[asked[0]])] if is_wide else [ListRule(one, labels, to) for one, to in found.items()]
+                targets = {None: found[asked[0]]} if is_wide else found
+                made += [ListRule(service, labels, to) for service, to in targets.items()]
                 decided |= set(found) if not labels else set()
         # (at the end of the outermost list's rules, parent denies as no rule does)
         while made and not client.home.owner and made[-1].target[0] == TargetKind.PARENT.value:
@@ -129,7 +132,7 @@ class Routes:
         return (to.kind.value, self.names[home].servers[home.child(to.child), service] if to.child else True)
 
     def denial(self, client: Component, rule: RouteRule) -> tuple[str, str | bool]:
-        """Returns a member that denies a request, by the first target if that can: parent denies it in the outermost list alone."""
+        """Returns a member that denies a request, by the first target if that does: parent denies in the outermost list alone."""
         to, names, child = rule.targets[0], self.names[client.home], client.home.child(rule.targets[0].child)
         if to.kind is TargetKind.ANY_CHILD or to.kind is TargetKind.PARENT and not client.home.owner:
             return to.kind.value, True

@@ -7,7 +7,7 @@ from xml.sax.handler import ContentHandler
 
 from .command_line import Fault
 
-MOST_BYTES, MOST_DEPTH = 1 << 20, 64
+MOST_BYTES, MOST_ELEMENTS, MOST_DEPTH = 1 << 20, 10_000, 64
 
 
 class Place(NamedTuple):
@@ -54,15 +54,17 @@ class Builder(ContentHandler):
 
     def __init__(self, parser):
         super().__init__()
-        self.parser, self.root, self.open = parser, None, []
+        self.parser, self.root, self.open, self.count = parser, None, [], 0
 
     def place(self) -> Place:
         return Place(self.parser.getLineNumber() or 1, (self.parser.getColumnNumber() or 0) + 1)
 
     def startElement(self, name, attrs):
         made = Element(name, dict(attrs.items()), self.place())
-        if len(self.open) == MOST_DEPTH:
-            raise WrongText(f"expected at most {MOST_DEPTH} nested elements, found more", made.place)
+        for what, count, most in (("nested elements", len(self.open), MOST_DEPTH), ("elements", self.count, MOST_ELEMENTS)):
+            if count == most:
+                raise WrongText(f"expected at most {most} {what}, found more", made.place)
+        self.count += 1
         if self.open:
             self.open[-1].children.append(made)
         self.root = self.root or made
@@ -73,8 +75,8 @@ class Builder(ContentHandler):
 
 
 def parse(data: bytes) -> Element:
-    """Returns the outermost element of a text. A text of over 1 MiB is refused, and so are over 64 nested elements, a document
-    type, and XML that isn't well-formed."""
+    """Returns the outermost element of a text. A text of over 1 MiB is refused, and so are over 10,000 elements, over 64 nested
+    ones, a document type, and XML that isn't well-formed."""
     from defusedxml.common import DefusedXmlException
     from defusedxml.sax import make_parser
 
