@@ -20,7 +20,7 @@ def has_label(node, name, label):
 
 
 def providers(config, service):
-    return [it.get("name") for it in config.findall("start") if service in (one.get("name") for one in it.findall("provides/service"))]
+    return [it.get("name") for it in config.findall("start") if it.find(f"provides/service[@name='{service}']") is not None]
 
 
 def provides(config, target, service):
@@ -70,7 +70,8 @@ def drawn_route(draw, parent, tag, within):
     """Adds a route of up to six nodes. WITHIN has the names of the components of an init that the route is of."""
     route_of = XML.SubElement(parent, tag)
     for _ in range(draw.randrange(6)):
-        node = XML.SubElement(route_of, "any-service") if draw.random() < 0.4 else XML.SubElement(route_of, "service", name=draw.choice(SERVICES))
+        service = draw.choice((None, None, *SERVICES))
+        node = XML.SubElement(route_of, "service", name=service) if service else XML.SubElement(route_of, "any-service")
         label = draw.choice(TEXTS)
         if within and draw.random() < 0.6:
             label = f"{draw.choice(within)} -> {label}" if label else draw.choice(within)
@@ -85,8 +86,9 @@ def drawn_route(draw, parent, tag, within):
         if kind == "label_last" and draw.random() < 0.3:
             node.set(draw.choice(("label_prefix", "label_suffix", "label")), "a")
         for _ in range(draw.randrange(1, 4)):
-            target = draw.choice(("parent", "child", "any-child"))
-            XML.SubElement(node, target, **({"name": draw.choice((*NAMES, "log", "files", "sub", "other"))} if target == "child" else {}))
+            target = XML.SubElement(node, draw.choice(("parent", "child", "any-child")))
+            if target.tag == "child":
+                target.set("name", draw.choice((*NAMES, "log", "files", "sub", "other")))
 
 
 def drawn_config(draw, parent, depth):
@@ -107,9 +109,9 @@ def drawn_config(draw, parent, depth):
             within = drawn_config(draw, XML.SubElement(start, "config"), depth + 1)
         else:
             within = []
-            own = {"log": ["LOG"], "files": ["File_system"], "gui": ["Gui"]}.get(name, draw.sample(SERVICES, draw.choice((0, 0, 0, 1, 2))))
-            for service in own:
-                provides_of = start.find("provides") if start.find("provides") is not None else XML.SubElement(start, "provides")
+            own, some = {"log": ["LOG"], "files": ["File_system"], "gui": ["Gui"]}, draw.sample(SERVICES, draw.choice((0, 0, 0, 1, 2)))
+            provides_of = XML.SubElement(start, "provides")
+            for service in own.get(name, some):
                 XML.SubElement(provides_of, "service", name=service)
         if draw.random() < 0.5:
             drawn_route(draw, start, "route", within)
