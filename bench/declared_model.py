@@ -61,7 +61,8 @@ class Heap:
     def new(self, size):
         """Takes a block for so many bytes, below 65536, and returns its chunk and offset."""
         need = max(48, 16 + size) + 15 & ~15
-        fits = [(it[0], at, offset) for at, chunk in enumerate(self.chunks) for offset, it in chunk.items() if not it[1] and it[0] >= need]
+        blocks = ((has, at, offset) for at, chunk in enumerate(self.chunks) for offset, (has, used) in chunk.items() if not used)
+        fits = [it for it in blocks if it[0] >= need]
         if not fits:
             self.grow(need)
             fits = [(self.chunks[-1][0][0], len(self.chunks) - 1, 0)]
@@ -356,7 +357,8 @@ class Machine:
 
     def __init__(self, start_list):
         self.entries = components(start_list)
-        self.scripts = {path: Script(self, path, it[-1][1]) for path, it in self.entries.items() if it[-1][1]["binary"] == "script"}
+        own = {path: it[-1][1] for path, it in self.entries.items()}
+        self.scripts = {path: Script(self, path, it) for path, it in own.items() if it["binary"] == "script"}
 
     def kinds_at(self, path, service, label):
         """Returns the kinds of the server to which a request is routed, or None if it is denied."""
