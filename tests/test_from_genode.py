@@ -114,6 +114,7 @@ def test_entry(ported, inner, path, members):
     assert ported(inner).entry(path).items() >= members.items()
 
 
+TWO = "<start name='rom' caps='1' ram='4K'><provides><service name='Report'/><service name='ROM'/></provides></start>"
 UNSCOPED = SERVED + client(name="a") + client(name="b") + node("default-route", rule("LOG", "<parent/>", unscoped_label="a") + ANY)
 
 
@@ -138,6 +139,9 @@ UNSCOPED = SERVED + client(name="a") + client(name="b") + node("default-route", 
     (SERVED + client(rule("LOG", child("files"))), "app", [{"service": "LOG", "child": "files"}]),
     (SERVED + client(rule("LOG", "<parent/>") + ANY), "app", [LOG_OUT, ANY_CHILD]),
     (SERVED + client(OUT + rule("LOG")), "app", [LOG_ANY]),
+    (SERVED + client(rule("LOG", child("lgo"))), "app", [{"service": "LOG", "child": "lgo"}]),
+    (TWO + client(rule("ROM", child("rom.ROM"))), "app", [{"service": "ROM", "child": "app"}]),
+    (server("", "LOG") + client(rule("LOG", child(""))), "app", [{"service": "LOG", "child": "_"}]),
     (SERVED + init("sub", client(rule("LOG", "<parent/>"))), "sub/app", [{"service": "LOG", "child": "app"}]),
     (SERVED + init("sub", parent("LOG") + client(OUT)), "sub/app", [LOG_OUT]),
     (SERVED + client(rule("ROM", "<parent/>") + rule("PD", "<parent/>")), "app", []),
@@ -162,8 +166,7 @@ def test_kinds(ported):
 
 def test_several_services(ported):
     """A component that provides several services is a server for each, and routes lead to the one that is meant."""
-    two = "<start name='rom' caps='1' ram='4K'><provides><service name='Report'/><service name='ROM'/></provides></start>"
-    made = ported(two + client(rule("ROM", child("rom")) + ANY))
+    made = ported(TWO + client(rule("ROM", child("rom")) + ANY))
     assert made.entry("rom.ROM")["provides"] == ["ROM"]
     assert made.rules("app") == [{"service": "ROM", "child": "rom.ROM"}, ANY_CHILD]
     assert "note: `rom` becomes a server for each service: rom, rom.ROM\n" in made.err
@@ -249,7 +252,9 @@ NO_LABEL = "isn't carried over: a route can't replace a label"
     (GUI, "1:9: note: budgets: `gui`: no costs of `Gui`, so its sessions have no objects"),
     (starting("<binary name='init'/>"), "1:9: note: routing: `a` is an init whose list isn't in this file, and becomes a script"),
     (init("sub", "", "<provides><service name='Gui'/></provides>"), f"note: routing: `sub` provides `Gui`: {NO_SERVICE}"),
-    (LOG + client(rule("LOG", child("lgo"))), "note: routing: unknown component `lgo`, so the request is denied"),
+    (LOG + client(rule("LOG", child("lgo"))), "note: routing: unknown component `lgo`\n"),
+    (LOG + client(node("any-service", child("lgo") + "<any-child/>")), "note: routing: unknown component `lgo`\n"),
+    (client(rule("Nic", child("lgo"))), "note: unknown component `lgo`\n"),
     (LOG + client(rule("LOG", child("log", label="x"))), f"note: routing: `label` of `<child>` {NO_LABEL}"),
     (CORE + client(rule("ROM", "<parent label='x'/>")), f"note: `label` of `<parent>` {NO_LABEL}"),
     (LOG + client(rule("LOG", child("log", diag="yes"))), f"note: `diag` of `<child>` {LEFT}"),
@@ -292,7 +297,8 @@ LARGE = "error: expected budgets of at most 4096 pages and 4096 capabilities, fo
     (init("a", init("b", init("c", init("d", "")))), "expected inits nested at most 3 deep, found one more"),
     (client(ram="17M"), f"{LARGE} 4352 and 20; --scale 2 fits"),
     (client(caps="10000"), f"{LARGE} 16 and 10000; --scale 3 fits"),
-    ("".join(client(name=it) for it in range(257)), "error: expected at most 256 components and 64 services, found 257 and 0"),
+    ("".join(client(name=it) for it in range(257)),
+     "error: expected at most 256 components and 64 services, found 257 and 0"),
     ("".join(client(name=it) for it in range(33)),
      "error: expected at most 32 entries, found 33; --only NAME,.. takes some with what they reach"),
     (LOG + client("".join(rule("LOG", label=it) for it in range(33))), "error: expected at most 32 rules for `app`, found 33"),

@@ -155,6 +155,9 @@ class Reader:
             self.start(it, made, default, depth)
         route = config.first("default-route")
         made.default_route = self.route_of(route, owner) if route else []
+        for of, rule in [(owner, it) for it in made.default_route] + [(it, one) for it in made.components for one in it.route or ()]:
+            for to in (it for it in rule.targets if it.kind is TargetKind.CHILD and not made.child(it.child)):
+                self.note(of, rule.place, f"unknown component `{to.child}`", Concern.ROUTING, rule.service)
         return made
 
     def start(self, start: Element, home: Init, default: Element, depth: int):

@@ -129,19 +129,20 @@ class Routes:
         home, to = client.home, target_of(rule, client.home, service)
         if to is None:
             return self.denial(client, rule) if rule.service else None
-        return (to.kind.value, self.names[home].servers[home.child(to.child), service] if to.child else True)
+        is_child = to.kind is TargetKind.CHILD
+        return to.kind.value, self.names[home].servers[home.child(to.child), service] if is_child else True
 
     def denial(self, client: Component, rule: RouteRule) -> tuple[str, str | bool]:
-        """Returns a member that denies a request, by the first target if that does: parent denies in the outermost list alone."""
-        to, names, child = rule.targets[0], self.names[client.home], client.home.child(rule.targets[0].child)
-        if to.kind is TargetKind.ANY_CHILD or to.kind is TargetKind.PARENT and not client.home.owner:
-            return to.kind.value, True
-        if to.kind is TargetKind.PARENT:
-            return "child", next(iter(names.clients.values()))
+        """Returns a member that denies a request, by the first target if that does, and else by a client, which provides nothing."""
+        to, home, names = rule.targets[0], client.home, self.names[client.home]
+        nobody = next(iter(names.clients.values()))
+        if to.kind is not TargetKind.CHILD:
+            # (parent denies in the outermost list alone)
+            return ("child", nobody) if to.kind is TargetKind.PARENT and home.owner else (to.kind.value, True)
+        child, unknown = home.child(to.child), NOT_IN_NAME.sub("_", to.child)[:32]
         if child:
             return "child", names.servers[child, child.provides[0]] if child.provides else names.clients[child]
-        self.note(client, rule, f"unknown component `{to.child}`, so the request is denied")
-        return "child", NOT_IN_NAME.sub("_", to.child)[:32] or "_"
+        return "child", nobody if unknown in names.taken else unknown or nobody
 
     def note(self, client: Component, rule: RouteRule, text: str):
         self.notes.append(Note(client, rule.place, text, Concern.ROUTING))
