@@ -109,9 +109,9 @@ def drawn_config(draw, parent, depth):
             within = drawn_config(draw, XML.SubElement(start, "config"), depth + 1)
         else:
             within = []
-            own, some = {"log": ["LOG"], "files": ["File_system"], "gui": ["Gui"]}, draw.sample(SERVICES, draw.choice((0, 0, 0, 1, 2)))
+            own = {"log": ["LOG"], "files": ["File_system"], "gui": ["Gui"]}
             provides_of = XML.SubElement(start, "provides")
-            for service in own.get(name, some):
+            for service in own.get(name) or draw.sample(SERVICES, draw.choice((0, 0, 0, 1, 2))):
                 XML.SubElement(provides_of, "service", name=service)
         if draw.random() < 0.5:
             drawn_route(draw, start, "route", within)

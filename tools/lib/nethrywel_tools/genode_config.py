@@ -155,7 +155,8 @@ class Reader:
             self.start(it, made, default, depth)
         route = config.first("default-route")
         made.default_route = self.route_of(route, owner) if route else []
-        for of, rule in [(owner, it) for it in made.default_route] + [(it, one) for it in made.components for one in it.route or ()]:
+        routes = [(owner, made.default_route), *((it, it.route or []) for it in made.components)]
+        for of, rule in ((it, rule) for it, route in routes for rule in route):
             for to in (it for it in rule.targets if it.kind is TargetKind.CHILD and not made.child(it.child)):
                 self.note(of, rule.place, f"unknown component `{to.child}`", Concern.ROUTING, rule.service)
         return made

@@ -164,7 +164,8 @@ class Port:
         core = [it.service for it in self.routes.left if it not in other]
         if core:
             names = ", ".join(f"`{it}`" for it in dict.fromkeys(core))
-            found.append(Note(None, None, f"rules for services of core, which isn't modelled, are left out: {len(core)}, for {names}"))
+            text = f"rules for services of core, which isn't modelled, are left out: {len(core)}, for {names}"
+            found.append(Note(None, None, text))
         # (the same text at one place, of several clients of a default route, is one note)
         once = {(it.place, it.text): it for it in found}
         return sorted(once.values(), key=lambda it: it.place or (1 << 30, 0))

@@ -133,7 +133,7 @@ class Routes:
         return to.kind.value, self.names[home].servers[home.child(to.child), service] if is_child else True
 
     def denial(self, client: Component, rule: RouteRule) -> tuple[str, str | bool]:
-        """Returns a member that denies a request, by the first target if that does, and else by a client, which provides nothing."""
+        """Returns a member that denies a request, by the first target if that does, else by a client, which provides nothing."""
         to, home, names = rule.targets[0], client.home, self.names[client.home]
         nobody = next(iter(names.clients.values()))
         if to.kind is not TargetKind.CHILD:
