@@ -11,7 +11,8 @@ import pytest
 import start_list_reading
 from commands import EXAMPLES, environment, needs, tool
 from nethrywel_tools.genode_config import Reader
-from nethrywel_tools.genode_list import Port, take
+from nethrywel_tools.genode_list import Port
+from nethrywel_tools.genode_routes import take
 
 PORT = tool("tools/from-genode")
 pytestmark = needs("defusedxml")
@@ -341,6 +342,8 @@ KIND = {"kind": "a", "block": 112, "bytes": 0}
     ("[]", "costs.json: error: expected an object with a list of kinds for each service"),
     ({"Gui": 1}, "costs.json: error: Gui: expected a list of at most 16 kinds"),
     ({"Gui": [{**KIND, "kind": str(it)} for it in range(17)]}, "costs.json: error: Gui: expected a list of at most 16 kinds"),
+    ({"Gui": [{"block": 112, "bytes": 0}]}, "costs.json: error: Gui[0]: expected an object whose `kind` is a name"),
+    ({"Gui": [{**KIND, "kind": 5}]}, "costs.json: error: Gui[0]: expected an object whose `kind` is a name"),
     ({"Gui": [{**KIND, "kind": "a b"}]}, "costs.json: error: Gui[0]: expected an object whose `kind` is a name"),
     ({"Gui": [KIND, {**KIND, "block": 111}]},
      "costs.json: error: Gui[1]: block: expected a whole number from 112 to 65535, found 111"),

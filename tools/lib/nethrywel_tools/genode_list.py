@@ -1,24 +1,14 @@
 """A start list of the configuration of Genode's init."""
 import json
-import re
 from dataclasses import dataclass, replace
 
-from .genode_config import NAME, Component, Concern, Init, Note, Reader
+from .genode_config import Component, Concern, Init, Note, Reader
+from .genode_costs import Kind
 from .genode_routes import ListRule, Names, Routes, reached
-from .genode_xml import Place, WrongText
+from .genode_xml import WrongText
 
 PAGE, MOST, LEAST, ENTRIES, RULES, BYTES, WIDTH = 4096, 4096, 16, 32, 32, 65536, 128
 BUILT_IN = {"LOG": "log", "File_system": "files"}
-
-
-@dataclass(frozen=True)
-class Kind:
-    """A kind of objects of a session: the bytes of an object's heap block, and those of each unit of its contents."""
-
-    kind: str
-    block: int
-    bytes: int
-    is_assumed: bool
 
 
 @dataclass
@@ -37,56 +27,6 @@ class Entry:
 
     def count(self) -> int:
         return sum(1 + it.count() for it in self.entries or ())
-
-
-def kind_of(value, part: str) -> Kind:
-    """Returns a kind of a file of costs. A member that begins with `_` is a comment; `_assumed` marks a size without a source."""
-    if not isinstance(value, dict) or not re.fullmatch(NAME, str(value.get("kind"))):
-        raise WrongText(f"{part}: expected an object whose `kind` is a name")
-    for name, least in (("block", 112), ("bytes", 0)):
-        it = value.get(name)
-        if type(it) is not int or not least <= it <= 65535:
-            raise WrongText(f"{part}: {name}: expected a whole number from {least} to 65535, found {json.dumps(it)[:40]}")
-    return Kind(str(value["kind"]), value["block"], value["bytes"], "_assumed" in value)
-
-
-def read_costs(data: bytes) -> dict[str, list[Kind]]:
-    """Reads the kinds of each service."""
-    try:
-        found = json.loads(data)
-    except json.JSONDecodeError as fault:
-        raise WrongText(f"invalid JSON: {fault.msg}", Place(fault.lineno, fault.colno)) from fault
-    except (UnicodeDecodeError, RecursionError) as fault:
-        raise WrongText("invalid JSON") from fault
-    if not isinstance(found, dict):
-        raise WrongText("expected an object with a list of kinds for each service")
-    kinds = {}
-    for service, value in ((it, value) for it, value in found.items() if not it.startswith("_")):
-        if not isinstance(value, list) or len(value) > 16:
-            raise WrongText(f"{service}: expected a list of at most 16 kinds")
-        kinds[service] = [kind_of(it, f"{service}[{at}]") for at, it in enumerate(value)]
-        if len({it.kind for it in kinds[service]}) != len(value):
-            raise WrongText(f"{service}: expected kinds with different names")
-    return kinds
-
-
-def take(init: Init, paths: list[str]):
-    """Leaves out the components that are neither named nor reached by those that are; inits stay with what they start."""
-    known, services, kept = {it.path: it for it in init.all()}, init.services(), set()
-    unknown = [it for it in paths if it not in known]
-    if unknown:
-        raise WrongText(f"unknown component `{unknown[0]}`; expected the name of a `<start>`, or `INIT/NAME` within an init")
-    todo = [known[it] for it in paths]
-    todo += [inner for it in todo if it.inner for inner in it.inner.all()]
-    while todo:
-        it = todo.pop()
-        if it not in kept:
-            kept.add(it)
-            # (an init makes no requests)
-            todo += [server for service in services if not it.inner for server in reached(it, service, with_ambiguous=True)]
-            todo += [it.home.owner] if it.home.owner else []
-    for one in [init, *(it.inner for it in kept if it.inner)]:
-        one.components = [it for it in one.components if it in kept]
 
 
 class Port:
@@ -110,18 +50,19 @@ class Port:
     def fill(self, made: Entry, init: Init):
         """Adds the entries of an init. Clients without a route have the default route, or each its own if they differ in it."""
         rules = {it: self.routes.rules_of(it) for it in self.names[init].clients}
+        long = next((it for it in rules if len(rules[it]) > RULES), None)
+        if long:
+            raise WrongText(f"expected at most {RULES} rules for `{long.name}`, found {len(rules[long])}", long.place)
         shared = {tuple(rules[it]) for it in rules if it.route is None}
         made.default_route, made.entries = list(shared.pop()) if len(shared) == 1 else [], []
         for it in init.components:
             made.entries += [self.server(it, service) for service in it.provides]
-            if it not in rules:
+            if it in rules:
+                is_own = (it.route is not None or not made.default_route) and (rules[it] or made.default_route)
+                made.entries.append(self.client(it, rules[it] if is_own else None))
+            elif it.ram or it.caps:
                 text = f"{it.ram} bytes and {it.caps} capabilities aren't carried over: nothing is charged to a server"
                 self.note(it, f"`{it.name}`: {text}")
-                continue
-            if len(rules[it]) > RULES:
-                raise WrongText(f"expected at most {RULES} rules for `{it.name}`, found {len(rules[it])}", it.place)
-            is_own = (it.route is not None or not made.default_route) and (rules[it] or made.default_route)
-            made.entries.append(self.client(it, rules[it] if is_own else None))
 
     def server(self, it: Component, service: str) -> Entry:
         name, kinds = self.names[it.home].servers[it, service], self.costs.get(service)

@@ -5,6 +5,7 @@ from functools import cache
 from itertools import count
 
 from .genode_config import NAME, Component, Concern, Init, Note, RouteRule, Target, TargetKind
+from .genode_xml import WrongText
 
 ARROW, LABEL, CONDITIONS = " -> ", 64, ("label", "label_prefix", "label_suffix")
 NOT_IN_NAME, NOT_IN_LABEL = re.compile(r"[^A-Za-z0-9_.-]"), re.compile(r'[^ -~]|["\\]')
@@ -96,6 +97,25 @@ def reached(client: Component, service: str, with_ambiguous=False) -> set[Compon
         if not rule.labels and (to or rule.service):
             break
     return found
+
+
+def take(init: Init, paths: list[str]):
+    """Leaves out the components that are neither named nor reached by those that are; inits stay with what they start."""
+    known, services, kept = {it.path: it for it in init.all()}, init.services(), set()
+    unknown = [it for it in paths if it not in known]
+    if unknown:
+        raise WrongText(f"unknown component `{unknown[0]}`; expected the name of a `<start>`, or `INIT/NAME` within an init")
+    todo = [known[it] for it in paths]
+    todo += [inner for it in todo if it.inner for inner in it.inner.all()]
+    while todo:
+        it = todo.pop()
+        if it not in kept:
+            kept.add(it)
+            # (an init makes no requests)
+            todo += [server for service in services if not it.inner for server in reached(it, service, with_ambiguous=True)]
+            todo += [it.home.owner] if it.home.owner else []
+    for one in [init, *(it.inner for it in kept if it.inner)]:
+        one.components = [it for it in one.components if it in kept]
 
 
 class Routes:
