@@ -191,8 +191,16 @@ def test_labels_with_names(ported):
     made = ported(LOG + init("sub", parent("LOG") + ASKING, route))
     seen = [it.get("label", it.get("label_prefix")) for it in made.entry("sub")["route"]]
     assert seen == ["gui.client", "gui.client -> a", "gui.client ->", "gui", "other -> gui"]
-    suffix = ported(LOG + init("sub", parent("LOG") + ASKING, node("route", rule("LOG", label_suffix="gui"))))
-    assert "note: routing: label_suffix: it may reach into `gui`, which is `gui.client` here\n" in suffix.err
+
+
+@pytest.mark.parametrize("kind, text, is_noted", [
+    ("label_suffix", "ui", True), ("label_suffix", "client", True), ("label_suffix", " -> gui", True),
+    ("label_suffix", "i -> a", True), ("label_suffix", " -> a", False), ("label_suffix", "a", False),
+    ("label_suffix", " -> ui", False), ("label_last", "gui", True), ("label_last", "a", False)])
+def test_suffix_with_names(ported, kind, text, is_noted):
+    """A suffix that ends names otherwise than it ends those of the start list is a note."""
+    made = ported(LOG + init("sub", parent("LOG") + ASKING, node("route", rule("LOG", **{kind: text}))))
+    assert ("note: routing: label_suffix: it may reach into `gui`, which is `gui.client` here\n" in made.err) == is_noted
 
 
 @pytest.mark.parametrize("name, here", [("my app", "my_app"), ("a" * 33, "a" * 32), ("ä", "_"), ("", "_")])
@@ -245,7 +253,8 @@ NO_LABEL = "isn't carried over: a route can't replace a label"
     (server("log", "LOG", "<config/>"), f"note: `<config>` of `log` {ACCEPTS}"),
     (server("log", "LOG", "<config><policy label='a'/></config>"), f"note: routing: `<policy>` of `log` {ACCEPTS}"),
     (server("log", "LOG", "<config><policy/><default-policy/></config>"), f"note: `<config>` of `log` {ACCEPTS}"),
-    (LOG, "1:9: note: `log`: 1048576 bytes and 10 capabilities aren't carried over: nothing is charged to a server"),
+    (LOG, "1:9: note: `log`: 1048576 bytes and 10 capabilities aren't carried over: nothing is charged to a server\n"),
+    ("<start name='log' caps='0' ram='0'><provides><service name='LOG'/></provides><exit/></start>", "`<exit>`"),
     ("<start name='a' caps='1'/>", "1:9: note: budgets: `a` has no `ram`, and gets 0"),
     ("<start name='a' ram='1'/>", "1:9: note: budgets: `a` has no `caps`, and gets 0"),
     (init("sub", client(ram="2M")),

@@ -167,17 +167,23 @@ class Routes:
     def note(self, client: Component, rule: RouteRule, text: str):
         self.notes.append(Note(client, rule.place, text, Concern.ROUTING))
 
+    def here(self, it: Component) -> str:
+        """Returns the name that labels of a component have in the start list."""
+        return self.names[it.home].clients.get(it, it.name)
+
     def label(self, text: str, kind: str, rule: RouteRule, client: Component) -> str:
         """Returns a label with the names that the components of an init have here, of which a client can give the rest."""
-        others = {it.name: here for it, here in self.names[client.inner].clients.items()} if client.inner else {}
-        if others and kind == "label_suffix":
-            for name, here in ((name, here) for name, here in others.items() if name != here):
-                self.note(client, rule, f"label_suffix: it may reach into `{name}`, which is `{here}` here")
-        elif others:
+        inner, (end, *names) = client.inner, text.split(ARROW)
+        if inner and kind == "label_suffix":
+            matches = lambda name: (bool(end) and name.endswith(end), name in names)
+            for it in (it for it in inner.all() if matches(it.name) != matches(self.here(it))):
+                self.note(client, rule, f"label_suffix: it may reach into `{it.name}`, which is `{self.here(it)}` here")
+        elif inner:
             name, arrow, rest = text.partition(ARROW if ARROW in text else ARROW.rstrip())
-            if name not in others or not arrow and kind != "label":
+            child = next((it for it in inner.components if it.name == name), None)
+            if not child or not arrow and kind != "label":
                 return text
-            return others[name] + arrow + (self.label(rest, kind, rule, client.inner.child(name)) if arrow == ARROW else rest)
+            return self.here(child) + arrow + (self.label(rest, kind, rule, child) if arrow == ARROW else rest)
         if len(text) <= LABEL and not NOT_IN_LABEL.search(text):
             return text
         here = self.shortened.setdefault(text, f"{NOT_IN_LABEL.sub('_', text)[: LABEL - 4]}.{len(self.shortened) + 1}")
