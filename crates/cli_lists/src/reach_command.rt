@@ -163,7 +163,7 @@ fn add_cell<'a>(
 }
 
 // Returns one of the shortest labels of a cell, if there is a label.
-fn witness_of(cell: &ReachCell) -> JsonField<'_> {
+fn witness_of<'a>(cell: &'a ReachCell<'_>) -> JsonField<'a> {
     match cell.witness() {
         Some(label) => JsonField::Text(label),
         None => JsonField::Nothing,
