@@ -9,7 +9,7 @@ use Rattle.own_model.specs.FileText as files
 use Rattle.own_model.specs.Nodes.{content_ram, content_caps}
 use Rattle.own_model.specs.ObjectText.{ObjectError}
 use Rattle.own_model.specs.ObjectText.ObjectError.{Shared}
-use Rattle.own_model.specs.OwnHeap.{OwnHeap, chunk_with, offset_of}
+use Rattle.own_model.specs.OwnHeap.{chunk_with, offset_of}
 use Rattle.own_model.specs.Heap.{header}
 use Rattle.own_model.specs.Sliced.{sliced_header, sliced_size}
 use Rattle.session_nodes.specs.NodeList.{nodes_in, HasNodes}

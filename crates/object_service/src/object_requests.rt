@@ -21,7 +21,7 @@ use crate::session::ObjectSession;
 use dataspace_core::Memory;
 use object_kinds::ObjectKind;
 use region_map::RegionMap;
-use session_nodes::FoundNode;
+use session_nodes::{FoundNode, SessionHeaps};
 use session_proto::{FileError, ObjectError};
 use text_codec::is_name;
 use trade_base::Refusal;
@@ -161,43 +161,11 @@ impl ObjectSession {
         let size = units
             .checked_mul(word % UNIT_LIMIT)
             .ok_or(ObjectError::Shared(FileError::InvalidSize))?;
-        let content = self.take_content(memory, map, size)?;
+        let content = take_content(&mut self.nodes.heaps, memory, map, size)?;
         let address = found.address;
         self.nodes.replace(memory, map, found, content, size);
         self.put_words(memory, map, address, word, units);
         Ok(())
-    }
-
-    // Takes a content of so many bytes and returns its address, or 0 for no bytes. Refuses with `InvalidSize` if the content
-    // is past 64 bits, then `OutOfRam` or `OutOfCaps` if the account does not cover it. A refused call changes nothing.
-    fn take_content(
-        &mut self,
-        memory: &mut Memory,
-        map: &mut RegionMap,
-        size: u64,
-    ) -> Result<u64, ObjectError>
-        requires furnished { AreSoundHeaps self.old.nodes.heaps memory.old map.old }
-        ensures refusal { option_map model_object_error (result_err result)
-            ≡ contents_refusal size (stock_of self.old.nodes.heaps memory.old map.old).account }
-        ensures taken { IfOk result (λ content. TakesContent size content
-            (stock_of self.old.nodes.heaps memory.old map.old)
-            (stock_of self.new.nodes.heaps memory.new map.new)) }
-        ensures same { self.new ≡ record self.old {
-          nodes = record self.old.nodes { heaps = self.new.nodes.heaps };
-        } }
-        ensures keeps { KeepsHeaps self.old.nodes.heaps self.new.nodes.heaps
-            memory.old memory.new map.old map.new }
-        ensures memory_err { OnErr result (memory.new ≡ memory.old) }
-        ensures map_err { OnErr result (map.new ≡ map.old) }
-        ensures err { OnErr result (self.new ≡ self.old) }
-    {
-        if size == 0 {
-            return Ok(0);
-        }
-        self.nodes
-            .heaps
-            .take_content(memory, map, size)
-            .map_err(error_of)
     }
 
     /// Removes an object with its content. Refuses with `NotFound` if no object has the name.
@@ -228,14 +196,7 @@ impl ObjectSession {
     }
 
     // Stores the two words of an object after its node.
-    fn put_words(
-        &self,
-        memory: &mut Memory,
-        map: &RegionMap,
-        address: u64,
-        word: u64,
-        units: u64,
-    )
+    fn put_words(&self, memory: &mut Memory, map: &RegionMap, address: u64, word: u64, units: u64)
         requires furnished { AreSoundHeaps self.now.nodes.heaps memory.old map.now }
         requires nodes { HasNodes self.now.nodes (stock_of self.now.nodes.heaps memory.old map.now) }
         requires listed { is_listed
@@ -254,6 +215,30 @@ impl ObjectSession {
         let units = units.to_le_bytes();
         self.nodes.put_user(memory, map, address, UNITS, &units);
     }
+}
+
+/// Takes a content of so many bytes and returns its address, or 0 for no bytes. Refuses with `InvalidSize` if the content is
+/// past 64 bits, then `OutOfRam` or `OutOfCaps` if the account does not cover it. A refused call changes nothing.
+fn take_content(
+    heaps: &mut SessionHeaps,
+    memory: &mut Memory,
+    map: &mut RegionMap,
+    size: u64,
+) -> Result<u64, ObjectError>
+    requires furnished { AreSoundHeaps heaps.old memory.old map.old }
+    ensures refusal { option_map model_object_error (result_err result)
+        ≡ contents_refusal size (stock_of heaps.old memory.old map.old).account }
+    ensures taken { IfOk result (λ content. TakesContent size content
+        (stock_of heaps.old memory.old map.old) (stock_of heaps.new memory.new map.new)) }
+    ensures keeps { KeepsHeaps heaps.old heaps.new memory.old memory.new map.old map.new }
+    ensures memory_err { OnErr result (memory.new ≡ memory.old) }
+    ensures map_err { OnErr result (map.new ≡ map.old) }
+    ensures err { OnErr result (heaps.new ≡ heaps.old) }
+{
+    if size == 0 {
+        return Ok(0);
+    }
+    heaps.take_content(memory, map, size).map_err(error_of)
 }
 
 /// Returns the error of a reply for a refusal of a heap, or of a content.

@@ -1,8 +1,9 @@
 //! The requests that read objects.
 ghost use Rattle.std.specs.Prelude.{◌≡◌, ◌<◌, ◌≤◌, List, length, map, slice_get, IfSome};
+ghost use Rattle.std.specs.List.{position};
 ghost use Rattle.std.specs.Option.{option_map};
 ghost use Rattle.own_model.specs.ObjectKinds as model;
-ghost use Rattle.own_model.specs.ObjectKinds.{AreObjectKinds, kind_named};
+ghost use Rattle.own_model.specs.ObjectKinds.{AreObjectKinds, is_kind};
 ghost use Rattle.own_model.specs.ObjectText.ObjectReply.{Counted, Named};
 ghost use Rattle.own_model.specs.ObjectText.ObjectRequest.{Count, CountKind};
 ghost use Rattle.session_nodes.specs.SessionHeaps.{stock_of, AreSoundHeaps};
@@ -10,7 +11,7 @@ ghost use Rattle.session_nodes.specs.SoundHeaps.{Stock};
 ghost use Rattle.object_service.specs.Kinds.{kind_at};
 ghost use Rattle.object_service.specs.Session.{counted_reply, named_reply, objects_in, HasObjects, IsTold};
 
-use crate::object_requests::{KIND, UNITS, UNIT_LIMIT};
+use crate::object_requests::{KIND, UNIT_LIMIT, UNITS};
 use crate::session::ObjectSession;
 use dataspace_core::Memory;
 use object_kinds::ObjectKind;
@@ -83,9 +84,8 @@ impl ObjectSession {
 
 /// Returns the number of the kind with a name, or `None` if there is none.
 pub(crate) fn number_of(kinds: &[ObjectKind], name: &[u8]) -> Option<usize>
+    ensures place { result ≡ position (is_kind name.now) kinds.now }
     ensures low { IfSome result (λ number. number < length kinds.now) }
-    ensures kind { option_map (λ number. kind_at kinds.now number) result
-        ≡ kind_named name.now kinds.now }
 {
     kinds.iter().position(|kind| kind.name().as_bytes() == name)
 }

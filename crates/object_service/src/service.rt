@@ -185,13 +185,15 @@ fn answer_name(
     ensures heaps { session.new.nodes.heaps ≡ session.old.nodes.heaps }
     ensures memory { memory.new ≡ memory.old }
 {
-    let Some(found) = session.object_at(memory, map, place) else {
-        return ObjectReply::Refused(ObjectError::Shared(FileError::End)).write(reply);
-    };
-    let kind = name_of(kinds, found.number);
-    let name = &found.node.name;
-    let units = found.units;
-    ObjectReply::Named { kind, name, units }.write(reply);
+    match session.object_at(memory, map, place) {
+        Some(found) => {
+            let kind = name_of(kinds, found.number);
+            let name = &found.node.name;
+            let units = found.units;
+            ObjectReply::Named { kind, name, units }.write(reply);
+        }
+        None => ObjectReply::Refused(ObjectError::Shared(FileError::End)).write(reply),
+    }
 }
 
 /// Writes the reply with use and limits of the session's account.
