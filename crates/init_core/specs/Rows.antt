@@ -7,27 +7,22 @@ use Rattle.std.specs.Str.{bytes_eq}
 use Rattle.trade_base.specs.Service.{service_name, services}
 use Rattle.trade_base.specs.declared.service.Service.{Service}
 use Rattle.own_model.specs.Listed.{Listed, ListedEntry, level_of, most_lists}
-use Rattle.own_model.specs.Offer.{Offer, offer_of_service}
+use Rattle.own_model.specs.Offer.{offer_of_service}
 use Rattle.own_model.specs.Offer.Offer.{OffersObjects}
 use Rattle.own_model.specs.Routes as model
 use Rattle.own_model.specs.Routes.{Level, provider}
 use Rattle.pd_core.specs.Component.{Place}
 use Rattle.pd_core.specs.Core.{Places}
 use Rattle.init_core.specs.declared.rule.ResolvedTarget.{ResolvedTarget}
-use Rattle.init_core.specs.declared.rule.ResolvedTarget.TheVariants.{To, Nowhere, Outward}
-use Rattle.init_core.specs.declared.rule.ServerOffer.{ServerOffer}
-use Rattle.init_core.specs.declared.rule.ServerOffer.TheVariants.{BuiltIn, Declared}
+use Rattle.init_core.specs.declared.rule.ResolvedTarget.TheVariants.{ToBuiltIn, ToDeclared, Nowhere, Outward}
 use Rattle.init_core.specs.declared.rule.ServiceTest.{ServiceTest}
 use Rattle.init_core.specs.declared.rule.ServiceTest.TheVariants.{Known, Named, Any}
 
 -- ---- what the code's types denote
 
-abbrev pub model_offer : ServerOffer → Offer
-model_offer (BuiltIn service) = offer_of_service service
-model_offer (Declared service) = OffersObjects service.value.kinds
-
 abbrev pub model_lead : ResolvedTarget → model.Lead
-model_lead (To server) = model.Lead.To (record { kind = model_offer server.kind; place = server.place })
+model_lead (ToBuiltIn service place) = model.Lead.To (record { kind = offer_of_service service; place = place })
+model_lead (ToDeclared service place) = model.Lead.To (record { kind = OffersObjects service.value.kinds; place = place })
 model_lead Nowhere = model.Lead.Nowhere
 model_lead Outward = model.Lead.Outward
 

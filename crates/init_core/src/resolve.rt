@@ -3,9 +3,9 @@ ghost use Rattle.std.specs.Prelude.{◌≡◌, ◌++◌, IfOk, OnOk};
 ghost use Rattle.std.specs.Option.{option_map};
 ghost use Rattle.own_model.specs.Listed.{lead_of, lead_to, lead_without, offer_in, own_rules, own_rules_asking, server_at, way_to};
 ghost use Rattle.list_parser.specs.View.{model_binary, model_target};
-ghost use Rattle.init_core.specs.Rows.{model_lead, model_offer};
+ghost use Rattle.init_core.specs.Rows.{model_lead};
 
-use crate::rule::{ResolvedRule, ResolvedTarget, ServerOffer, ServerPlace, ServiceTest};
+use crate::rule::{ResolvedRule, ResolvedTarget, ServiceTest};
 use list_parser::{Binary, ListEntry, Rule, StartList, Target};
 use list_routes::target_child;
 use std::alloc::{AllocError, Global};
@@ -95,22 +95,20 @@ fn lead_to(entries: &[ListEntry], place: usize) -> Result<ResolvedTarget, AllocE
     ensures { IfOk result (λ to. model_lead to ≡ lead_to (server_at entries.now place)) }
 {
     match entries.get(place) {
-        Some(entry) => match offer_of(entry.binary())? {
-            Some(kind) => Ok(ResolvedTarget::To(ServerPlace { kind, place })),
-            None => Ok(ResolvedTarget::Nowhere),
-        },
+        Some(entry) => lead_to_binary(entry.binary(), place),
         None => Ok(ResolvedTarget::Nowhere),
     }
 }
 
-/// Returns what a binary offers to sessions, if it is a server. Returns an error if the host is out of memory.
-fn offer_of(binary: &Binary) -> Result<Option<ServerOffer>, AllocError>
-    ensures { IfOk result
-        (λ offer. option_map model_offer offer ≡ offer_in (model_binary binary.now)) }
+/// Returns the route to a component that runs a binary, if it is a server, by its place. Returns an error if the host is out
+/// of memory.
+fn lead_to_binary(binary: &Binary, place: usize) -> Result<ResolvedTarget, AllocError>
+    ensures { IfOk result (λ to. model_lead to ≡ lead_to (option_map
+        (λ offer. record { kind = offer; place = place }) (offer_in (model_binary binary.now)))) }
 {
     match binary {
-        Binary::Script | Binary::Init => Ok(None),
-        Binary::Server(service) => Ok(Some(ServerOffer::BuiltIn(*service))),
-        Binary::Declared(service) => Ok(Some(ServerOffer::Declared(service.clone()?))),
+        Binary::Script | Binary::Init => Ok(ResolvedTarget::Nowhere),
+        Binary::Server(service) => Ok(ResolvedTarget::ToBuiltIn(*service, place)),
+        Binary::Declared(service) => Ok(ResolvedTarget::ToDeclared(service.clone()?, place)),
     }
 }

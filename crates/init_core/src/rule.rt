@@ -13,27 +13,14 @@ use std::marker::Model;
 use std::rc::Rc;
 use trade_base::{SERVICES, Service};
 
-/// What a server offers to its sessions.
-#[derive(Drop)]
-pub(crate) enum ServerOffer {
-    /// A service that the machine has built in.
-    BuiltIn(Service),
-    /// A service of objects, which the server's entry declares.
-    Declared(Rc<DeclaredService>),
-}
-
-/// A server: what it offers, and its place among the components.
-#[derive(Drop)]
-pub(crate) struct ServerPlace {
-    pub(crate) kind: ServerOffer,
-    pub(crate) place: usize,
-}
-
 /// The result of a rule: where it routes a session request.
 #[derive(Drop)]
 pub(crate) enum ResolvedTarget {
-    /// The request is routed to a server.
-    To(ServerPlace),
+    /// The request is routed to a server of a service that the machine has built in: the service, and the server's place
+    /// among the components.
+    ToBuiltIn(Service, usize),
+    /// The request is routed to a declared server: the service that it declares, and its place.
+    ToDeclared(Rc<DeclaredService>, usize),
     /// The request is routed to no server.
     Nowhere,
     /// The request is routed out of the init, by the rules of the list above.

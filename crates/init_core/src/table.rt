@@ -106,7 +106,8 @@ fn server_for(
         return None;
     };
     match resolve_request(row.rules.as_slice(), service, label) {
-        Some(ResolvedTarget::To(server)) => Some(server.place),
+        Some(ResolvedTarget::ToBuiltIn(_, place)) => Some(*place),
+        Some(ResolvedTarget::ToDeclared(_, place)) => Some(*place),
         Some(ResolvedTarget::Nowhere) | None => None,
         Some(ResolvedTarget::Outward) => if row.home == 0 {
             None

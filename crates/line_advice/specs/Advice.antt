@@ -9,7 +9,6 @@ use Rattle.own_model.specs.SessionArgs.{arguments_of, is_equals, is_space, piece
 use Rattle.own_model.specs.Text.{is_name}
 use Rattle.session_proto.specs.Forms.{forms, word_of}
 use Rattle.session_proto.specs.ObjectForms as objects
-use Rattle.session_proto.specs.declared.object_form.ObjectForm.TheVariants.{Make, Count}
 use Rattle.text_near_words.specs.Near.{is_away, nearest}
 use Rattle.line_friendly.specs.Friendly.{arrow_of, begins_as_call, content_of, end_of, is_meant, trimmed_line}
 use Rattle.line_friendly.specs.Words.{next_word, skip_blanks}
@@ -121,7 +120,7 @@ misspelt_advice line column word (Some near) =
 -- the word is that of a request which begins with a kind
 abbrev pub has_kind : List (List ℕ) → List ℕ → Bool
 has_kind requests word =
-    list_any (bytes_eq word) requests && list_any (bytes_eq word) (objects.word_of Make ∷ objects.word_of Count ∷ [])
+    list_any (bytes_eq word) requests && list_any (bytes_eq word) (codes "MAKE" ∷ codes "COUNT" ∷ [])
 
 -- ---- lines
 

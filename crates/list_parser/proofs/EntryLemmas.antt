@@ -9,7 +9,7 @@ use Rattle.trade_base.specs.declared.service.Service.TheVariants as service
 use Rattle.own_model.proofs.ServiceLemmas.{found_again, is_no_init, is_no_script}
 use Rattle.own_model.specs.Listed.{Binary}
 use Rattle.list_parser.specs.BuiltIn.{built_in}
-use Rattle.list_parser.specs.Entries.{BinaryWord, provided_in, word_of}
+use Rattle.list_parser.specs.Entries.{provided_in, word_of}
 use Rattle.list_parser.specs.Entries.BinaryWord.{Known}
 use Rattle.list_parser.specs.View.{word_by}
 

@@ -10,7 +10,6 @@ use Rattle.own_model.specs.Listed.{Binary, ListedEntry, ListedRule}
 use Rattle.own_model.specs.Listed.Binary.{Script, Server, Init}
 use Rattle.own_model.specs.Text.{is_name, is_name_byte}
 use Rattle.own_model.specs.Offer.{Offer}
-use Rattle.own_model.specs.Offer.Offer.{OffersLog, OffersFiles, OffersObjects}
 use Rattle.list_parser.specs.Depth.{runs_init}
 use Rattle.list_parser.specs.Entries.{◌>>=◌, EntryHead, ListConfig, ListPlace, SoFar, behind, default_route, head_of, is_taken, list_of_entry, new_name, nothing_own, object_of, offer_with, own_of, own_route, provider_of, reserve_of_entry, starts_in, value_or, with_kinds, word_of_entry}
 use Rattle.list_parser.specs.HeadParts.{head_in_parts}

@@ -1,6 +1,6 @@
 -- What a server declares.
 use Rattle.std.proofs.Common.{◌≡◌, ℕ, ◌+◌, ◌<◌, ◌≤◌, Bool, true, false, cond, ◌||◌, List, [], ◌∷◌, ◌++◌, length, length-append, map, drop, get_or, Option, Some, None, refl, sym, ap, subst, ◌∙◌, add-one, drop-cons, arith}
-use Rattle.std.specs.Prelude.{find, if◌then◌else◌, is_some}
+use Rattle.std.specs.Prelude.{if◌then◌else◌, is_some}
 use Rattle.std.specs.List.{AllByRecursion, list_any}
 use Rattle.std.specs.Option.{option_and_then}
 use Rattle.std.specs.Str.{bytes_eq}
@@ -9,7 +9,7 @@ use Rattle.serde_json.specs.Find.{as_str}
 use Rattle.serde_json.specs.View.{view}
 use Rattle.serde_json.specs.declared.value.Value.{Value}
 use Rattle.own_model.proofs.NodeLemmas.{differ_back}
-use Rattle.own_model.specs.ObjectKinds.{AreObjectKinds, IsObjectKind, KindsDiffer, ObjectKind, is_kind, kind_named, most_kinds}
+use Rattle.own_model.specs.ObjectKinds.{AreObjectKinds, IsObjectKind, KindsDiffer, ObjectKind, is_kind, kind_named}
 use Rattle.own_model.specs.Text.{is_name}
 use Rattle.list_parser.specs.DeclaredServers.{declared_in, kinds_after, with_next}
 use Rattle.list_parser.specs.Members.{name_in, name_of}

@@ -1,9 +1,9 @@
 -- A text that is a start list is listed.
-use Rattle.std.proofs.Common.{◌≡◌, ◌≤◌, nat_lt, Bool, true, false, List, [], length, Ok, Err, subst, sym, arith}
+use Rattle.std.proofs.Common.{◌≡◌, nat_lt, Bool, true, false, [], length, Ok, Err, subst, arith}
 use Rattle.std.specs.Prelude.{if◌then◌else◌, codes, Result, IfOk}
 use Rattle.serde_json.specs.Data.{Data}
-use Rattle.own_model.specs.Listed.{Listed, ListedEntry}
-use Rattle.list_parser.specs.Entries.{◌>>=◌, ListPlace, Misread, SoFar, all_read, entries_read, outermost, own_of, read_within, value_or}
+use Rattle.own_model.specs.Listed.{Listed}
+use Rattle.list_parser.specs.Entries.{◌>>=◌, Misread, SoFar, entries_read, outermost, own_of, read_within, value_or}
 use Rattle.list_parser.specs.ListTheorems.{IsListed, ListsAreListed}
 use Rattle.list_parser.specs.Members.{whole_at}
 use Rattle.list_parser.specs.StartText.{fault_of, json_in, list_of, machine_of}
@@ -11,7 +11,7 @@ use Rattle.list_parser.specs.declared.fault.BootFault.{BootFault}
 use Rattle.list_parser.specs.declared.fault.BootFault.TheVariants.{BadConfig, BadJson}
 use Rattle.list_parser.specs.declared.fault.ConfigField.TheVariants as field
 use Rattle.list_parser.proofs.HeadLemmas.{Gives, gave, own_few}
-use Rattle.list_parser.proofs.NestLemmas.{Holds, Stands, all_extend, holds_none, stands_first, within_reads}
+use Rattle.list_parser.proofs.NestLemmas.{all_extend, holds_none, stands_first, within_reads}
 
 read_ok : (r : Result SoFar Misread) (so_far : SoFar) → fault_of r ≡ Ok so_far → r ≡ Ok so_far
 read_ok (Ok x) so_far is = let same : x ≡ so_far = cc in (λ j. Ok (same j))

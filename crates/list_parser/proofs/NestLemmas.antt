@@ -9,7 +9,6 @@ use Rattle.std.proofs.lemmas.List.{get_or_append_left}
 use Rattle.std.proofs.lemmas.Option.{get_or_from_slice_get, same_Some, slice_get_read, slice_get_within}
 use Rattle.std.proofs.lemmas.Slice.Eq.{bytes_eq-Decides}
 use Rattle.serde_json.specs.Data.{Data}
-use Rattle.own_model.proofs.ListLemmas.{all_append}
 use Rattle.own_model.specs.Listed.{ListedEntry}
 use Rattle.list_parser.specs.Depth.{HaveParentInits, is_init, is_list}
 use Rattle.list_parser.specs.Entries.{EntryHead, Misread, ListPlace, Reads, SoFar, all_read, at_entry, behind, head_of, outermost, place_within, read_own, read_within, then_read, with_head}
