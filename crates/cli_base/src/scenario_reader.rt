@@ -1,5 +1,5 @@
 //! The reader of a scenario: its bytes, and on a terminal how many of its lines are read.
-ghost use Rattle.std.specs.Prelude.{◌≡◌};
+ghost use Rattle.std.specs.Prelude.{◌≡◌, false};
 ghost use Rattle.cli_base.specs.Origins.{origin_bytes};
 
 use crate::streams::Origin;
@@ -38,7 +38,8 @@ pub fn watched_reader<'a>(
     origin: Origin<'a>,
     printing: Printing,
 ) -> Reader<'a>
-    ensures { ⟦<Reader<'a> as Source>⟧.remaining result ≡ origin_bytes origin.entry }
+    ensures bytes { ⟦<Reader<'a> as Source>⟧.remaining result ≡ origin_bytes origin.entry }
+    ensures fresh { ⟦<Reader<'a> as Source>⟧.has_failed result ≡ false }
 {
     let is_seen = printing == Printing::Meanwhile && rt.stdout().is_terminal();
     let progress = if is_seen || !rt.stderr().is_terminal() {
@@ -51,7 +52,8 @@ pub fn watched_reader<'a>(
 
 /// Returns a reader of a scenario that reports no progress.
 pub fn silent_reader<'a>(origin: Origin<'a>) -> Reader<'a>
-    ensures { ⟦<Reader<'a> as Source>⟧.remaining result ≡ origin_bytes origin.entry }
+    ensures bytes { ⟦<Reader<'a> as Source>⟧.remaining result ≡ origin_bytes origin.entry }
+    ensures fresh { ⟦<Reader<'a> as Source>⟧.has_failed result ≡ false }
 {
     Input::new(ScenarioBytes {
         origin,

@@ -42,15 +42,15 @@ fn form_asked(asked: &AccountsOptions<'_>) -> AccountsForm {
 }
 
 /// Runs a scenario, and prints the rows of its accounts in a form if no fault stops the run.
-pub(crate) fn print_accounts(
+pub(crate) fn print_accounts<'r>(
     rt: &HostRuntime,
     play: ScenarioInput<'_>,
     form: RowsForm,
-    reader: &mut Reader<'_>,
+    reader: &mut Reader<'r>,
     complaints: &mut Writer<'_>,
 ) -> RunEnd
     ensures status { (view : AccountsForms) → IfOk result.ended (HasStatus (Accounts view)
-        (start_of (Accounts view) play.entry) (⟦<Reader<'_> as Source>⟧.remaining reader.old)) }
+        (start_of (Accounts view) play.entry) (⟦<Reader<'r> as Source>⟧.remaining reader.old)) }
 {
     let mut nowhere = plain_writer(rt, OutputStream::Dropped);
     match accounts(rt.alloc(), play, reader, &mut nowhere, complaints) {
