@@ -1,6 +1,7 @@
 -- The status of a run, by what its view promises.
 use Rattle.std.proofs.Common.{◌≡◌, ◌<◌, ℕ, List, ◌++◌, append-nil, Bool, false, true, Option, Some, None, IfNone, IfSome, refl, sym, ◌∙◌, ap, subst}
-use Rattle.std.specs.Prelude.{◌==◌, ◌||◌, ⊤, is_some, length, nat_lt, if◌then◌else◌, Ok}
+use Rattle.std.specs.Prelude.{◌==◌, ◌||◌, ⊤, is_some, length, nat_lt, if◌then◌else◌, IfOk, Result, Ok, Err}
+use Rattle.list_parser.specs.declared.fault.BootFault.{BootFault}
 use Rattle.run_lines.specs.LineRuns.{EndsFor}
 use Rattle.run_lines.specs.declared.line_run_fault.LineRunFault.{LineRunFault}
 use Rattle.run_scenario.specs.Faults.{fault_before, unplayed}
@@ -92,3 +93,23 @@ has_status_after view start input played ending same has = by ending.fault refl 
     by : (f : Option LineRunFault) → ending.fault ≡ f → IfNone f (ending ≡ played) → HasStatus view start input ending
     by None is same = subst (λ e. HasStatus view start input e) (sym same) has
     by (Some fault) is same = stopped view start ending fault is
+
+-- ---- of results
+
+module _ (view : RunView) (start : RunStart) {input : Option (List ℕ)} where
+  -- of a run
+  pub status_of_result : {told behind : List LineStep → List ℕ} {calls : Bool} {reports : List (List ℕ) → Type 0} {rest w w' : Option (List ℕ)} {failed : Bool} {B C D : Type 0} (r : Result ScenarioEnd BootFault) (before : Option LineRunFault) → ((turns : List LineStep) → has_no_line view turns ≡ false) →
+      IfOk r (λ ending. before ≡ None → IsRunFrom start told behind calls reports ending input rest failed w w') → IfOk r (λ ending. IfSome before (λ fault. (ending ≡ unplayed fault) × B × C × D)) → IfOk r (HasStatus view start input)
+  status_of_result (Ok ending) before silent runs stopped = has_status view start ending before silent runs stopped
+  status_of_result (Err fault) before silent runs stopped = tt
+
+  -- of a run of which more is known
+  pub status_of_more : {X : Type 0} {told : List LineStep → List ℕ} {behind : X → List LineStep → List ℕ} {also : X → Type 0} {calls : Bool} {reports : List (List ℕ) → Type 0} {rest w w' : Option (List ℕ)} {failed : Bool} {B C D : Type 0} (ending : ScenarioEnd) (before : Option LineRunFault) → ((turns : List LineStep) → has_no_line view turns ≡ false) →
+      (before ≡ None → (x : X) × (IsRunFrom start told (behind x) calls reports ending input rest failed w w' × also x)) → IfSome before (λ fault. (ending ≡ unplayed fault) × B × C × D) → HasStatus view start input ending
+  status_of_more ending None silent runs stopped = status_of_run view start silent (runs refl).1.0
+  status_of_more ending (Some fault) silent runs stopped = subst (λ e. HasStatus view start input e) (sym stopped.0) tt
+
+  -- of a run whose rows are printed after it
+  pub status_of_printed : (r : Result ScenarioEnd BootFault) (played : ScenarioEnd) → IfOk r (λ ending. IfNone ending.fault (ending ≡ played)) → HasStatus view start input played → IfOk r (HasStatus view start input)
+  status_of_printed (Ok ending) played same has = has_status_after view start input played ending same has
+  status_of_printed (Err fault) played same has = tt
