@@ -56,7 +56,7 @@ enum Container {
     Object(Option<String>),
 }
 
-// A text that is written anew.
+// A text that is written again.
 #[derive(Drop)]
 struct ValueWriter<'v> {
     values: &'v [MemberValue],

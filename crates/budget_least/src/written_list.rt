@@ -9,7 +9,7 @@ use budget_search::{AccountBudgets, BudgetChoice};
 use list_parser::{BootFault, StartList};
 use std::alloc::{AllocError, Global};
 
-/// The members of a start list that are written anew.
+/// The members of a start list that are written again.
 #[derive(Drop)]
 pub(crate) struct ListSizes {
     // The steps to each entry, in the order of the entries.
