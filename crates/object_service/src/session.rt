@@ -1,22 +1,20 @@
 //! A session of a declared server.
 
-use crate::kind::MOST_KINDS;
+use crate::counts::ObjectCounts;
 use arrayvec::ArrayVec;
 use core_calls::LONGEST_LABEL;
 use session_nodes::{NodeList, SessionBuffer};
 use sliced_heap::SlicedHeap;
 
-/// What a declared server stores for a session. Each object has a node. Its block has two words after the node: the bytes of
-/// a unit with the number of the kind times 65,536, and the units.
+/// What a declared server stores for a session. Each object has a node, and two words after it in the node's block: the
+/// number of the kind times 65,536 plus the bytes of a unit, and the units.
 #[derive(Drop)]
 pub struct ObjectSession {
     pub(crate) label: ArrayVec<u8, LONGEST_LABEL>,
-    /// The nodes of the objects in the order of creation.
+    /// The nodes of its objects in the order of creation.
     pub(crate) nodes: NodeList,
-    /// The number of objects.
-    pub(crate) all: u64,
-    /// The numbers of objects of each kind.
-    pub(crate) counts: [u64; MOST_KINDS],
+    /// The counters of its objects.
+    pub(crate) counts: ObjectCounts,
     /// The buffer that it shares with its client, if it has one.
     pub(crate) buffer: Option<SessionBuffer>,
 }
@@ -33,7 +31,7 @@ impl ObjectSession {
     ghost use Rattle.object_service.specs.Session.{value_of, IsSession};
 
     /// Creates a session without objects and without a buffer.
-    pub fn open(heap: SlicedHeap, label: &[u8]) -> ObjectSession
+    pub(crate) fn open(heap: SlicedHeap, label: &[u8]) -> ObjectSession
         requires { length label.now ≤ LONGEST_LABEL }
         ensures first { (kinds : List ObjectKind) (share : Share) → HasBlocksAlone share
             → value_of kinds result share ≡ record {
@@ -49,8 +47,7 @@ impl ObjectSession {
         ObjectSession {
             label: copy,
             nodes: NodeList::new(heap),
-            all: 0,
-            counts: [0; MOST_KINDS],
+            counts: ObjectCounts::new(),
             buffer: None,
         }
     }

@@ -106,7 +106,8 @@ impl SessionNeeds {
         let Some(account) = core.session_account(component, selector) else {
             return Ok(());
         };
-        let meter = SessionMeter::new(self.alloc, account);
+        let kinds = core.session_kinds(component, selector);
+        let meter = SessionMeter::new(self.alloc, account, kinds)?;
         let session = MeteredSession {
             earlier: self.count,
             need: meter.least(),
