@@ -1,12 +1,11 @@
-"""The systems of examples/genode: they become start lists by one command, and docs/howto/genode.md has their answers. They run on
-the program, if the one that is built knows declared servers."""
+"""The systems of examples/genode: they become start lists by one command, and docs/howto/genode.md has their answers. The
+program keeps their policies and gives the replies of their scenarios."""
 import json
-import os
 import re
 
 import pytest
 import start_list_reading
-from commands import EXAMPLES, TOP, Program, needs, tool
+from commands import EXAMPLES, needs, tool
 
 SYSTEMS, PORT, COSTS = ("desktop", "gateway", "pump"), tool("tools/from-genode"), EXAMPLES / "genode/costs.json"
 # From, to, and whether no label, some or all are routed.
@@ -16,7 +15,6 @@ ANSWERS = {
     "pump": [("control", "valve", "always"), ("display", "valve", "none"), ("display", "report_rom.ROM", "some")],
 }
 LABELS = ("", "a", "passwords", "letters", "saved", "acme", "globex", "dose", "lettersa", "agent -> passwords")
-ONE = {"name": "gui", "binary": "server", "quantum": "0", "caps": 0, "provides": ["Gui"], "kinds": []}
 pytestmark = needs("defusedxml")
 
 
@@ -26,19 +24,6 @@ def ported(folder, name):
         (folder / it).write_bytes((EXAMPLES / "genode" / it).read_bytes())
     PORT("--strict", "--costs", COSTS, "-o", folder / f"{name}.json", EXAMPLES / f"genode/{name}.xml").ok()
     return folder / f"{name}.json"
-
-
-@pytest.fixture
-def declared(tmp_path):
-    """Returns the built program, if it knows declared servers."""
-    program = Program(os.path.join(os.environ.get("PROGRAMS") or TOP / "crates/nethrywel/out", "nethrywel"))
-    if not os.access(program.path, os.X_OK):
-        pytest.skip("nethrywel isn't built")
-    (tmp_path / "one.json").write_text(json.dumps({"machine": {"pages": 16, "caps": 16}, "start": [ONE]}))
-    if "Unknown_binary" in program("check", tmp_path / "one.json").err:
-        pytest.skip("this program doesn't know declared servers")
-    (tmp_path / "one.json").unlink()
-    return program
 
 
 @pytest.mark.parametrize("name", SYSTEMS)
@@ -60,36 +45,36 @@ def test_answers_by_reading(tmp_path, name):
 
 
 @pytest.mark.parametrize("name", SYSTEMS)
-def test_program(declared, tmp_path, name):
+def test_program(nethrywel, tmp_path, name):
     """The program keeps the system's policy, and its replies are those of the scenario. Each command reads the list."""
     made, scenario = ported(tmp_path, name), tmp_path / f"{name}.scenario"
-    declared("test", "--strict", tmp_path).ok()
-    declared("check", "--policy", tmp_path / f"{name}.policy", made).ok()
-    declared("tree", made).ok()
-    declared("least", "--machine", made, scenario).ok()
-    declared("alone", "--all", "--summary", "--machine", made, scenario).ok()
-    assert declared("diff", made, made, scenario) == (0, "", "")
+    nethrywel("test", "--strict", tmp_path).ok()
+    nethrywel("check", "--policy", tmp_path / f"{name}.policy", made).ok()
+    nethrywel("tree", made).ok()
+    nethrywel("least", "--machine", made, scenario).ok()
+    nethrywel("alone", "--all", "--summary", "--machine", made, scenario).ok()
+    assert nethrywel("diff", made, made, scenario) == (0, "", "")
 
 
 @pytest.mark.parametrize("name", SYSTEMS)
-def test_answers(declared, tmp_path, name):
-    cells = json.loads(declared("reach", "--json", ported(tmp_path, name)).ok())
+def test_answers(nethrywel, tmp_path, name):
+    cells = json.loads(nethrywel("reach", "--json", ported(tmp_path, name)).ok())
     found = {(it["from"], it["to"]): it["reach"] for it in cells}
     assert [(*it[:2], found[it[:2]]) for it in ANSWERS[name]] == ANSWERS[name]
 
 
-def test_minimum(declared, tmp_path):
+def test_minimum(nethrywel, tmp_path):
     """What the gateway must donate: for each session its line, and of each interval RAM from, RAM below, and capabilities."""
     made = ported(tmp_path, "gateway")
-    rows = json.loads(declared("least", "--json", "--machine", made, tmp_path / "gateway.scenario").ok())
+    rows = json.loads(nethrywel("least", "--json", "--machine", made, tmp_path / "gateway.scenario").ok())
     rows = [it for it in rows if it.get("component") == "gateway.client" and it.get("session")]
     found = [(it["line"], it["ram_from"], it["ram_below"], it["caps_from"]) for it in rows]
     assert found == [(2, 233472, None, 5), (9, 12288, 20480, 4), (9, 24576, None, 4), (12, 8192, None, 3)]
 
 
-def test_grown_kind(declared, tmp_path):
+def test_grown_kind(nethrywel, tmp_path):
     """A kind whose objects grow is a change, and `diff` reports the line that falls short."""
     made, grown = ported(tmp_path, "desktop"), tmp_path / "grown.json"
     grown.write_text(re.sub(r'("kind": "surface", "block": 112, "bytes": )4', r"\g<1>8", made.read_text()))
-    ran = declared("diff", made, grown, tmp_path / "desktop.scenario")
+    ran = nethrywel("diff", made, grown, tmp_path / "desktop.scenario")
     assert ran.status == 4 and "OUT_OF_RAM" in ran.out
