@@ -172,13 +172,6 @@ module _ (kinds : List ObjectKind) (session : ObjectSession) (has : Stock) where
     pub count_done : (kind : ObjectKind) → kind_named name kinds ≡ Some kind → served_in kinds (CountKind name) session has ≡ counted (Some kind) (objects_in kinds session has) has.account
     count_done kind there = ap (λ o. counted o (objects_in kinds session has) has.account) there
 
--- ---- results
-
--- what is Ok after its error was mapped was Ok before
-pub was_ok : {T E D : Type 0} (self : Result T E) (mapped : Result T D) (x : T) (Q : E → Type 0) → MatchResult self (λ y. mapped ≡ Ok y) Q → is_ok mapped ≡ is_ok self → mapped ≡ Ok x → self ≡ Ok x
-was_ok (Ok y) mapped x Q cases variant is = let e : y ≡ x = cc in ap Ok e
-was_ok (Err e) mapped x Q cases variant is = absurd (true≢false (ap is_ok (sym is) ∙ variant))
-
 -- ---- NAME
 
 -- the object at a place, or that there are no more
