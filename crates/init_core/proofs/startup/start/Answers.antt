@@ -1,12 +1,10 @@
 -- One more entry has started, or isn't covered.
-use Rattle.std.proofs.Common.{rules, arith, ◌≡◌, ◌≢◌, ◌+◌, List, get_or, subst, sym, ap, ◌∙◌, IfErr, Option, Some, Result, Ok, Err}
+use Rattle.std.proofs.Common.{rules, ◌≡◌, ◌≢◌, ◌+◌, List, get_or, subst, sym, ap, ◌∙◌, IfErr, Option, Some, Result, Ok, Err}
 use Rattle.std.specs.Prelude.{IsErrAnd}
 use Rattle.trade_base.specs.declared.id.AccountId.{AccountId}
-use Rattle.std.proofs.lemmas.Grind.{common_steps}
 use Rattle.own_model.specs.Amounts.{Amounts}
 use Rattle.own_model.specs.Listed.{ListedEntry, reserve_by}
 use Rattle.own_model.specs.Reserve.{no_reserve}
-use Rattle.list_parser.specs.View.{model_binary}
 use Rattle.pd_core.specs.declared.component.Component.{Component}
 use Rattle.init_core.specs.Boot.{HasStarted}
 use Rattle.list_parser.specs.declared.fault.BootFault.{BootFault}
