@@ -1,6 +1,6 @@
 -- What the account doesn't cover is refused, and else the buffer is the session's.
-use Rattle.std.proofs.Common.{rules, ◌≡◌, ◌∙◌, Err, Some, None, true, false, refl, sym, ap, subst}
-use Rattle.std.specs.Prelude.{IfOk, OnErr}
+use Rattle.std.proofs.Common.{rules, ◌≡◌, ◌∙◌, Err, Some, None, refl, sym, ap, subst}
+use Rattle.std.specs.Prelude.{IfOk}
 use Rattle.std.specs.Option.{option_map}
 use Rattle.std.specs.Result.{result_err}
 use Rattle.own_model.specs.FileService.{error_of}
