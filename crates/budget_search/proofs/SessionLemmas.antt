@@ -2,16 +2,17 @@
 use Rattle.std.proofs.lemmas.List.{drop_all}
 use Rattle.std.proofs.lemmas.Option.{none-some, same_Some}
 use Rattle.std.proofs.Common.{arith, cond, ◌||◌, ◌≡◌, ℕ, ◌+◌, ◌<◌, ◌≤◌, Bool, true, false, List, [], ◌∷◌, length, drop, get_or, drop-cons, add-one, refl, sym, ap, ◌∙◌, subst, get_or-set_same, length-set}
-use Rattle.std.specs.Prelude.{Option, Some, None, is_some, slice_get, codes, IfOk, IfSome, OnOk, Result, Ok, Err}
+use Rattle.std.specs.Prelude.{Option, Some, None, is_some, slice_get, codes, IfOk, OnOk, Result, Ok, Err}
 use Rattle.std.specs.FinMap as map
 use Rattle.std.specs.FinMap.{get}
-use Rattle.std.specs.Option.{option_map}
+use Rattle.std.specs.Option.{option_and_then, option_map}
 use Rattle.std.specs.Str.{bytes_eq}
 use Rattle.own_model.proofs.NatMapLemmas.{get-empty}
 use Rattle.own_model.specs.Amounts.{Amounts}
 use Rattle.own_model.specs.Call.{Call}
 use Rattle.own_model.specs.Call.Call.{Open, Upgrade, CallSession, Close}
 use Rattle.own_model.specs.NatMap.{NatMap}
+use Rattle.own_model.specs.ObjectKinds.{ObjectKind}
 use Rattle.own_model.specs.OwnState.{OwnState, Object, NamedBuffer, bytes_of_buffer, new_selector, session_named}
 use Rattle.own_model.specs.OwnStep.{Outcome, upgraded_by, opened_by, own_step, entry_step, session_served, session_closed, session_upgraded, session_opened}
 use Rattle.own_model.specs.Reply.{reply_text}
@@ -22,7 +23,7 @@ use Rattle.own_model.specs.StartList.{Entry}
 use Rattle.own_model.specs.Transcript.{entry_at, state_at, nothing}
 use Rattle.own_model.specs.World.{World, outcome_at, with_state}
 use Rattle.pd_core.specs.Answer.{quotas_account}
-use Rattle.pd_core.specs.Sessions.{IsBuiltIn}
+use Rattle.object_kinds.specs.Offered.{offered_kinds}
 use Rattle.core_calls.specs.declared.quotas.Quotas.{Quotas}
 use Rattle.budget_meter.proofs.HeardLemmas.{there}
 use Rattle.budget_meter.proofs.SessionLemmas.{all_left, none_left}
@@ -361,15 +362,12 @@ none_told core place client entries result same kept entry is tells =
     ∙ tells (subst (λ es. place < length es) (sym kept) (subst (λ p. p < length entries) (sym same) entry))
     ∙ ap (λ p. option_map (λ (x : Session). x.account) (session_named (get (state_at core.states p).selectors 1))) same
 
--- the session is of a service that the machine has built in
-pub built_in_told : (core : World) (place client : ℕ) (entries : List Entry) (session : Session) → place ≡ client → core.entries ≡ entries → client < length entries →
-    HasSelectors core client (held session None) →
-    (place < length core.entries → IfSome (session_named (get (state_at core.states place).selectors 1)) (λ (s : Session). IsBuiltIn (offer_of s.state))) → IsBuiltIn (offer_of session.state)
-built_in_told core place client entries session same kept entry has tells =
-    let told =
-    subst (λ p. IfSome (session_named (get (state_at core.states p).selectors 1)) (λ (s : Session). IsBuiltIn (offer_of s.state))) same
-    (tells (subst (λ es. place < length es) (sym kept) (subst (λ p. p < length entries) (sym same) entry))) in
-    subst (λ o. IfSome o (λ (s : Session). IsBuiltIn (offer_of s.state))) (ap (λ m. session_named (get m 1)) has.selectors ∙ named_there session None) told
+-- and of the kinds that the session's server offers
+pub kinds_told : (core : World) (client : ℕ) (session : Session) → HasSelectors core client (held session None) → (result : Option (List ObjectKind)) →
+    (client < length core.entries → result ≡ option_and_then (λ (x : Session). offered_kinds (offer_of x.state)) (session_named (get (state_at core.states client).selectors 1))) →
+    result ≡ offered_kinds (offer_of session.state)
+kinds_told core client session has result tells =
+    tells has.entry ∙ ap (option_and_then (λ (x : Session). offered_kinds (offer_of x.state))) (ap (λ m. session_named (get m 1)) has.selectors ∙ named_there session None)
 
 pub no_arguments : (o : Option Arguments) → amount_tests None ≡ arguments_tests o → o ≡ None
 no_arguments None is = refl

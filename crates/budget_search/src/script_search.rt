@@ -13,7 +13,7 @@ use crate::trial::BudgetTrial;
 use budget_meter::Budget;
 use core_calls::Reply;
 use init_core::boot;
-use list_parser::{Binary, BootFault, ListEntry, StartList};
+use list_parser::{BootFault, ListEntry, StartList};
 use pd_core::Router;
 use std::alloc::Global;
 
@@ -53,7 +53,7 @@ impl ScriptSearch<'_> {
         ensures list { IfSome result (λ search. search.list.now ≡ list.now) }
     {
         let entry = &list.entries()[component];
-        if entry.binary() != Binary::Script {
+        if !entry.is_script() {
             return None;
         }
         Some(ScriptSearch {

@@ -7,11 +7,10 @@ ghost use Rattle.own_model.specs.Amounts.{Amounts};
 ghost use Rattle.own_model.specs.Call.Call.{CallSession, Upgrade};
 ghost use Rattle.own_model.specs.OwnState.{session_named};
 ghost use Rattle.own_model.specs.Reply.{reply_text};
-ghost use Rattle.own_model.specs.Session.{Session, Wish, new_session, offer_of, too_small as session_too_small};
+ghost use Rattle.own_model.specs.Session.{Session, Wish, new_session, too_small as session_too_small};
 ghost use Rattle.own_model.specs.Transcript.{entry_at, state_at};
 ghost use Rattle.own_model.specs.World.{outcome_at, with_state};
 ghost use Rattle.pd_core.specs.Answer.{quotas_account};
-ghost use Rattle.pd_core.specs.Sessions.{IsBuiltIn};
 ghost use Rattle.core_calls.specs.Call.{model_call, IsWellFormed};
 ghost use Rattle.budget_meter.specs.Needs.{amounts_of, shown_by, shown_in};
 ghost use Rattle.budget_meter.specs.SessionRuns.{Sent, opening_need, opened_needs, opened_in_want};
@@ -27,6 +26,7 @@ use crate::trial::{BudgetTrial, RefusedLine, Shortage};
 use budget_meter::{Budget, Meter, SessionMeter, named_by};
 use core_calls::{Answer, Call, FileError, Outcome, Quotas, Reply, ServiceOutcome};
 use list_parser::{BootFault, ConfigField};
+use object_kinds::ObjectKind;
 use pd_core::{Core, Router};
 use std::alloc::Global;
 use trade_base::Refusal;
@@ -97,8 +97,8 @@ impl SessionLines<'_> {
         }
     }
 
-    // Runs the session once it is opened, with this account. Its service is one that the machine has built in. Then the session
-    // is closed, so that the client has the donation again.
+    // Runs the session once it is opened, with this account. Then the session is closed, so that the client has the donation
+    // again.
     fn run<R: Router + Drop>(
         self,
         alloc: Global,
@@ -109,21 +109,20 @@ impl SessionLines<'_> {
         ensures entries { client.new.core.entries ≡ client.old.core.entries }
         ensures same { client.new.client ≡ client.old.client }
         ensures run { IfOk result (λ trial. (wish : Wish) →
-            IsBuiltIn (offer_of (new_session wish).state) →
             session_too_small wish.ram wish.caps ≡ None →
             quotas_account account ≡ (new_session wish).account →
             HasSelectors client.old.core client.old.client (held (new_session wish) None) →
             Shows (sent_at self.entry.steps.now self.entry.opened.now.steps.items) (new_session wish)
             (record { ram = wish.ram; caps = wish.caps }) (is_some trial.refused) trial.meter) }
         ensures ready { OnOk result ((wish : Wish) →
-            IsBuiltIn (offer_of (new_session wish).state) →
             session_too_small wish.ram wish.caps ≡ None →
             quotas_account account ≡ (new_session wish).account →
             HasSelectors client.old.core client.old.client (held (new_session wish) None) →
             IsReady client.new.core client.new.client) }
     {
+        let heard = SessionMeter::new(alloc, account, client.kinds())?;
         let mut run = SessionRun {
-            heard: SessionMeter::new(alloc, account),
+            heard,
             trial: BudgetTrial::new(alloc, donation),
         };
         client.go_through(&mut run, self.steps, self.opened.steps.as_slice())?;
@@ -182,9 +181,9 @@ pub(crate) struct SessionClient<R: Router + Drop> {
 }
 
 impl<R: Router + Drop> SessionClient<R> {
-    ghost use Rattle.std.specs.Prelude.{◌≡◌, ◌<◌, ℕ, List, None, Some, true, false, is_some, length, slice_get, IfOk, IfSome, OnOk};
+    ghost use Rattle.std.specs.Prelude.{◌≡◌, ◌<◌, ℕ, List, None, Some, true, false, is_some, length, slice_get, IfOk, OnOk};
     ghost use Rattle.std.specs.FinMap.{get};
-    ghost use Rattle.std.specs.Option.{option_map};
+    ghost use Rattle.std.specs.Option.{option_and_then, option_copied, option_map};
     ghost use Rattle.own_model.specs.Amounts.{Amounts};
     ghost use Rattle.own_model.specs.Call.Call.{CallSession, Upgrade};
     ghost use Rattle.own_model.specs.OwnState.{session_named};
@@ -193,7 +192,7 @@ impl<R: Router + Drop> SessionClient<R> {
     ghost use Rattle.own_model.specs.Transcript.{state_at};
     ghost use Rattle.own_model.specs.World.{outcome_at, with_state};
     ghost use Rattle.pd_core.specs.Answer.{quotas_account};
-    ghost use Rattle.pd_core.specs.Sessions.{IsBuiltIn};
+    ghost use Rattle.object_kinds.specs.Offered.{offered_kinds};
     ghost use Rattle.core_calls.specs.Call.{model_call, IsWellFormed};
     ghost use Rattle.budget_meter.specs.SessionRuns.{Sent};
     ghost use Rattle.budget_search.specs.OpenedSessions.{HasEnded, HasLeft, sends, sent_at, sent_by};
@@ -213,17 +212,26 @@ impl<R: Router + Drop> SessionClient<R> {
 
     // The session's account, while it is open.
     fn account(&self) -> Option<Quotas>
-        ensures account { self.now.client < length self.now.core.entries →
+        ensures { self.now.client < length self.now.core.entries →
             option_map quotas_account result ≡ option_map (λ (s : Session). s.account)
             (session_named (get (state_at self.now.core.states self.now.client).selectors 1)) }
-        ensures service { self.now.client < length self.now.core.entries → IfSome
-            (session_named (get (state_at self.now.core.states self.now.client).selectors 1))
-            (λ s. IsBuiltIn (offer_of s.state)) }
     {
         if self.client >= self.core.count() {
             return None;
         }
         self.core.session_account(self.client, FIRST)
+    }
+
+    // The kinds of objects that the session's server offers, while the session is open.
+    fn kinds(&self) -> Option<&[ObjectKind]>
+        ensures { self.now.client < length self.now.core.entries →
+            option_copied result ≡ option_and_then (λ (s : Session). offered_kinds (offer_of s.state))
+            (session_named (get (state_at self.now.core.states self.now.client).selectors 1)) }
+    {
+        if self.client >= self.core.count() {
+            return None;
+        }
+        self.core.session_kinds(self.client, FIRST)
     }
 
     // Makes a call, if the client is there.

@@ -139,7 +139,7 @@ fn add_cells<'a>(
 fn add_cell<'a>(
     listing: &mut Listing,
     list: &'a StartList,
-    cell: &'a ReachCell,
+    cell: &'a ReachCell<'a>,
     labels: &'a ObjectList,
 ) -> Result<(), AllocError> {
     let entries = list.entries();
@@ -151,7 +151,7 @@ fn add_cell<'a>(
         };
         listing.add(&[
             ("from", JsonField::Text(client.path())),
-            ("service", JsonField::Word(cell.service)),
+            ("service", JsonField::Text(cell.service.as_bytes())),
             ("to", JsonField::Text(server.path())),
             ("reach", JsonField::Word(reach)),
             ("label", label),
@@ -163,7 +163,7 @@ fn add_cell<'a>(
 }
 
 // Returns one of the shortest labels of a cell, if there is a label.
-fn witness_of(cell: &ReachCell) -> JsonField<'_> {
+fn witness_of<'a>(cell: &'a ReachCell<'_>) -> JsonField<'a> {
     match cell.witness() {
         Some(label) => JsonField::Text(label),
         None => JsonField::Nothing,

@@ -82,6 +82,13 @@ Requests of a File_system session:
   PUT F O B LEN        Write LEN bytes at B of the buffer at offset O of the file
   GET F O B LEN        Read up to LEN bytes at offset O into B of the buffer
 HEX is hexadecimal digits, or \"text\" as the last argument of WRITE.
+Requests of a session of a server that declares its service and its kinds:
+  MAKE KIND F          Create an object of a kind, with 0 units
+  RESIZE F N           Give the object N units
+  DROP F               Remove the object
+  COUNT, COUNT KIND    Return the number of objects, or of those of a kind
+  NAME I               Return kind, name and units of object I, from 0
+  STAT, BUFFER N, UNBUFFER   as of a File_system session
 
 Expected replies:
   granted              any reply except a refusal and ERR ..
@@ -189,7 +196,7 @@ pub(crate) const TO: &str = "Show only servers of this path, with each route";
 
 pub(crate) const CLIENT: &str = "The path of the script that requests the session";
 
-pub(crate) const SERVICE: &str = "The service: LOG or File_system";
+pub(crate) const SERVICE: &str = "The service: LOG, File_system or a declared one";
 
 pub(crate) const ARGS: &str = "The session's arguments; without them the label is empty";
 

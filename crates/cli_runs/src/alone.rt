@@ -10,7 +10,6 @@ use cli_base::{
     watched_reader,
 };
 use cli_options::AloneOptions;
-use init_core::Binary;
 use line_rounds::UnfoldedText;
 use run_scenario::ScenarioInput;
 use std::io;
@@ -97,7 +96,7 @@ fn tell_each<'a>(
     let mut status = 0;
     let mut complained = false;
     for entry in machine.list().entries() {
-        if entry.binary() == Binary::Script {
+        if entry.is_script() {
             let one = One {
                 machine,
                 name: entry.path(),

@@ -1,3 +1,4 @@
+mod BinaryLemmas
 mod AccessLemmas
 mod BreachLemmas
 mod NewBreachLemmas

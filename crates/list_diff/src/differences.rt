@@ -7,7 +7,8 @@ use crate::need_changes::NeedChange;
 use crate::policy_breaches::BreachChange;
 use crate::reach_changes::ReachChange;
 use crate::reply_changes::ReplyChange;
-use list_parser::{ListEntry, StartList};
+use list_parser::{Binary, ListEntry, StartList};
+use object_kinds::ObjectKind;
 use std::alloc::{AllocError, Global};
 use std::fmt::{self, Display};
 
@@ -126,7 +127,7 @@ fn show_entry<W: fmt::Write>(
     }
 }
 
-// The binary of an entry, its budget, its reserve, and whether it provides its service.
+// The binary of an entry, its budget, its reserve, whether it provides its service, and the kinds that it declares.
 fn show_means<W: fmt::Write>(f: &mut fmt::Formatter<W>, entry: &ListEntry) -> fmt::Result {
     let binary = entry.binary();
     write!(
@@ -144,8 +145,31 @@ fn show_means<W: fmt::Write>(f: &mut fmt::Formatter<W>, entry: &ListEntry) -> fm
         )?;
     }
     match binary.service() {
-        Some(service) if entry.provides() => write!(f, ", provides {}", service.name()),
-        Some(_) => f.write_str(", provides nothing"),
-        None => Ok(()),
+        Some(service) if entry.provides() => write!(f, ", provides {service}")?,
+        Some(_) => f.write_str(", provides nothing")?,
+        None => (),
     }
+    match binary {
+        Binary::Declared(service) => show_kinds(f, service.kinds()),
+        Binary::Script | Binary::Server(_) | Binary::Init => Ok(()),
+    }
+}
+
+// The kinds of a server, each with the bytes of a block and of a unit.
+fn show_kinds<W: fmt::Write>(f: &mut fmt::Formatter<W>, kinds: &[ObjectKind]) -> fmt::Result {
+    if kinds.is_empty() {
+        return f.write_str(", no kinds");
+    }
+    let mut parted = ", kinds ";
+    for kind in kinds {
+        write!(
+            f,
+            "{parted}{} ({} bytes, {} a unit)",
+            kind.name(),
+            kind.block(),
+            kind.bytes()
+        )?;
+        parted = ", ";
+    }
+    Ok(())
 }

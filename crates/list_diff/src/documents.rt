@@ -1,27 +1,30 @@
 //! Differences as documents for programs.
 use crate::differences::ListDifferences;
 use crate::entry_changes::EntryChange;
-use list_parser::{ListEntry, StartList};
+use list_parser::{Binary, ListEntry, StartList};
+use object_kinds::ObjectKind;
 use std::alloc::{AllocError, Global};
-use view_json::{JsonField, JsonMember, Listing};
+use view_json::{JsonField, JsonMember, Listing, ObjectList, ObjectListBuilder};
 
-/// The members for an entry's binary, budget, reserve and service: of an entry after, and of an entry before.
-static MEANS: [&str; 6] = [
+/// The members for an entry's binary, budget, reserve, service and kinds: of an entry after, and of an entry before.
+static MEANS: [&str; 7] = [
     "binary",
     "ram",
     "caps",
     "reserve_ram",
     "reserve_caps",
     "provides",
+    "kinds",
 ];
 
-static WERE: [&str; 6] = [
+static WERE: [&str; 7] = [
     "was_binary",
     "was_ram",
     "was_caps",
     "was_reserve_ram",
     "was_reserve_caps",
     "was_provides",
+    "was_kinds",
 ];
 
 impl ListDifferences<'_> {
@@ -66,8 +69,9 @@ impl ListDifferences<'_> {
             ("kind", JsonField::Word("entry")),
             ("change", JsonField::Word(sign)),
         ]?;
-        let members = with_entry(members, &WERE, was)?;
-        let members = with_entry(members, &MEANS, now)?;
+        let (kinds_before, kinds) = (kinds_of(alloc, was)?, kinds_of(alloc, now)?);
+        let members = with_entry(members, &WERE, was, kinds_before.as_ref())?;
+        let members = with_entry(members, &MEANS, now, kinds.as_ref())?;
         listing.add(members.as_slice())
     }
 }
@@ -84,11 +88,12 @@ fn add_machine(listing: &mut Listing, was: &StartList, now: &StartList) -> Resul
     ])
 }
 
-// The members followed by the name of an entry, if there is one, and by its budget, under these names.
+// The members followed by the name of an entry, if there is one, by its budget and by its kinds, under these names.
 fn with_entry<'a>(
     mut members: Vec<JsonMember<'a>>,
-    names: &'static [&'static str; 6],
+    names: &'static [&'static str; 7],
     entry: Option<&'a ListEntry>,
+    kinds: Option<&'a ObjectList>,
 ) -> Result<Vec<JsonMember<'a>>, AllocError> {
     let Some(entry) = entry else {
         return Ok(members);
@@ -106,11 +111,38 @@ fn with_entry<'a>(
     }
     if let Some(service) = binary.service() {
         let provided = if entry.provides() {
-            JsonField::Word(service.name())
+            JsonField::Text(service.as_bytes())
         } else {
             JsonField::Nothing
         };
         members.push((names[5], provided))?;
     }
+    if let Some(kinds) = kinds {
+        members.push((names[6], JsonField::List(kinds)))?;
+    }
     Ok(members)
+}
+
+// An object for each kind that an entry declares, or none if it declares no service.
+fn kinds_of(alloc: Global, entry: Option<&ListEntry>) -> Result<Option<ObjectList>, AllocError> {
+    let Some(entry) = entry else {
+        return Ok(None);
+    };
+    match entry.binary() {
+        Binary::Declared(service) => Ok(Some(kind_documents(alloc, service.kinds())?)),
+        Binary::Script | Binary::Server(_) | Binary::Init => Ok(None),
+    }
+}
+
+// An object for each of these kinds.
+fn kind_documents(alloc: Global, kinds: &[ObjectKind]) -> Result<ObjectList, AllocError> {
+    let mut list = ObjectListBuilder::new(alloc);
+    for kind in kinds {
+        list.add(&[
+            ("kind", JsonField::Text(kind.name().as_bytes())),
+            ("block", JsonField::Number(u64::from(kind.block()))),
+            ("bytes", JsonField::Number(u64::from(kind.bytes()))),
+        ])?;
+    }
+    Ok(list.into_list())
 }

@@ -50,6 +50,13 @@ impl ObjectService {
     {
         ObjectService { kinds }
     }
+
+    /// Returns the kinds that the service offers.
+    pub fn kinds(&self) -> &[ObjectKind]
+        ensures { result.now ≡ self.now }
+    {
+        self.kinds.as_slice()
+    }
 }
 
 impl Service for ObjectService {

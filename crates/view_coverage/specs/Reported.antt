@@ -1,5 +1,5 @@
 -- The coverage of all scenarios.
-use Rattle.std.specs.Prelude.{ℕ, ◌==◌, ◌&&◌, ◌*◌, ◌+◌, Bool, true, false, List, [], ◌∷◌, ◌++◌, if◌then◌else◌, length, map, nat_lt, position, String, string_bytes, Option, Some, None}
+use Rattle.std.specs.Prelude.{ℕ, ◌==◌, ◌&&◌, ◌*◌, ◌+◌, Bool, true, false, List, [], ◌∷◌, ◌++◌, if◌then◌else◌, length, map, nat_lt, not, position, String, string_bytes, Option, Some, None}
 use Rattle.std.specs.Global.{Global}
 use Rattle.std.specs.List.{list_any, slice_get}
 use Rattle.std.specs.Option.{option_and_then, option_map, unwrap_or}
@@ -35,6 +35,11 @@ is_event_of_list (Requested asked) = true
 
 abbrev pub is_of_list : CoverageRow → Bool
 is_of_list row = is_event_of_list row.event
+
+-- the row at a place is of a table, and is met in a scenario
+abbrev pub is_met_on_table : CoverageSheet → ℕ → Bool
+is_met_on_table sheet place =
+    unwrap_or (option_map (λ (row : CoverageRow). row.met && not (is_of_list row)) (slice_get sheet.rows.items place)) false
 
 -- a part of a start list by numbers: the place of the start list, and that of the row
 abbrev pub numbers_of : CoveragePart → ℕ × ℕ

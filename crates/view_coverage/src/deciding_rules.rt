@@ -3,15 +3,17 @@ ghost use Rattle.std.specs.Prelude.{◌≡◌, ◌∷◌, ◌++◌, ◌<◌, ◌
 ghost use Rattle.std.specs.List.{slice_get};
 ghost use Rattle.std.specs.Option.{option_and_then, option_map};
 ghost use Rattle.core_calls.specs.Call.{model_call};
+ghost use Rattle.own_model.specs.Listed.{services_of};
 ghost use Rattle.own_model.specs.Session.{given};
+ghost use Rattle.view_coverage.specs.Covered.{asked_in, service_number};
 ghost use Rattle.view_coverage.specs.Rules.{default_of, init_of, init_place, is_turned_away, request_by, request_of, route_by, route_for, rule_in, rules_from, rules_of_request};
 ghost use Rattle.view_coverage.specs.Views.{request_view};
 
-use crate::event::{RouteOwner, RulePlace, is_refused};
+use crate::event::{RouteOwner, RulePlace, ScriptService, is_refused};
 use core_calls::{Answer, Call};
 use list_labels::RouteStep;
 use list_parser::{ListEntry, StartList};
-use list_reach::RoutePath;
+use list_reach::{RoutePath, service_name};
 use session_proto::SessionArgs;
 use std::alloc::{AllocError, Global};
 use trade_base::Refusal;
@@ -78,6 +80,36 @@ fn request_by<'a>(list: &StartList, name: &[u8], call: Call<'a>) -> Option<Sessi
         }),
         None => None,
     }
+}
+
+/// Returns the script and the service of a session request, if there is one and the list has the service.
+pub(crate) fn asked_in(
+    list: &StartList,
+    request: Option<SessionRequest<'_>>,
+) -> Option<ScriptService>
+    ensures { result ≡ asked_in list.now (option_map request_view request.entry) }
+{
+    let request = request?;
+    match service_number(list, request.service) {
+        Some(service) => Some(ScriptService {
+            client: request.client,
+            service,
+        }),
+        None => None,
+    }
+}
+
+// Returns the number of a service of a list, given by its name, if the list has the service.
+fn service_number(list: &StartList, name: &[u8]) -> Option<usize>
+    ensures { result
+        ≡ service_number name.now 0 (services_of list.now.entries) }
+{
+    for number in 0..list.service_count() {
+        if service_name(list, number).as_bytes() == name {
+            return Some(number);
+        }
+    }
+    None
 }
 
 /// Returns the rules that decide a session request, if there is one, list by list outward. Fails if the host is out of memory.

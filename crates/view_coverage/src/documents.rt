@@ -46,7 +46,7 @@ impl CoverageReport {
                 ("kind", JsonField::Word("session")),
                 list,
                 ("script", JsonField::Text(path.as_bytes())),
-                ("service", JsonField::Word(service.name())),
+                ("service", JsonField::Text(service.as_bytes())),
                 scenarios,
             ]),
         }
@@ -112,7 +112,7 @@ impl CoverageReport {
                 scenario,
                 list,
                 ("script", JsonField::Text(script.as_bytes())),
-                ("service", JsonField::Word(service.name())),
+                ("service", JsonField::Text(service.as_bytes())),
             ]),
         }
     }
@@ -154,7 +154,7 @@ fn members_of<'a>(row: &CoverageRow) -> [CoverageMember<'a>; 3] {
             [
                 ("kind", JsonField::Word("session")),
                 ("client", JsonField::Number(asked.client as u64)),
-                ("service", JsonField::Word(asked.service.name())),
+                ("service", JsonField::Number(asked.service as u64)),
             ]
         }
     }

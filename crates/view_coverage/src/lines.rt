@@ -4,7 +4,8 @@ use crate::report::{CoverageReport, CoverageSheet, PartKind, PartName, tables_of
 use crate::row::CoverageRow;
 use std::fmt;
 
-/// Writes a refusal after the form of its calls, or an error after the form of its requests.
+/// Writes a refusal after the form of its calls, or an error after the form of its requests. A rule and a service have their
+/// numbers.
 impl fmt::Display for CoverageRow {
     fn fmt<W: fmt::Write>(&self, f: &mut fmt::Formatter<W>) -> fmt::Result {
         match self.event {
@@ -21,7 +22,7 @@ impl fmt::Display for CoverageRow {
                 error.name()
             ),
             CoverageEvent::Decided(rule) => write!(f, "rule {}", rule.place),
-            CoverageEvent::Requested(asked) => f.write_str(asked.service.name()),
+            CoverageEvent::Requested(asked) => write!(f, "service {}", asked.service),
         }
     }
 }
@@ -31,7 +32,7 @@ impl fmt::Display for PartName {
     fn fmt<W: fmt::Write>(&self, f: &mut fmt::Formatter<W>) -> fmt::Result {
         match self {
             PartName::Rule(name) => f.write_str(name.as_str()),
-            PartName::Request(path, service) => write!(f, "{} {}", path.as_str(), service.name()),
+            PartName::Request(path, service) => write!(f, "{} {}", path.as_str(), service.as_str()),
         }
     }
 }

@@ -1,14 +1,14 @@
 //! The coverage of all scenarios: which rules decide a session request, which script requests which service, and which refusals
 //! and errors are met, in total and by file.
 ghost use Rattle.std.specs.Prelude.{◌≡◌, ◌&&◌, ◌==◌, ◌++◌, ◌∷◌, [], count_by, if◌then◌else◌, is_some, length, map, string_bytes, IfOk, IfSome, OnOk, Some};
-ghost use Rattle.view_coverage.specs.Reported.{if_new, is_covered, is_event_of_list, is_met_in, is_of_list, list_at, list_of_scenario, numbers_of, parts_from, parts_in, parts_with, paths_in, paths_with, place_of, rows_in};
+ghost use Rattle.view_coverage.specs.Reported.{if_new, is_covered, is_event_of_list, is_met_in, is_met_on_table, is_of_list, list_at, list_of_scenario, numbers_of, parts_from, parts_in, parts_with, paths_in, paths_with, place_of, rows_in};
 
 use crate::event::{CoverageEvent, RouteOwner, RulePlace, ScriptService};
 use crate::row::CoverageRow;
 use crate::scenario_coverage::Coverage;
 use list_parser::StartList;
+use list_reach::service_name;
 use std::alloc::{AllocError, Global};
-use trade_base::Service;
 
 /// A report on the coverage of the scenarios of some files.
 #[derive(Drop)]
@@ -70,8 +70,8 @@ impl CoveragePart {
 pub(crate) enum PartName {
     /// A rule, by its place in its route and the owner of the route.
     Rule(String),
-    /// The session requests of the script with this path for a service.
-    Request(String, Service),
+    /// The session requests of the script with the first path for the service with the second name.
+    Request(String, String),
 }
 
 /// The number of rules and session requests of all start lists, and the number of those that scenarios cover.
@@ -174,17 +174,22 @@ impl CoverageReport {
         Ok(place)
     }
 
-    /// Returns the rows of both tables of the first scenario; their events are the same for each scenario.
+    /// Returns the rows of both tables. Their events are the same for each scenario, except that only the machines with declared
+    /// servers have the last ones, which are of requests to these: so the most rows of a scenario are returned.
     pub(crate) fn tables(&self) -> &[CoverageRow] {
-        match self.sheets.as_slice().first() {
-            Some(sheet) => tables_of(sheet.rows.as_slice()),
-            None => &[],
+        let mut most: &[CoverageRow] = &[];
+        for sheet in self.sheets.as_slice() {
+            let rows = tables_of(sheet.rows.as_slice());
+            if rows.len() > most.len() {
+                most = rows;
+            }
         }
+        most
     }
 
     /// Returns how many scenarios meet the row at a place of the tables.
     pub(crate) fn times(&self, place: usize) -> usize
-        ensures { result ≡ count_by (λ sheet. is_met_in sheet place) self.now.sheets.items }
+        ensures { result ≡ count_by (λ sheet. is_met_on_table sheet place) self.now.sheets.items }
     {
         times_in(self.sheets.as_slice(), place)
     }
@@ -200,7 +205,7 @@ impl CoverageReport {
 
 impl CoverageSheet {
     ghost use Rattle.std.specs.Prelude.{◌≡◌};
-    ghost use Rattle.view_coverage.specs.Reported.{is_met_in};
+    ghost use Rattle.view_coverage.specs.Reported.{is_met_in, is_met_on_table};
 
     /// Returns whether the scenario meets the row at a place.
     pub(crate) fn meets(&self, place: usize) -> bool
@@ -208,6 +213,16 @@ impl CoverageSheet {
     {
         match self.rows.get(place) {
             Some(row) => row.met,
+            None => false,
+        }
+    }
+
+    /// Returns whether the row at a place is of a table, and the scenario meets the row.
+    pub(crate) fn meets_on_table(&self, place: usize) -> bool
+        ensures { result ≡ is_met_on_table self.now place }
+    {
+        match self.rows.get(place) {
+            Some(row) => row.met && !row.is_of_list(),
             None => false,
         }
     }
@@ -227,11 +242,14 @@ fn covered_in(sheets: &[CoverageSheet], parts: &[CoveragePart]) -> usize
     parts.iter().filter(|part| part.is_covered(sheets)).count()
 }
 
-// The number of these scenarios that meet the row at a place.
+// The number of these scenarios that meet the row at a place of the tables.
 fn times_in(sheets: &[CoverageSheet], place: usize) -> usize
-    ensures { result ≡ count_by (λ sheet. is_met_in sheet place) sheets.now }
+    ensures { result ≡ count_by (λ sheet. is_met_on_table sheet place) sheets.now }
 {
-    sheets.iter().filter(|sheet| sheet.meets(place)).count()
+    sheets
+        .iter()
+        .filter(|sheet| sheet.meets_on_table(place))
+        .count()
 }
 
 // The same for the scenarios of a start list.
@@ -309,7 +327,8 @@ fn part_name(
         }
         CoverageEvent::Requested(asked) => {
             let path = script_path(alloc, list, asked)?;
-            Ok(Some(PartName::Request(path, asked.service)))
+            let service = asked_service(alloc, list, asked)?;
+            Ok(Some(PartName::Request(path, service)))
         }
     }
 }
@@ -323,6 +342,19 @@ fn script_path(
     match list.entries().get(asked.client) {
         Some(entry) => format!(in alloc; "{}", entry.to_path()),
         None => Ok(String::new(alloc)),
+    }
+}
+
+// Returns the name of a service.
+fn asked_service(
+    alloc: Global,
+    list: &StartList,
+    asked: ScriptService,
+) -> Result<String, AllocError> {
+    if asked.service < list.service_count() {
+        String::from_str(alloc, service_name(list, asked.service))
+    } else {
+        Ok(String::new(alloc))
     }
 }
 

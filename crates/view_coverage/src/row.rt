@@ -1,12 +1,9 @@
 //! Rows of coverage: events, and whether each is met.
 ghost use Rattle.std.specs.Prelude.{◌≡◌, map};
 ghost use Rattle.std.specs.List.{list_any};
-ghost use Rattle.std.specs.Option.{option_map};
 ghost use Rattle.view_coverage.specs.Covered.{evidence_in, has_rule, is_request, row_with, shown_with};
-ghost use Rattle.view_coverage.specs.Views.{request_view};
 
 use crate::call_forms::CoverageCall;
-use crate::deciding_rules::SessionRequest;
 use crate::event::{CoverageEvent, RulePlace, ScriptService, is_error, is_refused};
 use core_calls::Answer;
 
@@ -33,13 +30,13 @@ impl CoverageRow {
 }
 
 /// The evidence of an answered line: its reply, and the rules that decided its session request. It has the form of the call, the
-/// first word of the request and the session request, if the line has these.
+/// first word of the request, and the script and the service of the session request, if the line has these.
 #[derive(Clone, Copy)]
 pub(crate) struct CallEvidence<'a, 'b> {
     pub form: Option<CoverageCall>,
     pub word: Option<&'a [u8]>,
     pub answer: Answer<'a>,
-    pub request: Option<SessionRequest<'a>>,
+    pub asked: Option<ScriptService>,
     pub rules: &'b [RulePlace],
 }
 
@@ -58,7 +55,7 @@ impl CallEvidence<'_, '_> {
             CoverageEvent::Failed(asked, error) => asked.is_in(self.word)
                 && is_error(self.answer, error),
             CoverageEvent::Decided(rule) => has_rule(self.rules, rule),
-            CoverageEvent::Requested(asked) => is_request(asked, self.request),
+            CoverageEvent::Requested(asked) => is_request(asked, self.asked),
         }
     }
 
@@ -82,14 +79,12 @@ impl CallEvidence<'_, '_> {
     }
 }
 
-// Returns whether a session request is one of a script for a service.
-fn is_request(asked: ScriptService, request: Option<SessionRequest<'_>>) -> bool
-    ensures { result ≡ is_request asked (option_map request_view request.entry) }
+// Returns whether the script and the service of a session request, if there is one, are these.
+fn is_request(asked: ScriptService, request: Option<ScriptService>) -> bool
+    ensures { result ≡ is_request asked request }
 {
     match request {
-        Some(request) => {
-            asked.client == request.client && request.service == asked.service.name().as_bytes()
-        }
+        Some(request) => asked.client == request.client && asked.service == request.service,
         None => false,
     }
 }

@@ -4,7 +4,7 @@ ghost use Rattle.core_calls.specs.Call.{model_call};
 ghost use Rattle.view_coverage.specs.Covered.{answer_of, evidence_of, row_by, row_with, rows_after, rows_of};
 
 use crate::call_forms::form_of;
-use crate::deciding_rules::{request_of, rules_of_request};
+use crate::deciding_rules::{asked_in, request_of, rules_of_request};
 use crate::request_forms::request_word;
 use crate::row::{CallEvidence, CoverageRow};
 use crate::table::rows_of;
@@ -70,7 +70,7 @@ fn note(
                 form: None,
                 word: None,
                 answer,
-                request: None,
+                asked: None,
                 rules: &[],
             };
             answered.note(rows);
@@ -98,7 +98,7 @@ fn note_call(
         form: form_of(call),
         word: request_word(call),
         answer,
-        request,
+        asked: asked_in(list, request),
         rules: rules.as_slice(),
     };
     answered.note(rows);

@@ -1,27 +1,30 @@
 //! The rows of a machine, none of them met.
 ghost use Rattle.std.specs.Prelude.{◌≡◌, ◌++◌, length, map, OnOk, IfOk};
 ghost use Rattle.std.specs.List.{flat_map};
-ghost use Rattle.view_coverage.specs.Covered.{error_rows, is_provided, refusal_rows, route_rows, rows_of, rows_of_entries, rows_of_entry, script_rows, scripts_rows, service_rows, unmet};
+ghost use Rattle.own_model.specs.Listed.{services_of};
+ghost use Rattle.view_coverage.specs.Covered.{error_rows, is_provided, object_rows, refusal_rows, route_rows, rows_of, rows_of_entries, rows_of_entry, script_rows, scripts_rows, service_rows, services_rows, unmet};
 
 use crate::call_forms::{CoverageCall, FORMS};
 use crate::event::{CoverageEvent, RouteOwner, RulePlace, ScriptService};
-use crate::request_forms::{CoverageRequest, REQUESTS};
+use crate::request_forms::{CoverageRequest, OBJECT_REQUESTS, REQUESTS};
 use crate::row::CoverageRow;
-use list_parser::{Binary, ListEntry, StartList};
+use list_parser::{ListEntry, StartList};
+use list_reach::service_name;
 use std::alloc::{AllocError, Global};
-use trade_base::{SERVICES, Service};
+use trade_base::SERVICES;
 
 /// Returns the rows of a machine: of the table of calls, of the table of requests, of each rule of its start list, and of each
-/// script by service. Fails if the host is out of memory.
+/// script by service. A machine without declared servers has no rows of the requests that their sessions alone have. Fails if the host is out of memory.
 pub(crate) fn rows_of(alloc: Global, list: &StartList) -> Result<Vec<CoverageRow>, AllocError>
     ensures { IfOk result (λ rows. rows.items ≡ rows_of list.now) }
 {
     let mut rows = Vec::new(alloc);
     add_calls(&mut rows, &FORMS)?;
     add_requests(&mut rows, &REQUESTS)?;
+    add_object_requests(&mut rows, list)?;
     add_rules(&mut rows, RouteOwner::Machine, list.default_route().len())?;
     add_entries(&mut rows, list.entries())?;
-    add_scripts(&mut rows, list.entries())?;
+    add_scripts(&mut rows, list)?;
     Ok(rows)
 }
 
@@ -50,6 +53,17 @@ fn add_requests(rows: &mut Vec<CoverageRow>, requests: &[CoverageRequest]) -> Re
         add_errors(rows, *asked)?;
     }
     Ok(())
+}
+
+// Adds the errors of requests that sessions of declared servers alone have, if the list declares a service.
+fn add_object_requests(rows: &mut Vec<CoverageRow>, list: &StartList) -> Result<(), AllocError>
+    ensures { OnOk result (rows.new.items ≡ rows.old.items ++ object_rows list.now.entries) }
+{
+    if list.service_count() > SERVICES.len() {
+        add_requests(rows, &OBJECT_REQUESTS)
+    } else {
+        Ok(())
+    }
 }
 
 // Adds the refusals of calls of a form.
@@ -107,12 +121,13 @@ fn add_entry(
 }
 
 // Adds the session requests of scripts.
-fn add_scripts(rows: &mut Vec<CoverageRow>, entries: &[ListEntry]) -> Result<(), AllocError>
+fn add_scripts(rows: &mut Vec<CoverageRow>, list: &StartList) -> Result<(), AllocError>
     ensures { OnOk result
-        (rows.new.items ≡ rows.old.items ++ scripts_rows entries.now 0 entries.now) }
+        (rows.new.items ≡ rows.old.items ++ scripts_rows list.now.entries 0 list.now.entries) }
 {
+    let entries = list.entries();
     for number in 0..entries.len() {
-        add_script(rows, entries, number, &entries[number])?;
+        add_script(rows, list, number, &entries[number])?;
     }
     Ok(())
 }
@@ -120,57 +135,56 @@ fn add_scripts(rows: &mut Vec<CoverageRow>, entries: &[ListEntry]) -> Result<(),
 // Adds the session requests of an entry: of a script one for each service that is provided.
 fn add_script(
     rows: &mut Vec<CoverageRow>,
-    entries: &[ListEntry],
+    list: &StartList,
     number: usize,
     entry: &ListEntry,
 ) -> Result<(), AllocError>
     ensures { OnOk result
-        (rows.new.items ≡ rows.old.items ++ script_rows entries.now number entry.now) }
+        (rows.new.items ≡ rows.old.items ++ script_rows list.now.entries number entry.now) }
 {
-    match entry.binary() {
-        Binary::Script => add_services(rows, entries, number, &SERVICES),
-        Binary::Server(_) => Ok(()),
-        Binary::Init => Ok(()),
+    if entry.is_script() {
+        add_services(rows, list, number)
+    } else {
+        Ok(())
     }
 }
 
-// Adds the session requests of a script, one for each of these services that is provided.
+// Adds the session requests of a script, one for each service of the list that is provided.
 fn add_services(
     rows: &mut Vec<CoverageRow>,
-    entries: &[ListEntry],
+    list: &StartList,
     client: usize,
-    services: &[Service],
 ) -> Result<(), AllocError>
-    ensures { OnOk result
-        (rows.new.items ≡ rows.old.items ++ flat_map (service_rows entries.now client) services.now) }
+    ensures { OnOk result (rows.new.items ≡ rows.old.items
+        ++ services_rows list.now.entries client 0 (services_of list.now.entries)) }
 {
-    for service in services {
-        add_service(rows, entries, client, *service)?;
+    for service in 0..list.service_count() {
+        let name = service_name(list, service);
+        add_service(rows, list.entries(), ScriptService { client, service }, name)?;
     }
     Ok(())
 }
 
-// Adds the session requests of a script for a service, if the service is provided.
+// Adds the session requests of a script for a service of this name, if the service is provided.
 fn add_service(
     rows: &mut Vec<CoverageRow>,
     entries: &[ListEntry],
-    client: usize,
-    service: Service,
+    asked: ScriptService,
+    name: &str,
 ) -> Result<(), AllocError>
-    ensures { OnOk result
-        (rows.new.items ≡ rows.old.items ++ service_rows entries.now client service) }
+    ensures { OnOk result (rows.new.items ≡ rows.old.items
+        ++ service_rows entries.now asked.client asked.service name.now) }
 {
-    if is_provided(entries, service) {
-        let asked = ScriptService { client, service };
+    if is_provided(entries, name) {
         rows.push(unmet(CoverageEvent::Requested(asked)))?;
     }
     Ok(())
 }
 
 // Returns whether an entry provides a service.
-fn is_provided(entries: &[ListEntry], service: Service) -> bool
-    ensures { result ≡ is_provided entries.now service }
+fn is_provided(entries: &[ListEntry], service: &str) -> bool
+    ensures { result ≡ is_provided entries.now service.now }
 {
-    let name = service.name().as_bytes();
+    let name = service.as_bytes();
     entries.iter().any(|entry| entry.offers(entry.home(), name))
 }

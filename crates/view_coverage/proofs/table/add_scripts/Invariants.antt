@@ -5,4 +5,5 @@ use Rattle.view_coverage.proofs.table.add_scripts.Given as goal
 
 abbrev pub invariant-loop-number : goal.invariant-loop-number
 invariant-loop-number l =
-    l.initial.rows.items ++ scripts_rows l.entries 0 l.entries ≡ l.rows.items ++ scripts_rows l.entries l.number (drop l.number l.entries)
+    l.initial.rows.items ++ scripts_rows l.list.entries 0 l.list.entries
+    ≡ l.rows.items ++ scripts_rows l.list.entries l.number (drop l.number l.list.entries)

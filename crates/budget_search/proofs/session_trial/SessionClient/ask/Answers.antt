@@ -16,7 +16,7 @@ returns-then-branch-clause-ends g c = λ _ sent rest session donation selector b
     let entry = asking.has.entry in
     subst (λ p. HasEnded c.step.new.self.core p sent session donation true c.follow.new.self.meter) (sym c.step.ensures.same)
     (asked_end world c.step.new.self.core client selector c.args.request.now c.answer.result.text.now (c.answer.ensures ∙ c.step.ensures.answered entry) (c.step.ensures.stepped entry) c.in-Some.after
-    (account_told c.step.new.self.core c.step.new.self.client client world.entries c.account-2.result c.in-Some.after c.step.ensures.same c.step.ensures.entries entry c.in-Some.is c.account-2.ensures.account)
+    (account_told c.step.new.self.core c.step.new.self.client client world.entries c.account-2.result c.in-Some.after c.step.ensures.same c.step.ensures.entries entry c.in-Some.is c.account-2.ensures)
     sent rest session donation heard c.follow.new.self asking
     (λ left told. c.in_ok-follow.ensures.end c.if-branch.true sent rest donation session asking.now (named_of asking.buffer) left told))
 
@@ -29,6 +29,6 @@ returns-clause-left g c = λ _ sent rest session donation selector before.
     let entry = asking.has.entry in
     subst (λ p. HasLeft c.step.new.self.core p c.follow.new.self sent rest session donation) (sym c.step.ensures.same)
     (asked_on world c.step.new.self.core client selector c.args.request.now c.answer.result.text.now (c.answer.ensures ∙ c.step.ensures.answered entry) (c.step.ensures.stepped entry) c.in-Some.after
-    (account_told c.step.new.self.core c.step.new.self.client client world.entries c.account-2.result c.in-Some.after c.step.ensures.same c.step.ensures.entries entry c.in-Some.is c.account-2.ensures.account)
+    (account_told c.step.new.self.core c.step.new.self.client client world.entries c.account-2.result c.in-Some.after c.step.ensures.same c.step.ensures.entries entry c.in-Some.is c.account-2.ensures)
     sent rest session donation heard c.follow.new.self asking
     (λ left told. c.in_ok-follow.ensures.on c.if-branch.false sent rest donation session asking.now (named_of asking.buffer) left told))

@@ -20,6 +20,6 @@ returns-clause-left g c = λ sent rest session donation selector before.
     (raises_on world c.step.new.self.core client c.args.args.now c.answer.result.text.now (c.answer.ensures ∙ c.step.ensures.answered entry) (c.step.ensures.stepped entry)
     c.in-Some-account.account
     (account_told c.step.new.self.core c.step.new.self.client client world.entries c.account.result c.in-Some-account.account c.step.ensures.same c.step.ensures.entries entry
-    c.in-Some-account.is c.account.ensures.account)
+    c.in-Some-account.is c.account.ensures)
     (sym c.is_done.ensures ∙ c.if-not-is_done.false) named.0 named.1 sent rest session donation heard c.raise.new.self raising
     (λ left same. c.raise.ensures.left sent rest donation _ session raising.now raising.buffer left same))

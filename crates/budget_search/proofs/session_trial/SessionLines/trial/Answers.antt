@@ -7,7 +7,7 @@ use Rattle.own_model.specs.Transcript.{entry_at}
 use Rattle.core_calls.specs.Call.{model_call}
 use Rattle.budget_meter.specs.Needs.{amounts_of}
 use Rattle.budget_search.specs.OpenedSessions.{HasSelectors, IsReady, held, opened_by, opened_with, sent_at, is_too_small}
-use Rattle.budget_search.proofs.SessionLemmas.{account_told, built_in_told, none_told, each_ok, each_on, each_three, shows_run, small_run, was_not, was_opened, wish_again}
+use Rattle.budget_search.proofs.SessionLemmas.{account_told, none_told, each_ok, each_on, each_three, shows_run, small_run, was_not, was_opened, wish_again}
 use Rattle.budget_search.proofs.session_trial.SessionLines.trial.Goals as goal
 
 pub returns-in-Some-account-clause-run : goal.returns-in-Some-account-clause-run
@@ -29,11 +29,9 @@ returns-in-Some-account-clause-run g c =
     was_opened world c.step.new.self.core client c.in-Some-Open.service.now text c.step.new.self.reply.text (c.step.ensures.answered ready.entry) (c.step.ensures.stepped ready.entry) ready wish
     again.1.0 c.in-Some-account.account
     (account_told c.step.new.self.core c.step.new.self.client client world.entries c.account.result c.in-Some-account.account c.step.ensures.same c.step.ensures.entries ready.entry
-    c.in-Some-account.is c.account.ensures.account) in
+    c.in-Some-account.is c.account.ensures) in
     shows_run (sent_at c.args.self.steps.now c.args.self.opened.now.steps.items) again.0 donation session trial again.1.1
-    (runs wish
-    (built_in_told c.step.new.self.core c.step.new.self.client client world.entries (new_session wish) c.step.ensures.same c.step.ensures.entries ready.entry opened.has c.account.ensures.service)
-    opened.enough opened.same (subst (λ p. HasSelectors c.step.new.self.core p (held (new_session wish) None)) (sym c.step.ensures.same) opened.has)))
+    (runs wish opened.enough opened.same (subst (λ p. HasSelectors c.step.new.self.core p (held (new_session wish) None)) (sym c.step.ensures.same) opened.has)))
     c.run.ensures.run
 
 pub returns-in-Some-account-clause-ready : goal.returns-in-Some-account-clause-ready
@@ -55,10 +53,8 @@ returns-in-Some-account-clause-ready g c =
     was_opened world c.step.new.self.core client c.in-Some-Open.service.now text c.step.new.self.reply.text (c.step.ensures.answered ready.entry) (c.step.ensures.stepped ready.entry) ready wish
     again.1.0 c.in-Some-account.account
     (account_told c.step.new.self.core c.step.new.self.client client world.entries c.account.result c.in-Some-account.account c.step.ensures.same c.step.ensures.entries ready.entry
-    c.in-Some-account.is c.account.ensures.account) in
-    runs wish
-    (built_in_told c.step.new.self.core c.step.new.self.client client world.entries (new_session wish) c.step.ensures.same c.step.ensures.entries ready.entry opened.has c.account.ensures.service)
-    opened.enough opened.same (subst (λ p. HasSelectors c.step.new.self.core p (held (new_session wish) None)) (sym c.step.ensures.same) opened.has))
+    c.in-Some-account.is c.account.ensures) in
+    runs wish opened.enough opened.same (subst (λ p. HasSelectors c.step.new.self.core p (held (new_session wish) None)) (sym c.step.ensures.same) opened.has))
     c.run.ensures.ready
 
 pub returns-clause-run : goal.returns-clause-run
@@ -79,7 +75,7 @@ returns-clause-run g c =
     let left =
     was_not world c.step.new.self.core client c.in-Some-Open.service.now text c.step.new.self.reply.text (c.step.ensures.answered ready.entry) (c.step.ensures.stepped ready.entry) ready wish
     again.1.0
-    (none_told c.step.new.self.core c.step.new.self.client client world.entries c.account.result c.step.ensures.same c.step.ensures.entries ready.entry c.in-None.is c.account.ensures.account)
+    (none_told c.step.new.self.core c.step.new.self.client client world.entries c.account.result c.step.ensures.same c.step.ensures.entries ready.entry c.in-None.is c.account.ensures)
     (sym (ap is_too_small c.answer.ensures) ∙ small) in
     small_run (sent_at c.args.self.steps.now c.args.self.opened.now.steps.items) donation session trial left.small refused shown)
     c.unopened.ensures.small c.unopened.ensures.refused c.unopened.ensures.shown
@@ -102,7 +98,7 @@ returns-clause-ready g c =
     let left =
     was_not world c.step.new.self.core client c.in-Some-Open.service.now text c.step.new.self.reply.text (c.step.ensures.answered ready.entry) (c.step.ensures.stepped ready.entry) ready wish
     again.1.0
-    (none_told c.step.new.self.core c.step.new.self.client client world.entries c.account.result c.step.ensures.same c.step.ensures.entries ready.entry c.in-None.is c.account.ensures.account)
+    (none_told c.step.new.self.core c.step.new.self.client client world.entries c.account.result c.step.ensures.same c.step.ensures.entries ready.entry c.in-None.is c.account.ensures)
     (sym (ap is_too_small c.answer.ensures) ∙ small) in
     subst (λ p. IsReady c.step.new.self.core p) (sym c.step.ensures.same) left.still)
     c.unopened.ensures.small
