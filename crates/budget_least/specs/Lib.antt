@@ -3,4 +3,4 @@ pub mod MachineSizes
 pub mod Measured
 pub mod ComponentLines
 pub mod Report
-pub mod Drafts
+pub mod WrittenList

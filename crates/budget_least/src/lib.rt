@@ -6,14 +6,15 @@
 
 mod binding_run;
 mod documents;
-mod draft;
 mod line_donations;
 mod lines_by_component;
 mod machine_size;
+mod member_values;
 mod report;
 mod report_text;
 mod unmeasured_line;
 mod written_donation;
+mod written_list;
 
 pub use budget_meter::Budget;
 pub use budget_search::{

@@ -1,25 +1,27 @@
 //! What all accounts of a scenario need.
 ghost use Rattle.std.specs.Prelude.{◌≡◌, ◌<◌, length, suc, IfOk, OnOk};
+ghost use Rattle.std.specs.List.{list_all};
 ghost use Rattle.std.specs.Option.{option_map};
 ghost use Rattle.own_model.specs.Amounts.{more_of};
 ghost use Rattle.budget_meter.specs.Needs.{amounts_of};
 ghost use Rattle.budget_least.specs.Report.{accounts_of, report_of, sum_of, unmeasured_of, HasSmallestMachine};
 ghost use Rattle.budget_least.specs.InitNeeds.{capped, is_entry_of, need_of, needed_below, sum_with, AreChanged, AreNeeded, AreNeededFrom};
+ghost use Rattle.budget_least.specs.WrittenList.{has_budget, IsWritten};
 
 use crate::binding_run::BindingBudgets;
-use crate::draft::Draft;
 use crate::line_donations::LineDonations;
 use crate::lines_by_component::{LinesByComponent, has_names};
 use crate::machine_size::MachineSize;
 use crate::report_text::BudgetCsv;
 use crate::unmeasured_line::UnmeasuredLine;
 use crate::written_donation::with_donation;
+use crate::written_list::{ListSizes, has_budget, has_size, size_of};
 use budget_meter::Budget;
 use budget_search::{
     AccountBudgets, BudgetChoice, ComponentLine, ScriptSearch, ScriptSessions, budget_of,
 };
 use line_steps::RunPosition;
-use list_parser::{BootFault, StartList};
+use list_parser::{BootFault, ConfigField, StartList};
 use std::alloc::{AllocError, Global};
 
 /// The most runs with the budgets that are written.
@@ -291,21 +293,48 @@ impl<'a> BudgetReport<'a> {
         BudgetCsv { report: self }
     }
 
-    /// Returns the text of a start list from which the report's was read, with its budgets in place. The machine is as large as
-    /// they ask, and no smaller than it was; if no machine is large enough, it stays. The error is that the host is out of memory.
-    pub fn start_list(&self, alloc: Global, text: &[u8]) -> Result<String, BootFault> {
-        let mut draft = Draft::of(alloc, text, self.list)?;
+    /// Returns the text of a start list from which the report's was read, with its budgets in place. Every other byte stays. The
+    /// machine is as large as the budgets ask, and no smaller than it was; if no machine is large enough, it stays.
+    ///
+    /// Refuses as `StartList::read` if the text with the budgets is no start list, for example with `BadConfig size` if it is too
+    /// long. Then refuses with `BadConfig start` if the text isn't the report's.
+    pub fn start_list(&self, alloc: Global, text: &[u8]) -> Result<Vec<u8>, BootFault>
+        ensures { IfOk result (λ written. IsWritten self.now written.items) }
+    {
+        let size = size_of(self.list, self.machine());
+        let written = self.list_with(alloc, text, size)?;
+        let list = StartList::read(alloc, written.as_slice())?;
+        if self.has_budgets(&list) && has_size(&list, size) {
+            Ok(written)
+        } else {
+            Err(BootFault::BadConfig(ConfigField::Start))
+        }
+    }
+
+    // Returns the text of a start list with the report's budgets on a machine of a size.
+    fn list_with(
+        &self,
+        alloc: Global,
+        text: &[u8],
+        size: MachineSize,
+    ) -> Result<Vec<u8>, AllocError> {
+        let mut sizes = ListSizes::none(alloc, self.list)?;
         for account in self.accounts.as_slice() {
             if let (None, Some(budget)) = (account.session, account.chosen(self.choice)) {
-                draft.set_budget(alloc, account.component, budget)?;
+                sizes.add_budget(alloc, self.list, account.component, budget)?;
             }
         }
-        if let Some(machine) = self.machine() {
-            let pages = machine.pages.max(u64::from(self.list.pages()));
-            let caps = machine.caps.max(u64::from(self.list.caps()));
-            draft.set_machine(alloc, pages, caps)?;
-        }
-        draft.text(alloc)
+        sizes.add_machine(alloc, self.list, size)?;
+        sizes.text(alloc, text)
+    }
+
+    // Returns whether the entries of a list have the report's budgets.
+    fn has_budgets(&self, list: &StartList) -> bool
+        ensures { result ≡ list_all (has_budget list.now self.now.choice) self.now.accounts.items }
+    {
+        self.accounts
+            .iter()
+            .all(|account| has_budget(list, self.choice, account))
     }
 
     /// Returns the text of the report's scenario, with the donations that were measured. A line of a round donates the same in each

@@ -1,13 +1,13 @@
 -- Intervals that are found from the highest RAM on, and their minimum.
+use Rattle.std.proofs.lemmas.Bool.{or_left}
 use Rattle.std.proofs.lemmas.Bool.Decides.{nat_tests}
 use Rattle.std.proofs.lemmas.List.{reverse-append}
 use Rattle.std.proofs.Common.{arith, ◌≡◌, ℕ, suc, ◌<◌, ◌≤◌, ◌&&◌, ◌||◌, Bool, true, false, List, [], ◌∷◌, ◌++◌, nat_le, reverse, refl, sym, ap, ◌∙◌, subst}
 use Rattle.std.specs.List.{AllByRecursion}
 use Rattle.std.specs.Prelude.{if◌then◌else◌, max, Option, Some, None, IfSome}
 use Rattle.own_model.specs.Amounts.{Amounts}
-use Rattle.budget_theorems.proofs.CellLemmas.{in_own_cell}
+use Rattle.budget_theorems.proofs.CellLemmas.{in_own_cell, starts_below}
 use Rattle.budget_theorems.specs.Need.{Need, IsBelow, cell_by, covers_ram, greatest_choice}
-use Rattle.budget_search.proofs.RowLemmas.{starts_below}
 use Rattle.budget_search.specs.BudgetIntervals.{is_below, covers, serves, lowest_of, AreOrdered, ArePast, AreRows, BeginFrom, EndsAbove, IsRowWithin, IsRun}
 use Rattle.budget_search.specs.Sufficient.{HasLeast, IsLeast}
 use Rattle.budget_search.specs.declared.budget_intervals.BudgetInterval.{BudgetInterval}
@@ -127,10 +127,6 @@ begin_covered : (from caps : ℕ) (end : Option ℕ) → IsBelow from end → (n
 begin_covered from caps None below = grind (arith, nat_tests)
 begin_covered from caps (Some end) below = grind (arith, nat_tests, below)
 
-or_true : (a b : Bool) → a ≡ true → (a || b) ≡ true
-or_true true b is = refl
-or_true false b is = absurd (cc)
-
 module _ (row : BudgetInterval) (rows : List BudgetInterval) where
   abbrev pub begin_of : Amounts
   begin_of = record { ram = row.ram_from; caps = row.caps_from }
@@ -151,7 +147,7 @@ module _ (row : BudgetInterval) (rows : List BudgetInterval) where
       let above = past_from row.ram_from row.ram_below rows begins is.apart.0 in
       record {
         within = record { ram = is.within.0.ram; caps = is.within.0.few };
-        sufficient = or_true (covers row begin_of) (serves rows begin_of) (begin_covered row.ram_from row.caps_from row.ram_below begins);
+        sufficient = or_left (covers row begin_of) (serves rows begin_of) (begin_covered row.ram_from row.caps_from row.ram_below begins);
         ram = λ budget _ served. elim (covers row budget) as (λ b. covers row budget ≡ b → (b || serves rows budget) ≡ true → row.ram_from ≤ budget.ram) [
           | true ↦ λ here _. grind (arith, nat_tests, here)
           | false ↦ λ _ there. let more = above_only rows budget above there in omega (arith, more)

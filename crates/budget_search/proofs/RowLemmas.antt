@@ -8,24 +8,18 @@ use Rattle.own_model.proofs.ListLemmas.{all_append}
 use Rattle.std.specs.Prelude.{if◌then◌else◌, Option, Some, None, is_some}
 use Rattle.std.proofs.Math.Bool.{or-false, or_assoc}
 use Rattle.own_model.specs.Amounts.{Amounts}
-use Rattle.budget_theorems.proofs.CellLemmas.{begins_within}
+use Rattle.budget_theorems.proofs.CellLemmas.{begins_within, starts_below}
 use Rattle.budget_theorems.specs.Need.{Need, IsBelow, cell_by, covers_ram, greatest_choice}
 use Rattle.budget_theorems.specs.Intervals.{IntervalOfBudgets, is_covered, interval_of, stretches}
 use Rattle.budget_search.specs.BudgetIntervals.{is_below, covers, covered_with, serves, AreRows, Follows, IsRun}
 use Rattle.budget_search.specs.declared.budget_intervals.BudgetInterval.{BudgetInterval}
 use Rattle.budget_search.specs.declared.trial.BudgetTrial.{BudgetTrial}
 
--- ---- tests
-
 -- ---- two rows in one
 
 pub below_through : (r g : ℕ) (end : Option ℕ) → r < g → IsBelow g end → is_below r end ≡ true
 below_through r g None less below = refl
 below_through r g (Some end) less below = grind (arith, nat_tests, less, below)
-
-pub starts_below : (x y : ℕ) (end : Option ℕ) → x ≤ y → IsBelow y end → IsBelow x end
-starts_below x y None within below = tt
-starts_below x y (Some end) within below = omega (arith, within, below)
 
 -- RAM from f on, in two parts, of which one ends where the other begins
 pub in_parts : (f g r : ℕ) (end : Option ℕ) (enough : Bool) → IsBelow g end → f < g →

@@ -1,6 +1,6 @@
 -- The safe budget of intervals, and what holds for budgets that suffice alike.
 use Rattle.std.proofs.lemmas.Bool.Decides.{nat_tests}
-use Rattle.std.proofs.lemmas.Bool.{cases_lt}
+use Rattle.std.proofs.lemmas.Bool.{cases_lt, or_from, or_left, or_right}
 use Rattle.std.proofs.Common.{arith, ◌≡◌, ℕ, ◌<◌, ◌≤◌, ◌&&◌, ◌||◌, Bool, true, false, List, [], ◌∷◌, nat_eq, nat_le, nat_lt, refl, sym, ap, ◌∙◌, subst, ⊎_elim}
 use Rattle.std.specs.Prelude.{if◌then◌else◌, max, Option, Some, None, IfSome}
 use Rattle.own_model.specs.Amounts.{Amounts}
@@ -11,18 +11,6 @@ use Rattle.budget_search.specs.Sufficient.{AllSuffice, HasLeast, HasSafe, IsLeas
 use Rattle.budget_search.specs.declared.budget_intervals.BudgetInterval.{BudgetInterval}
 
 -- ---- tests
-
-or_left : (a b : Bool) → a ≡ true → (a || b) ≡ true
-or_left true b is = refl
-or_left false b is = absurd (cc)
-
-or_right : (a b : Bool) → b ≡ true → (a || b) ≡ true
-or_right true b is = refl
-or_right false b is = is
-
-neither : (a b : Bool) → a ≡ false → b ≡ false → (a || b) ≡ false
-neither true b first second = absurd (cc)
-neither false b first second = second
 
 only_right : (a b : Bool) → a ≡ false → (a || b) ≡ true → b ≡ true
 only_right true b first one = absurd (cc)
@@ -103,7 +91,7 @@ module _ (row : BudgetInterval) (rows : List BudgetInterval) (most : Amounts) (i
     later budget order served = only_right (covers row budget) (serves rows budget) (uncovered budget order) served
 
     none_safe : serves rows most ≡ false → serves all most ≡ false
-    none_safe none = neither (covers row most) (serves rows most) (uncovered most up) none
+    none_safe none = or_from (covers row most) (serves rows most) (uncovered most up) none
 
     module _ (safe : Amounts) (others : IsSafe (serves rows) most safe) where
       -- the others begin right there

@@ -152,23 +152,23 @@ fn tell(
         }
         BudgetFormat::Documents => print_documents(rt, report.documents(rt.alloc())),
         BudgetFormat::List => match report.start_list(rt.alloc(), machine) {
-            Ok(text) => status_of(rt, println!(rt; "{text}")),
-            Err(fault) => tell_fault_of_run(rt, &fault),
+            Ok(text) => status_of(rt, io::writer(rt).write_all(text.as_slice())),
+            Err(fault) => tell_fault(rt, "the list with these budgets", &fault),
         },
         BudgetFormat::Scenario => match report.scenario(rt.alloc(), scenario) {
             Ok(text) => status_of(rt, io::writer(rt).write_all(text.as_slice())),
-            Err(fault) => tell_fault_of_run(rt, &fault),
+            Err(fault) => tell_fault(rt, "run", &fault),
         },
     }
 }
 
-// Prints a fault of the run, and returns the exit status.
-fn tell_fault_of_run(rt: &HostRuntime, fault: &BootFault) -> u8 {
+// Prints a fault of what has this name, and returns the exit status.
+fn tell_fault(rt: &HostRuntime, name: &str, fault: &BootFault) -> u8 {
     report_error(
         rt,
         DiagnosticForm::Text,
         Spot::nowhere(),
-        &format_args!("run: {fault}"),
+        &format_args!("{name}: {fault}"),
     );
     UNWRITTEN
 }

@@ -1,1 +1,2 @@
+mod PlanLemmas
 mod RunLemmas

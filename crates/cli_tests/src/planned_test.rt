@@ -1,5 +1,6 @@
 //! The tests of a run: scenarios, and start lists with the policies next to them.
-ghost use Rattle.std.specs.Prelude.{◌≡◌, ◌||◌, ◌==◌, filter, is_some, length, map, string_bytes, OnOk};
+ghost use Rattle.std.specs.Prelude.{◌≡◌, ℕ, List, filter, is_some, map, string_bytes, OnOk};
+ghost use Rattle.std.specs.Borrow.{Bor};
 ghost use Rattle.std.specs.List.{list_any};
 ghost use Rattle.std.specs.Option.{option_map};
 ghost use Rattle.cli_tests.specs.declared.planned_test.PlannedTest.TheVariants.{Policy, Scenario};
@@ -51,7 +52,14 @@ fn is_selected(texts: &[&str], test: &PlannedTest) -> bool
     ensures { result ≡ is_selected (map (λ text. text.now) texts.now) test.now }
 {
     let path = test.path();
-    texts.is_empty() || texts.iter().any(|text| has_text(path, text))
+    texts.is_empty() || any_text(path, texts)
+}
+
+// Returns whether a path has one of these texts.
+fn any_text(path: &str, texts: &[&str]) -> bool
+    ensures { result ≡ list_any (λ (text : Bor (List ℕ)). has_text path.now text.now) texts.now }
+{
+    texts.iter().any(|text| has_text(path, text))
 }
 
 // Returns whether a path has a text.

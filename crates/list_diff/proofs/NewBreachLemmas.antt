@@ -10,14 +10,12 @@ use Rattle.std.proofs.lemmas.Slice.Eq.{bytes_eq-Decides}
 use Rattle.list_diff.specs.PlacedBreaches.{BreachAt}
 use Rattle.list_diff.specs.Breaches.{ChangeAt, alone, breach_changes, came, gone, has, same_breach, same_server}
 use Rattle.list_diff.specs.NewBreaches.{GoneBreachIsReported, NewBreachIsReported, ReportedBreachIsGone, ReportedBreachIsNew, SameBreachesAreNone, new_one, old_one}
+use Rattle.list_diff.proofs.PairLemmas.{contains_found, contains_one}
 
 -- ---- elements
 
 in_none : {X : Type 0} (x : X) → Contains [] x → ⊥
 in_none x found = let lt : found.0 < 0 = found.1 in omega (arith, lt)
-
-in_one : {X : Type 0} (x : X) → Contains (x ∷ []) x
-in_one x = (0, omega arith, refl)
 
 one_is : {X : Type 0} (y x : X) → Contains [] x ⊎ (y ≡ x) → y ≡ x
 one_is y x (inl none) = absurd (in_none x none)
@@ -31,7 +29,7 @@ module _ {X Y : Type 0} (f : X → List Y) where
   -- an element of the lists of some elements is one of the list of one of them
   from_first : (x : X) (xs : List X) (y : Y) → (Contains (flat_map f xs) y → (z : X) × Contains xs z × Contains (f z) y)
       → Contains (f x) y ⊎ Contains (flat_map f xs) y → (z : X) × Contains (x ∷ xs) z × Contains (f z) y
-  from_first x xs y rest (inl here) = (x, Contains-append_left (x ∷ []) xs x (in_one x), here)
+  from_first x xs y rest (inl here) = (x, Contains-append_left (x ∷ []) xs x (contains_one x), here)
   from_first x xs y rest (inr there) =
       let found = rest there in (found.0, Contains-append_right (x ∷ []) xs found.0 found.1, found.2)
 
@@ -39,22 +37,11 @@ module _ {X Y : Type 0} (f : X → List Y) where
   from_each [] y found = absurd (in_none y found)
   from_each (x ∷ xs) y found = from_first x xs y (from_each xs y) (Contains-append_cases (f x) (flat_map f xs) y found)
 
-  to_first : (x : X) (xs : List X) (z : X) (y : Y) → Contains (f z) y → (Contains xs z → Contains (flat_map f xs) y)
-      → Contains (x ∷ []) z ⊎ Contains xs z → Contains (f x ++ flat_map f xs) y
-  to_first x xs z y there rest (inl first) =
-      Contains-append_left (f x) (flat_map f xs) y (subst (λ w. Contains (f w) y) (sym (only x z first)) there)
-  to_first x xs z y there rest (inr later) = Contains-append_right (f x) (flat_map f xs) y (rest later)
-
-  pub to_each : (xs : List X) (z : X) (y : Y) → Contains xs z → Contains (f z) y → Contains (flat_map f xs) y
-  to_each [] z y among there = absurd (in_none z among)
-  to_each (x ∷ xs) z y among there =
-      to_first x xs z y there (λ later. to_each xs z y later there) (Contains-append_cases (x ∷ []) xs z among)
-
 -- ---- changes
 
 -- a change of one list alone is there
 there_if : (others : List BreachAt) (change : ChangeAt) → has others change.breach ≡ false → Contains (alone others change) change
-there_if others change none = subst (λ b. Contains (if b then [] else change ∷ []) change) (sym none) (in_one change)
+there_if others change none = subst (λ b. Contains (if b then [] else change ∷ []) change) (sym none) (contains_one change)
 
 is_there : (change other : ChangeAt) (b : Bool) → Contains (if b then [] else change ∷ []) other → (b ≡ false) × (change ≡ other)
 is_there change other true found = absurd (in_none other found)
@@ -68,12 +55,12 @@ alone_is others change other found = is_there change other (has others change.br
 pub new_reported : NewBreachIsReported
 new_reported before after breach among none =
     Contains-append_right (flat_map (gone after) before) (flat_map (came before) after) (new_one breach)
-    (to_each (came before) after breach (new_one breach) among (there_if before (new_one breach) none))
+    (contains_found (came before) after breach (new_one breach) among (there_if before (new_one breach) none))
 
 pub gone_reported : GoneBreachIsReported
 gone_reported before after breach among none =
     Contains-append_left (flat_map (gone after) before) (flat_map (came before) after) (old_one breach)
-    (to_each (gone after) before breach (old_one breach) among (there_if after (old_one breach) none))
+    (contains_found (gone after) before breach (old_one breach) among (there_if after (old_one breach) none))
 
 -- the breach of a change among those of a list
 breach_in : (others all : List BreachAt) (make : BreachAt → ChangeAt) (breach found : BreachAt) → ((b : BreachAt) → (make b).breach ≡ b)
@@ -116,17 +103,15 @@ reported_gone before after breach found =
 
 -- ---- the same breaches
 
-same_bytes : (text : List ℕ) → bytes_eq text text ≡ true
-same_bytes text = (bytes_eq-Decides text text).1 refl
-
 same_servers : (server : Option (List ℕ)) → same_server server server ≡ true
 same_servers None = refl
-same_servers (Some server) = same_bytes server
+same_servers (Some server) = (bytes_eq-Decides server server).1 refl
 
 same_itself : (breach : BreachAt) → same_breach breach breach ≡ true
 same_itself breach =
     let line : (breach.line == breach.line) ≡ true = grind (arith, nat_tests) in
-    rw (line, same_bytes breach.client) (same_servers breach.server)
+    let client : bytes_eq breach.client breach.client ≡ true = (bytes_eq-Decides breach.client breach.client).1 refl in
+    rw (line, client) (same_servers breach.server)
 
 -- a breach of a list is one that the list has
 has_itself : (breaches : List BreachAt) (breach : BreachAt) → Contains breaches breach → has breaches breach ≡ true
@@ -142,7 +127,7 @@ no_changes : (make : BreachAt → ChangeAt) (others : List BreachAt) → ((b : B
 no_changes make others kept [] all_there = refl
 no_changes make others kept (b ∷ all) all_there =
     none_of (make b) (has others (make b).breach) (flat_map (λ c. alone others (make c)) all)
-    (ap (has others) (kept b) ∙ all_there b (Contains-append_left (b ∷ []) all b (in_one b)))
+    (ap (has others) (kept b) ∙ all_there b (Contains-append_left (b ∷ []) all b (contains_one b)))
     (no_changes make others kept all (λ c among. all_there c (Contains-append_right (b ∷ []) all c among)))
 
 pub same_none : SameBreachesAreNone

@@ -20,7 +20,7 @@ mod theorems;
 pub use differences::ListDifferences;
 pub use entry_changes::{EntryChange, changes};
 pub use label_sets::label_documents;
-pub use line_outcomes::{LineFault, LineOutcome, LineResult, line_results};
+pub use line_outcomes::{LineOutcome, LineResult, ResolutionFault, line_results};
 pub use moved_labels::MovedLabels;
 pub use need_changes::{ComponentNeed, NeedChange, QuotaAmounts, lacks};
 pub use placed_breach::{PlacedBreach, placed_breaches};

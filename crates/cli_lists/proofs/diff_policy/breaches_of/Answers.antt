@@ -13,13 +13,13 @@ breaches_by-requires-clause-reads c =
     c.read.ensures
 
 pub breaches_by-requires-clause-faults : goal.breaches_by-requires-clause-faults
-breaches_by-requires-clause-faults c = sym c.faults-faults.ensures ∙ no_faults _ _ c.is_empty.ensures c.if-is_empty.true
+breaches_by-requires-clause-faults c = sym c.faults-faults.ensures ∙ no_faults _ _ c.is_empty.ensures c.if-not-is_empty.false
 
 pub returns-clause-found : goal.returns-clause-found
 returns-clause-found c =
     on_made
     (λ (found : PolicyBreaches). AreBreachesOf c.args.text.now c.args.lists.before.list.now c.args.lists.after.list.now found.before.items found.after.items)
-    c.made_or_status.result c.breaches_by.result c.made_or_status.ensures.ok c.breaches_by.ensures
+    c.made_or_status-2.result c.breaches_by.result c.made_or_status-2.ensures.ok c.breaches_by.ensures
 
 pub returns-clause-stopped : goal.returns-clause-stopped
-returns-clause-stopped c = no_memory_stops c.made_or_status.result c.breaches_by.result c.made_or_status.ensures.err
+returns-clause-stopped c = no_memory_stops c.made_or_status-2.result c.breaches_by.result c.made_or_status-2.ensures.err
