@@ -49,7 +49,11 @@ pub(crate) fn take_object_request(
     match request {
         ObjectRequest::Make { kind, .. } => take_node(meter, pages, objects.kind(kind), served),
         _ => {
-            take_once(meter, asked_when_told(objects, request, served), served.before);
+            take_once(
+                meter,
+                asked_when_told(objects, request, served),
+                served.before,
+            );
             pages
         }
     }

@@ -1,7 +1,7 @@
 //! A run of one session's calls from a donation.
 ghost use Rattle.std.specs.Prelude.{◌≡◌, ◌<◌, ◌∷◌, ℕ, [], List, codes, None, Some, true, false, is_some, length, slice_get, IfOk, OnOk};
 ghost use Rattle.std.specs.FinMap.{get};
-ghost use Rattle.std.specs.Option.{option_and_then, option_copied, option_map};
+ghost use Rattle.std.specs.Option.{option_map};
 ghost use Rattle.std.specs.Str.{bytes_eq};
 ghost use Rattle.own_model.specs.Amounts.{Amounts};
 ghost use Rattle.own_model.specs.Call.Call.{CallSession, Upgrade};
@@ -120,8 +120,9 @@ impl SessionLines<'_> {
             HasSelectors client.old.core client.old.client (held (new_session wish) None) →
             IsReady client.new.core client.new.client) }
     {
+        let heard = SessionMeter::new(alloc, account, client.kinds())?;
         let mut run = SessionRun {
-            heard: SessionMeter::new(alloc, account, client.kinds())?,
+            heard,
             trial: BudgetTrial::new(alloc, donation),
         };
         client.go_through(&mut run, self.steps, self.opened.steps.as_slice())?;
@@ -180,7 +181,7 @@ pub(crate) struct SessionClient<R: Router + Drop> {
 }
 
 impl<R: Router + Drop> SessionClient<R> {
-    ghost use Rattle.std.specs.Prelude.{◌≡◌, ◌<◌, ℕ, List, None, Some, true, false, is_some, length, slice_get, IfOk, IfSome, OnOk};
+    ghost use Rattle.std.specs.Prelude.{◌≡◌, ◌<◌, ℕ, List, None, Some, true, false, is_some, length, slice_get, IfOk, OnOk};
     ghost use Rattle.std.specs.FinMap.{get};
     ghost use Rattle.std.specs.Option.{option_and_then, option_copied, option_map};
     ghost use Rattle.own_model.specs.Amounts.{Amounts};

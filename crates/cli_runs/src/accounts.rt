@@ -64,7 +64,7 @@ pub(crate) fn print_accounts<'r>(
 
 // Prints an account list, unless a fault stopped the run.
 fn print_list(rt: &HostRuntime, list: AccountList, form: RowsForm) -> RunEnd
-    ensures { IfOk result.ended (λ ending. IfNone ending.fault (ending ≡ list.entry.ending)) }
+    ensures { IfOk result.ended (λ ending. IfNone ending.fault (ending ≡ list.ending)) }
 {
     let AccountList { mut ending, rows } = list;
     let mut unread = false;

@@ -15,6 +15,8 @@ use Rattle.pd_core.specs.Component.{Place}
 use Rattle.pd_core.specs.Core.{Places}
 use Rattle.init_core.specs.declared.rule.ResolvedTarget.{ResolvedTarget}
 use Rattle.init_core.specs.declared.rule.ResolvedTarget.TheVariants.{ToBuiltIn, ToDeclared, Nowhere, Outward}
+use Rattle.init_core.specs.declared.rule.RouteStep.{RouteStep}
+use Rattle.init_core.specs.declared.rule.RouteStep.TheVariants as step
 use Rattle.init_core.specs.declared.rule.ServiceTest.{ServiceTest}
 use Rattle.init_core.specs.declared.rule.ServiceTest.TheVariants.{Known, Named, Any}
 
@@ -26,10 +28,11 @@ model_lead (ToDeclared service place) = model.Lead.To (record { kind = OffersObj
 model_lead Nowhere = model.Lead.Nowhere
 model_lead Outward = model.Lead.Outward
 
--- the lead of the rule that matches, if there is one
-abbrev pub lead_found : Option ResolvedTarget → model.Lead
-lead_found None = model.Lead.Nowhere
-lead_found (Some target) = model_lead target
+-- the step of a route that a lead decides
+abbrev pub step_of : model.Lead → RouteStep
+step_of (model.Lead.To server) = step.Server server.place
+step_of model.Lead.Nowhere = step.Nowhere
+step_of model.Lead.Outward = step.Outward
 
 -- the name that is asked for, if one is
 abbrev pub name_asked : ServiceTest → Option (List ℕ)

@@ -1,11 +1,10 @@
 //! Rules of the route table: the test of a session request, and the server to which it is routed.
 ghost use Rattle.std.specs.Prelude.{◌≡◌, IfOk, Some};
-ghost use Rattle.std.specs.Option.{option_copied};
 ghost use Rattle.std.specs.Str.{bytes_eq};
 ghost use Rattle.own_model.specs.Listed.{own_rule};
 ghost use Rattle.own_model.specs.Routes.{as_asked, decided, matches};
 ghost use Rattle.list_parser.specs.Services.{service_text};
-ghost use Rattle.init_core.specs.Rows.{lead_found, model_lead, name_asked, service_named};
+ghost use Rattle.init_core.specs.Rows.{model_lead, name_asked, service_named, step_of};
 
 use list_parser::{DeclaredService, LabelTest, ListService, Name, Rule};
 use std::alloc::{AllocError, Global};
@@ -24,6 +23,31 @@ pub(crate) enum ResolvedTarget {
     /// The request is routed to no server.
     Nowhere,
     /// The request is routed out of the init, by the rules of the list above.
+    Outward,
+}
+
+impl ResolvedTarget {
+    /// Returns the step of a route that the rule decides.
+    fn step(&self) -> RouteStep
+        ensures { result ≡ step_of (model_lead self.now) }
+    {
+        match self {
+            ResolvedTarget::ToBuiltIn(_, place) => RouteStep::Server(*place),
+            ResolvedTarget::ToDeclared(_, place) => RouteStep::Server(*place),
+            ResolvedTarget::Nowhere => RouteStep::Nowhere,
+            ResolvedTarget::Outward => RouteStep::Outward,
+        }
+    }
+}
+
+/// A step of a route.
+#[derive(Clone, Copy)]
+pub(crate) enum RouteStep {
+    /// To the server at this place among the components.
+    Server(usize),
+    /// To no server.
+    Nowhere,
+    /// Out of the init, by the rules of the list above.
     Outward,
 }
 
@@ -170,26 +194,26 @@ impl ResolvedRule {
         self.service.holds(service) && self.labels.holds(label)
     }
 
-    /// Returns the result of the rule.
-    fn target(&self) -> &ResolvedTarget
-        ensures { model_lead result.now ≡ self.now.to }
+    /// Returns the step that the rule decides.
+    fn step(&self) -> RouteStep
+        ensures { result ≡ step_of self.now.to }
     {
-        &self.to
+        self.to.step()
     }
 }
 
-/// Returns the result of the first rule that matches, or `None` if no rule matches.
-pub(crate) fn resolve_request<'a>(
-    rules: &'a [ResolvedRule],
+/// Returns the step of the first rule that matches, or `Nowhere` if no rule matches.
+pub(crate) fn resolve_request(
+    rules: &[ResolvedRule],
     service: &ServiceName<'_>,
     label: &[u8],
-) -> Option<&'a ResolvedTarget>
-    ensures { lead_found (option_copied result) ≡ decided rules.now service.now label.now }
+) -> RouteStep
+    ensures { result ≡ step_of (decided rules.now service.now label.now) }
 {
     for rule in rules {
         if rule.matches(service, label) {
-            return Some(rule.target());
+            return rule.step();
         }
     }
-    None
+    RouteStep::Nowhere
 }

@@ -1,5 +1,5 @@
 -- Where the engine reads no kinds of a list.
-use Rattle.std.proofs.Common.{◌≡◌, ◌<◌, ℕ, ◌+◌, suc, true, false, cond, Bool, List, [], ◌∷◌, ◌++◌, codes, drop, get_or, is_some, length, map, not, take, Option, Some, None, refl, sym, ap, ◌∙◌, ◌||◌, arith, add-one}
+use Rattle.std.proofs.Common.{◌≡◌, ◌<◌, ℕ, ◌+◌, true, false, cond, Bool, List, [], ◌∷◌, ◌++◌, codes, drop, get_or, is_some, length, map, not, take, Option, Some, None, refl, sym, ap, ◌∙◌, ◌||◌, arith, add-one}
 use Rattle.std.specs.Prelude.{find, if◌then◌else◌}
 use Rattle.std.specs.List.{list_any}
 use Rattle.std.specs.Option.{option_and_then, option_map, option_or}
@@ -22,40 +22,40 @@ use Rattle.list_faults.specs.RuleFaults.{Bad}
 -- ---- one value after another
 
 module _ (xs : List Value) (i : ℕ) (x : Value) (inside : i < length xs) (is : x ≡ get_or xs i x) where
-  abbrev ds : List Data
-  ds = map view xs
+  abbrev seen : List Data
+  seen = map view xs
 
-  one_more : take (i + 1) ds ≡ take i ds ++ view x ∷ []
+  one_more : take (i + 1) seen ≡ take i seen ++ view x ∷ []
   one_more =
-      ap (λ n. take n ds) (add-one i)
-      ∙ take-suc ds i (view x) (omega (arith, length-map xs view, inside))
-      ∙ ap (λ y. take i ds ++ y ∷ []) (get_or-map view xs i x (view x) inside ∙ ap view (sym is))
+      ap (λ n. take n seen) (add-one i)
+      ∙ take-suc seen i (view x) (omega (arith, length-map xs view, inside))
+      ∙ ap (λ y. take i seen ++ y ∷ []) (get_or-map view xs i x (view x) inside ∙ ap view (sym is))
 
-  here : bad_after (take i ds) i (drop i ds) ≡ bad_or i (kind_fault (take i ds) (view x)) (bad_after (take (i + 1) ds) (i + 1) (drop (i + 1) ds))
+  here : bad_after (take i seen) i (drop i seen) ≡ bad_or i (kind_fault (take i seen) (view x)) (bad_after (take (i + 1) seen) (i + 1) (drop (i + 1) seen))
   here =
-      ap (bad_after (take i ds) i) (left_from view xs i x inside is)
-      ∙ ap (λ before. bad_or i (kind_fault (take i ds) (view x)) (bad_after before (i + 1) (drop (i + 1) ds))) (sym one_more)
+      ap (bad_after (take i seen) i) (left_from view xs i x inside is)
+      ∙ ap (λ before. bad_or i (kind_fault (take i seen) (view x)) (bad_after before (i + 1) (drop (i + 1) seen))) (sym one_more)
 
-  pub bad_here : (member : Option (List ℕ)) → kind_fault (take i ds) (view x) ≡ Some member → bad_after (take i ds) i (drop i ds) ≡ Some (i, member)
-  bad_here member fault = here ∙ ap (λ bad. bad_or i bad (bad_after (take (i + 1) ds) (i + 1) (drop (i + 1) ds))) fault
+  pub bad_here : (member : Option (List ℕ)) → kind_fault (take i seen) (view x) ≡ Some member → bad_after (take i seen) i (drop i seen) ≡ Some (i, member)
+  bad_here member fault = here ∙ ap (λ bad. bad_or i bad (bad_after (take (i + 1) seen) (i + 1) (drop (i + 1) seen))) fault
 
-  pub bad_later : kind_fault (take i ds) (view x) ≡ None → bad_after (take i ds) i (drop i ds) ≡ bad_after (take (i + 1) ds) (i + 1) (drop (i + 1) ds)
-  bad_later none = here ∙ ap (λ bad. bad_or i bad (bad_after (take (i + 1) ds) (i + 1) (drop (i + 1) ds))) none
+  pub bad_later : kind_fault (take i seen) (view x) ≡ None → bad_after (take i seen) i (drop i seen) ≡ bad_after (take (i + 1) seen) (i + 1) (drop (i + 1) seen)
+  bad_later none = here ∙ ap (λ bad. bad_or i bad (bad_after (take (i + 1) seen) (i + 1) (drop (i + 1) seen))) none
 
 -- ---- the engine
 
 find_any : {X : Type 0} (p : X → Bool) (xs : List X) → is_some (find p xs) ≡ list_any p xs
 find_any p [] = refl
-find_any p (x ∷ xs) = by_test (p x) where
-  by_test : (b : Bool) → is_some (cond b (Some x) (find p xs)) ≡ (b || list_any p xs)
-  by_test true = refl
-  by_test false = find_any p xs
+find_any p (x ∷ xs) = by_test (p x) (find_any p xs) where
+  by_test : (b : Bool) → is_some (find p xs) ≡ list_any p xs → is_some (cond b (Some x) (find p xs)) ≡ (b || list_any p xs)
+  by_test true rest = refl
+  by_test false rest = rest
 
 -- two tests that pass together
 same_test : (x y : Bool) → (x ≡ true → y ≡ true) → (y ≡ true → x ≡ true) → x ≡ y
-same_test true y then back = sym (then refl)
-same_test false true then back = back refl
-same_test false false then back = refl
+same_test true y there back = sym (there refl)
+same_test false true there back = back refl
+same_test false false there back = refl
 
 bytes_eq-sym : (a b : List ℕ) → bytes_eq a b ≡ bytes_eq b a
 bytes_eq-sym a b =
@@ -107,7 +107,7 @@ module _ (before : List Data) (kinds : List ObjectKind) (same : SameNames before
 
   by_parts : (n : Option (List ℕ)) (b u : Option ℕ) → name_at (codes "kind") d ≡ n
       → is_some (bad_or place (option_or (option_or (option_or (unless_read (codes "kind") n) (unless_read (codes "block") b)) (unless_read (codes "bytes") u)) (taken_fault before n)) rest)
-      ≡ not (is_some (option_and_then (λ kind. option_and_then (λ ks. kinds_after ks ds) (with_kind kinds kind)) (kind_by n b u)))
+      ≡ not (is_some (option_and_then (λ ks. kinds_after ks ds) (option_and_then (with_kind kinds) (kind_by n b u))))
   by_parts None b u is = refl
   by_parts (Some name) None u is = refl
   by_parts (Some name) (Some block) None is = refl

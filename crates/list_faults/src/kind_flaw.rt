@@ -68,13 +68,16 @@ fn first_bad_kind(kinds: &[Value]) -> Option<BadKind<'_>>
     ensures { option_map fault_of_bad result ≡ bad_after [] 0 (map view kinds.now) }
 {
     for (place, value) in kinds.iter().enumerate() {
-        if let Some((member, expected)) = kind_flaw(&kinds[..place], value) {
-            return Some(BadKind {
-                place,
-                value,
-                member,
-                expected,
-            });
+        match kind_flaw(&kinds[..place], value) {
+            Some((member, expected)) => {
+                return Some(BadKind {
+                    place,
+                    value,
+                    member,
+                    expected,
+                });
+            }
+            None => {}
         }
     }
     None

@@ -91,17 +91,18 @@ entry_kind entry =
     if runs (codes "init") entry then table.Init else (if runs (codes "server") entry then table.Server else table.Entry)
 
 -- the findings on what an init starts, or on a server's kinds
-abbrev pub unread_within : ObjectKind → ℕ × EntryValue → List Finding
-unread_within table.Init entry = unread_in_config entry.0 entry.1.steps (get (codes "config") entry.1.value)
-unread_within table.Server entry = unread_in_kinds entry.0 entry.1.steps (get (codes "kinds") entry.1.value)
-unread_within other entry = []
+abbrev pub unread_within : ℕ × EntryValue → List Finding
+unread_within entry =
+    if runs (codes "init") entry.1.value then unread_in_config entry.0 entry.1.steps (get (codes "config") entry.1.value)
+    else (if runs (codes "server") entry.1.value then unread_in_kinds entry.0 entry.1.steps (get (codes "kinds") entry.1.value)
+    else [])
 
 -- the findings on an entry, by its number, on its own route, and on what it starts or declares
 abbrev pub unread_in_entry : ℕ × EntryValue → List Finding
 unread_in_entry entry =
     unread_in (entry_kind entry.1.value) (parts.Entry entry.0 entry.1.steps) (Some entry.1.value)
     ++ unread_in_rules (owner.Entry entry.0) entry.1.steps (get (codes "route") entry.1.value)
-    ++ unread_within (entry_kind entry.1.value) entry
+    ++ unread_within entry
 
 -- the findings on all lists: on the machine's list, its machine, its default route, and then each entry
 abbrev pub unread_of : Data → List Finding

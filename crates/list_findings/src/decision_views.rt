@@ -133,7 +133,7 @@ fn names_asked(alloc: Global, list: &StartList) -> Result<Vec<FindingText>, Allo
     ensures { IfOk result (λ services. services.items ≡ names_asked list.now) }
 {
     let mut services = Vec::new(alloc);
-    services.push(FindingText::copy_of(alloc, "")?)?;
+    add_text(alloc, &mut services, "")?;
     add_services(alloc, &mut services, list)?;
     add_rules(alloc, &mut services, list.default_route())?;
     for entry in list.entries() {
@@ -153,8 +153,16 @@ fn add_services(
 {
     for number in 0..list.service_count() {
         let service = service_name(list, number);
-        found.push(FindingText::copy_of(alloc, service)?)?;
+        add_text(alloc, found, service)?;
     }
+    Ok(())
+}
+
+// With a text.
+fn add_text(alloc: Global, found: &mut Vec<FindingText>, text: &str) -> Result<(), AllocError>
+    ensures { OnOk result (found.new.items ≡ found.old.items ++ text.now ∷ []) }
+{
+    found.push(FindingText::copy_of(alloc, text)?)?;
     Ok(())
 }
 
@@ -211,7 +219,7 @@ fn add_name(
         (services.new.items ≡ with_name services.old.items (Some service.now)) }
 {
     if !is_there(services, service) {
-        services.push(FindingText::copy_of(alloc, service.as_str())?)?;
+        add_text(alloc, services, service.as_str())?;
     }
     Ok(())
 }

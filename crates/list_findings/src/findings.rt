@@ -17,9 +17,9 @@ use crate::outer_lists::{chosen_end, idle_remark, outer_init, wide_front};
 use crate::placed_rule::PlacedRule;
 use crate::reached::{is_routed_at_all, is_routed_to};
 use crate::rule_targets::before;
-use crate::service_names::served_name;
+use crate::service_names::built_in_name;
 use crate::unreachable_rules::hidden_by;
-use list_parser::{ListEntry, Name, Rule, StartList};
+use list_parser::{Binary, ListEntry, Name, Rule, StartList};
 use list_parts::{PartId, RuleOwner};
 use std::alloc::{AllocError, Global};
 
@@ -133,17 +133,39 @@ fn add_use_findings(
 {
     let about = PartId::Entry(number);
     let list = decided.list;
-    if entry.is_script() {
-        add_remark(found, alloc, list, about, low_ram(decided, number, entry))?;
-        return add_remark(found, alloc, list, about, low_caps(decided, number, entry));
-    }
-    match served_name(entry.binary()) {
-        Some(service) => {
-            let remark = missed(decided, service, number, entry);
-            add_remark(found, alloc, list, about, remark)
+    match entry.binary() {
+        Binary::Script => {
+            add_remark(found, alloc, list, about, low_ram(decided, number, entry))?;
+            add_remark(found, alloc, list, about, low_caps(decided, number, entry))
         }
-        None => Ok(()),
+        Binary::Server(service) => match built_in_name(*service) {
+            Some(name) => add_missed(found, alloc, decided, number, entry, name),
+            None => Ok(()),
+        },
+        Binary::Declared(service) => {
+            let name = service.name().copy();
+            add_missed(found, alloc, decided, number, entry, name)
+        }
+        Binary::Init => Ok(()),
     }
+}
+
+// Adds the finding that a server of a service doesn't provide it, or isn't reached.
+fn add_missed(
+    found: &mut Vec<Finding>,
+    alloc: Global,
+    decided: DecidedList<'_>,
+    number: usize,
+    entry: &ListEntry,
+    service: Name,
+) -> Result<(), AllocError>
+    requires views { ShowAll decided.list.now decided.views.now }
+    ensures { OnOk result (found.new.items ≡ found.old.items
+        ++ finding_on (part_of decided.entry.list.now.entries (about.Entry number))
+        (missed decided.entry.list.now service.entry (number, entry.now))) }
+{
+    let remark = missed(decided, service, number, entry);
+    add_remark(found, alloc, decided.list, PartId::Entry(number), remark)
 }
 
 // Whether an entry's RAM isn't whole pages.
@@ -205,7 +227,7 @@ fn missed(
 ) -> Option<Remark>
     requires views { ShowAll decided.list.now decided.views.now }
     ensures { result
-        ≡ missed decided.entry.list.now service (number, entry.now) }
+        ≡ missed decided.entry.list.now service.entry (number, entry.now) }
 {
     if entry.provides() {
         unreached(decided, number)

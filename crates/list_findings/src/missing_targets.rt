@@ -2,7 +2,7 @@
 ghost use Rattle.std.specs.Prelude.{◌≡◌, ◌++◌, IfOk, OnOk, None};
 ghost use Rattle.list_parser.specs.Services.{service_text};
 ghost use Rattle.list_parser.specs.View.{model_target};
-ghost use Rattle.list_findings.specs.Findings.{has_name, misled, no_child, stray_findings, strays, strays_if_provided, target_findings};
+ghost use Rattle.list_findings.specs.Findings.{has_name, misled, no_child, stray_findings, strays, strays_if_provided, strays_of, target_findings};
 ghost use Rattle.list_parts.specs.Steps.{part_of};
 ghost use Rattle.list_parts.specs.declared.list_part.PartId.TheVariants as about;
 
@@ -101,10 +101,27 @@ fn add_all_stray_findings(
         placed.entry.earlier.now placed.entry.rule.now None) }
 {
     for number in 0..list.service_count() {
-        let remark = strays_if_provided(list, placed, list.service(number));
-        add_remark(found, alloc, list, placed.part(), remark)?;
+        let service = list.service(number);
+        add_stray_finding(found, alloc, list, placed, service)?;
     }
     Ok(())
+}
+
+// Adds the finding that a rule of any service routes to no child for one service.
+fn add_stray_finding(
+    found: &mut Vec<Finding>,
+    alloc: Global,
+    list: &StartList,
+    placed: PlacedRule<'_>,
+    service: ListService<'_>,
+) -> Result<(), AllocError>
+    ensures { OnOk result (found.new.items
+        ≡ found.old.items ++ strays_of list.now.entries placed.entry.init
+        (part_of list.now.entries (about.Rule placed.entry.owner placed.entry.place))
+        placed.entry.earlier.now placed.entry.rule.now (service_text service)) }
+{
+    let remark = strays_if_provided(list, placed, service);
+    add_remark(found, alloc, list, placed.part(), remark)
 }
 
 // The remark that a rule of any service routes to no child for a service that some entry of its list provides.

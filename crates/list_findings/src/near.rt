@@ -4,14 +4,14 @@ ghost use Rattle.std.specs.List.{list_any};
 ghost use Rattle.std.specs.Option.{option_copied};
 ghost use Rattle.std.specs.Str.{bytes_eq};
 ghost use Rattle.own_model.specs.Listed.{services_of};
+ghost use Rattle.list_parser.specs.Services.{service_text};
 ghost use Rattle.list_findings.specs.Findings.{is_in_case, other_case};
 ghost use Rattle.text_near_words.specs.Near.{is_away, nearest};
 ghost use Rattle.list_findings.specs.Near.{names_in};
 
 use crate::finding::Remark;
 use crate::service_names::name_of;
-use list_parser::{ListEntry, Name, StartList};
-use list_reach::service_name;
+use list_parser::{ListEntry, ListService, Name, StartList};
 use std::alloc::{AllocError, Global};
 use text_near_words::is_away;
 
@@ -69,11 +69,19 @@ fn is_service(list: &StartList, written: &Name) -> bool
     ensures { result ≡ list_any (bytes_eq written.now) (services_of list.now.entries) }
 {
     for number in 0..list.service_count() {
-        if written.as_bytes() == service_name(list, number).as_bytes() {
+        let service = list.service(number);
+        if is_named(written, service) {
             return true;
         }
     }
     false
+}
+
+// Whether a service has a name.
+fn is_named(written: &Name, service: ListService<'_>) -> bool
+    ensures { result ≡ bytes_eq written.now (service_text service) }
+{
+    written.as_bytes() == service.name().as_bytes()
 }
 
 // The first service of a list whose name differs from this in case alone.
@@ -81,16 +89,18 @@ fn meant_by(list: &StartList, written: &Name) -> Option<Name>
     ensures { result ≡ find (is_in_case written.now) (services_of list.now.entries) }
 {
     for number in 0..list.service_count() {
-        if is_in_case(written, service_name(list, number)) {
-            return name_of(list.service(number));
+        let service = list.service(number);
+        if is_in_case(written, service) {
+            return name_of(service);
         }
     }
     None
 }
 
-// Whether a name differs from this in case alone.
-fn is_in_case(written: &Name, name: &str) -> bool
-    ensures { result ≡ is_in_case written.now name.now }
+// Whether the name of a service differs from this in case alone.
+fn is_in_case(written: &Name, service: ListService<'_>) -> bool
+    ensures { result ≡ is_in_case written.now (service_text service) }
 {
+    let name = service.name();
     written.as_str().eq_ignore_ascii_case(name) && written.as_bytes() != name.as_bytes()
 }

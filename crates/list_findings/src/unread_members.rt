@@ -4,7 +4,7 @@ ghost use Rattle.std.specs.Option.{option_and_then, option_map};
 ghost use Rattle.serde_json.specs.Find.{as_object};
 ghost use Rattle.serde_json.specs.View.{members_view, view};
 ghost use Rattle.list_findings.specs.Findings.{finding_on};
-ghost use Rattle.list_findings.specs.Unread.{entry_kind, unread_in, unread_in_config, unread_in_entry, unread_in_kinds, unread_in_rules, unread_of};
+ghost use Rattle.list_findings.specs.Unread.{entry_kind, unread_in, unread_in_config, unread_in_entry, unread_in_kinds, unread_in_rules, unread_of, unread_within};
 ghost use Rattle.list_faults.specs.Values.{seen};
 
 use crate::finding::{Finding, Remark};
@@ -43,8 +43,7 @@ pub fn add_unread(found: &mut Vec<Finding>, alloc: Global, list: &Value) -> Resu
     Ok(())
 }
 
-// Adds the findings of an entry, of its own route, and of what it starts if it is an init or its kinds if it is a server that
-// declares them.
+// Adds the findings of an entry, of its own route, and of what it starts or declares.
 fn add_entry(
     found: &mut Vec<Finding>,
     alloc: Global,
@@ -59,10 +58,26 @@ fn add_entry(
     add_own(found, alloc, number, entry, table)?;
     let rules = value.get("route");
     add_rules(found, alloc, RuleOwner::Entry(number), &entry.steps, rules)?;
-    match table {
-        ObjectKind::Init => add_config(found, alloc, number, &entry.steps, value.get("config")),
-        ObjectKind::Server => add_kinds(found, alloc, number, &entry.steps, value.get("kinds")),
-        _ => Ok(()),
+    add_within(found, alloc, number, entry)
+}
+
+// Adds the findings of what an entry starts if it is an init, or of its kinds if it is a server that declares them.
+fn add_within(
+    found: &mut Vec<Finding>,
+    alloc: Global,
+    number: usize,
+    entry: &EntryValue<'_>,
+) -> Result<(), AllocError>
+    ensures { OnOk result
+        (found.new.items ≡ found.old.items ++ unread_within (number, seen entry.now)) }
+{
+    let value = entry.value;
+    if runs(value, "init") {
+        add_config(found, alloc, number, &entry.steps, value.get("config"))
+    } else if runs(value, "server") {
+        add_kinds(found, alloc, number, &entry.steps, value.get("kinds"))
+    } else {
+        Ok(())
     }
 }
 

@@ -183,11 +183,7 @@ fn show_box<W: fmt::Write>(
 // The node of a component. Paths have no character that is to be escaped.
 fn show_node<W: fmt::Write>(f: &mut fmt::Formatter<W>, node: &TreeNode<'_>) -> fmt::Result {
     let entry = node.entry;
-    let shape = if entry.is_server() {
-        "box"
-    } else {
-        "ellipse"
-    };
+    let shape = if entry.is_server() { "box" } else { "ellipse" };
     write!(f, "\"{}\" [shape={shape}, label=\"", entry.to_path())?;
     show_text(f, node)?;
     f.write_str("\"];\n")

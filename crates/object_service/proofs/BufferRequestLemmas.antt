@@ -1,14 +1,18 @@
 -- Requests of the buffer: why they are refused, and what they leave of a session; and what each request is answered.
-use Rattle.std.proofs.Common.{◌≡◌, ℕ, true, false, List, [], Option, Some, None, is_some, refl, sym, ap, subst, ◌∙◌}
+use Rattle.std.proofs.Common.{◌≡◌, ℕ, cond, List, [], Option, Some, None, is_some, refl, sym, ap, subst, ◌∙◌}
+use Rattle.std.proofs.lemmas.Option.{none-some, same_Some}
+use Rattle.std.specs.Prelude.{Result, Ok, Err, IfOk, OnErr}
 use Rattle.std.specs.Option.{option_map}
-use Rattle.trade_base.specs.Page.{is_valid_size}
-use Rattle.trade_base.specs.declared.refusal.Refusal.{Refusal}
-use Rattle.own_model.specs.Account.{Account, alloc_refusal}
-use Rattle.own_model.specs.BufferService.{BufferRequest, make_refusal, made, unless_refused}
-use Rattle.own_model.specs.BufferService.BufferRequest.{Make}
-use Rattle.own_model.specs.FileService.{error_of, no_files}
+use Rattle.std.specs.Result.{result_err}
+use Rattle.trade_base.specs.declared.id.DsId.{DsId}
+use Rattle.own_model.specs.Account.{Account}
+use Rattle.own_model.specs.BufferService.{BufferRequest, given_back, make_refusal, made, unless_refused}
+use Rattle.own_model.specs.BufferService.BufferRequest.{Make, GiveBack}
+use Rattle.own_model.specs.FileService.{no_files}
+use Rattle.own_model.specs.FileText as files
+use Rattle.own_model.specs.FileText.FileError.{NoBuffer}
 use Rattle.own_model.specs.ObjectKinds.{ObjectKind}
-use Rattle.own_model.specs.ObjectService.{ObjectServed, told}
+use Rattle.own_model.specs.ObjectService.{Objects, ObjectServed, told}
 use Rattle.own_model.specs.ObjectSession.{HoldingServed, beside, lent_beside, holding_request}
 use Rattle.own_model.specs.ObjectSession.HoldingRequest.{OfObjects, OfBuffer}
 use Rattle.own_model.specs.ObjectText as model
@@ -19,6 +23,8 @@ use Rattle.region_map.specs.Regions.{Regions}
 use Rattle.dataspace_core.specs.Store.{Store}
 use Rattle.server_frame.specs.SessionBuffer.{IsEffect, bytes_lent}
 use Rattle.server_frame.specs.Session.{holding_of}
+use Rattle.core_calls.specs.FileError.{model_error}
+use Rattle.core_calls.specs.declared.file_error.FileError.{FileError}
 use Rattle.core_calls.specs.ReplyText.{Told, told_alone}
 use Rattle.server_frame.specs.declared.effect.Effect.{Effect}
 use Rattle.server_frame.specs.declared.effect.Effect.TheVariants.{Nothing}
@@ -26,24 +32,21 @@ use Rattle.session_proto.specs.Objects.{model_request}
 use Rattle.session_proto.specs.declared.object.ObjectRequest.{ObjectRequest}
 use Rattle.session_nodes.specs.SoundHeaps.{Stock}
 use Rattle.session_nodes.specs.SessionHeaps.{stock_of, StaySoundHeaps, KeepsHeaps}
-use Rattle.session_nodes.specs.SessionBuffer.{HasBuffer, buffer_key}
+use Rattle.session_nodes.specs.SessionBuffer.{FreesBuffer, HasBuffer, LendsBuffer, buffer_key}
 use Rattle.session_nodes.specs.declared.session_buffer.SessionBuffer.{SessionBuffer}
 use Rattle.session_nodes.proofs.SourceLemmas.{buffer_kept, buffer_same}
-use Rattle.object_service.specs.Session.{objects_in, served_in, session_served, Answers, IsAnswered, IsReady, Leaves, LeavesSession, Serves}
+use Rattle.object_service.specs.Session.{objects_in, served_in, session_served, gone_reply, lent_reply, Answers, HasObjects, IsAnswered, IsReady, Leaves, LeavesSession, Serves}
 use Rattle.object_service.specs.declared.session.ObjectSession.{ObjectSession}
-
--- why no buffer is made where the session lends none, and so many bytes have a size
-short_made : (n : ℕ) (buffer : Option (List ℕ)) (account : Account) → is_valid_size n ≡ true → is_some buffer ≡ false → make_refusal n buffer account ≡ option_map error_of (alloc_refusal n account)
-short_made n buffer account valid none = rw (valid, none) refl
 
 -- what is read of a text is its request
 pub read_as : (text : List ℕ) (read request : ObjectRequest) → read ≡ request → Some (model_request read) ≡ holding_request text → holding_request text ≡ Some (model_request request)
 read_as text read request same is = sym is ∙ ap (λ r. Some (model_request r)) same
 
--- a session lends bytes where it lends anything
-lends_some : (lent : Option SessionBuffer) (store : Store) → is_some (bytes_lent store (buffer_key lent)) ≡ is_some lent
-lends_some None store = refl
-lends_some (Some lent) store = refl
+-- no buffer is freed where there is none
+given_none : (buffer : Option SessionBuffer) (store : Store) (e : files.FileError) (objects : Objects) (account : Account) → Some e ≡ cond (is_some buffer) None (Some NoBuffer) →
+    lent_beside objects (given_back (bytes_lent store (buffer_key buffer)) no_files account) ≡ beside (bytes_lent store (buffer_key buffer)) (told (Refused (Shared e)) objects account)
+given_none None store e objects account is = ap (λ x. beside None (told (Refused (Shared x)) objects account)) (sym (same_Some e NoBuffer is))
+given_none (Some lent) store e objects account is = absurd (none-some e (sym is))
 
 -- what is told is the reply and nothing else
 pub told_text : (new old : Told) (reply : model.ObjectReply) (text : List ℕ) → new ≡ record old { text = object_reply reply } → old.lines ≡ [] → object_reply reply ≡ text → new ≡ told_alone text
@@ -69,6 +72,14 @@ module _ {session : ObjectSession} {store : Store} {regions : Regions} (ready : 
     };
   }
 
+  -- also if the buffer, the memory and the map are told to be the same
+  told_refused : (reply : model.ObjectReply) (served : HoldingServed) → served ≡ beside lends (told reply (objects_in kinds session has) has.account) → (buffer : Option SessionBuffer) {new : Store} {after : Regions} →
+      buffer ≡ session.buffer → new ≡ store → after ≡ regions → Answers kinds served reply session (record session { buffer = buffer }) new after
+  told_refused reply served is buffer {new} {after} same_buffer same_store same_map =
+      subst (λ m. Answers kinds served reply session (record session { buffer = buffer }) m after) (sym same_store)
+      (subst (λ m. Answers kinds served reply session (record session { buffer = buffer }) store m) (sym same_map)
+      (subst (λ b. Answers kinds served reply session (record session { buffer = b }) store regions) (sym same_buffer) (told_all reply served is)))
+
   -- a request of objects leaves the buffer
   objects_leave : {later : ObjectSession} {new : Store} {after : Regions} (served : ObjectServed) → KeepsHeaps session.nodes.heaps later.nodes.heaps store new regions after →
       Leaves kinds served session later (stock_of later.nodes.heaps new after) → LeavesSession kinds (beside lends served) session later new after
@@ -84,17 +95,52 @@ module _ {session : ObjectSession} {store : Store} {regions : Regions} (ready : 
     label = leaves.own.label;
   }
 
-  -- a buffer that the account doesn't cover is refused, and leaves all
-  pub make_refused : (n : ℕ) → is_valid_size n ≡ true → is_some session.buffer ≡ false → (r : Refusal) (reply : model.ObjectReply) {new : Store} {after : Regions} →
-      alloc_refusal n has.account ≡ Some r → reply ≡ Refused (Shared (error_of r)) → new ≡ store → after ≡ regions →
-      Answers kinds (session_served kinds (Some (OfBuffer (Make n))) session store regions) reply session session new after
-  make_refused n valid none r reply {new} {after} short is same stays =
-      let refusal = short_made n lends has.account valid (lends_some session.buffer store ∙ none) ∙ ap (option_map error_of) short in
-      let served = ap (λ e. lent_beside (objects_in kinds session has) (unless_refused e lends no_files has.account (made n no_files has.account))) refusal in
-      let all = told_all (Refused (Shared (error_of r))) _ served in
-      subst (λ m. Answers kinds (session_served kinds (Some (OfBuffer (Make n))) session store regions) reply session session m after) (sym same)
-      (subst (λ m. Answers kinds (session_served kinds (Some (OfBuffer (Make n))) session store regions) reply session session store m) (sym stays)
-      (subst (λ p. Answers kinds (session_served kinds (Some (OfBuffer (Make n))) session store regions) p session session store regions) (sym is) all))
+  -- a buffer is lent, or refused
+  pub lend_answers : (n : ℕ) (r : Result DsId FileError) (buffer : Option SessionBuffer) {new : Store} {after : Regions} → option_map model_error (result_err r) ≡ make_refusal n lends has.account →
+      IfOk r (λ space. LendsBuffer n space buffer has (stock_of session.nodes.heaps new after) (holding_of session.nodes.heaps.contents new after) new) → OnErr r (buffer ≡ session.buffer) → OnErr r (new ≡ store) → OnErr r (after ≡ regions) →
+      StaySoundHeaps session.nodes.heaps session.nodes.heaps store new regions after → Answers kinds (session_served kinds (Some (OfBuffer (Make n))) session store regions) (lent_reply r) session (record session { buffer = buffer }) new after
+  lend_answers n (Ok space) buffer {new} {after} refusal it same_buffer same_store same_map stays =
+      let is = ap (λ o. lent_beside (objects_in kinds session has) (unless_refused o lends no_files has.account (made n no_files has.account))) refusal in
+      record {
+        reply_is = ap (λ (o : HoldingServed). o.reply) is;
+        leaves = record {
+          ready = record {
+            furnished = stays.furnished;
+            objects = subst (HasObjects (record session { buffer = buffer })) (sym it.taken.stock) (record { nodes = ready.objects.nodes; objects = ready.objects.objects; counted = ready.objects.counted });
+            lent = subst (λ b. HasBuffer b (holding_of session.nodes.heaps.contents new after)) (sym it.later_is) it.taken.stands;
+          };
+          account = ap (λ (s : Stock). s.account) it.taken.stock ∙ ap (λ (o : HoldingServed). o.account) is;
+          objects = ap (objects_in kinds session) it.taken.stock ∙ ap (λ (o : HoldingServed). o.objects) is;
+          buffer = ap (λ b. bytes_lent new (buffer_key b)) it.later_is ∙ ap Some it.taken.zero ∙ ap (λ (o : HoldingServed). o.buffer) is;
+          label = refl;
+        };
+      }
+  lend_answers n (Err e) buffer {new} {after} refusal it same_buffer same_store same_map stays =
+      let is = sym (ap (λ o. lent_beside (objects_in kinds session has) (unless_refused o lends no_files has.account (made n no_files has.account))) refusal) in
+      told_refused (Refused (Shared (model_error e))) _ is buffer same_buffer same_store same_map
+
+  -- it is freed, or there is none
+  pub take_back_answers : (r : Result DsId FileError) (buffer : Option SessionBuffer) {new : Store} {after : Regions} → option_map model_error (result_err r) ≡ cond (is_some session.buffer) None (Some NoBuffer) →
+      IfOk r (λ space. FreesBuffer space session.buffer buffer has (stock_of session.nodes.heaps new after) (holding_of session.nodes.heaps.contents new after) store) → OnErr r (buffer ≡ session.buffer) → OnErr r (new ≡ store) → OnErr r (after ≡ regions) →
+      StaySoundHeaps session.nodes.heaps session.nodes.heaps store new regions after → Answers kinds (session_served kinds (Some (OfBuffer GiveBack)) session store regions) (gone_reply r) session (record session { buffer = buffer }) new after
+  take_back_answers (Ok space) buffer {new} {after} refusal it same_buffer same_store same_map stays =
+      let is = ap (λ b. lent_beside (objects_in kinds session has) (given_back (bytes_lent store (buffer_key b)) no_files has.account)) (sym it.was_is) in
+      record {
+        reply_is = ap (λ (o : HoldingServed). o.reply) is;
+        leaves = record {
+          ready = record {
+            furnished = stays.furnished;
+            objects = subst (HasObjects (record session { buffer = buffer })) (sym it.given.stock) (record { nodes = ready.objects.nodes; objects = ready.objects.objects; counted = ready.objects.counted });
+            lent = subst (λ b. HasBuffer b (holding_of session.nodes.heaps.contents new after)) (sym it.later_is) it.given.none;
+          };
+          account = ap (λ (s : Stock). s.account) it.given.stock ∙ ap (λ (o : HoldingServed). o.account) is;
+          objects = ap (objects_in kinds session) it.given.stock ∙ ap (λ (o : HoldingServed). o.objects) is;
+          buffer = ap (λ b. bytes_lent new (buffer_key b)) it.later_is ∙ ap (λ (o : HoldingServed). o.buffer) is;
+          label = refl;
+        };
+      }
+  take_back_answers (Err e) buffer {new} {after} refusal it same_buffer same_store same_map stays =
+      told_refused (Refused (Shared (model_error e))) _ (given_none session.buffer store (model_error e) (objects_in kinds session has) has.account refusal) buffer same_buffer same_store same_map
 
   -- ---- what is told
 

@@ -1,8 +1,8 @@
 -- How requests of objects are served, by the tests that they pass.
-use Rattle.std.proofs.Common.{◌≡◌, ◌≢◌, ℕ, ◌+◌, ◌^◌, ◌≤◌, ◌==◌, cond, Bool, true, false, true≢false, List, Option, Some, None, is_some, refl, sym, ap, subst, ◌∙◌, arith}
+use Rattle.std.proofs.Common.{◌≡◌, ◌≢◌, ℕ, ◌+◌, ◌^◌, ◌≤◌, ◌==◌, cond, Bool, true, false, List, Option, Some, None, is_some, refl, sym, ap, subst, ◌∙◌, arith}
 use Rattle.std.proofs.lemmas.Bool.Decides.{nat_tests}
 use Rattle.std.proofs.lemmas.Option.{none-some, same_Some}
-use Rattle.std.specs.Prelude.{slice_get, SomeIff, Result, Ok, Err, MatchResult, is_ok}
+use Rattle.std.specs.Prelude.{slice_get, SomeIff, Result, Ok, Err}
 use Rattle.std.specs.Option.{option_map}
 use Rattle.std.specs.Result.{result_ok}
 use Rattle.trade_base.specs.Page.{is_valid_size}
@@ -171,13 +171,6 @@ module _ (kinds : List ObjectKind) (session : ObjectSession) (has : Stock) where
 
     pub count_done : (kind : ObjectKind) → kind_named name kinds ≡ Some kind → served_in kinds (CountKind name) session has ≡ counted (Some kind) (objects_in kinds session has) has.account
     count_done kind there = ap (λ o. counted o (objects_in kinds session has) has.account) there
-
--- ---- results
-
--- what is Ok after its error was mapped was Ok before
-pub was_ok : {T E D : Type 0} (self : Result T E) (mapped : Result T D) (x : T) (Q : E → Type 0) → MatchResult self (λ y. mapped ≡ Ok y) Q → is_ok mapped ≡ is_ok self → mapped ≡ Ok x → self ≡ Ok x
-was_ok (Ok y) mapped x Q cases variant is = let e : y ≡ x = cc in ap Ok e
-was_ok (Err e) mapped x Q cases variant is = absurd (true≢false (ap is_ok (sym is) ∙ variant))
 
 -- ---- NAME
 

@@ -149,15 +149,7 @@ abbrev pub lent_reply : Result DsId FileError → model.ObjectReply
 lent_reply (Ok _) = Lent
 lent_reply (Err e) = Refused (model_object_error (Shared e))
 
-abbrev pub lent_effect : Result DsId FileError → Effect
-lent_effect (Ok ds) = Effect.Buffer ds
-lent_effect (Err e) = Effect.Nothing
-
 -- the buffer is freed
 abbrev pub gone_reply : Result DsId FileError → model.ObjectReply
 gone_reply (Ok _) = Done
 gone_reply (Err e) = Refused (model_object_error (Shared e))
-
-abbrev pub gone_effect : Result DsId FileError → Effect
-gone_effect (Ok ds) = Effect.Gone ds
-gone_effect (Err e) = Effect.Nothing

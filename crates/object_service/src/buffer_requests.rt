@@ -1,21 +1,18 @@
 //! The requests of a session's buffer.
 ghost use Rattle.std.specs.Prelude.{◌≡◌, List, Some};
-ghost use Rattle.trade_base.specs.Page.{is_valid_size};
 ghost use Rattle.own_model.specs.BufferService.BufferRequest.{Make, GiveBack};
-ghost use Rattle.own_model.specs.FileService.{error_of as model_error_of};
 ghost use Rattle.own_model.specs.ObjectKinds as model;
 ghost use Rattle.own_model.specs.ObjectSession.HoldingRequest.{OfBuffer};
-ghost use Rattle.core_calls.specs.FileError.{model_error};
 ghost use Rattle.server_frame.specs.SessionBuffer.{IsEffect};
 ghost use Rattle.session_nodes.specs.SessionHeaps.{StaySoundHeaps};
-ghost use Rattle.session_nodes.specs.SessionBuffer.{buffer_key};
-ghost use Rattle.object_service.specs.Session.{Answers, IsReady, session_served, gone_reply, lent_reply, lent_effect, gone_effect};
+ghost use Rattle.session_nodes.specs.SessionBuffer.{buffer_key, lent_effect, gone_effect};
+ghost use Rattle.object_service.specs.Session.{Answers, IsReady, session_served, gone_reply, lent_reply};
 
 use crate::session::ObjectSession;
 use dataspace_core::Memory;
 use region_map::RegionMap;
 use session_proto::FileError;
-use trade_base::{DsId, Refusal, page_round};
+use trade_base::DsId;
 
 impl ObjectSession {
     /// Creates the buffer of a session, with this number of bytes in whole pages, all zero, and returns its dataspace.
@@ -37,19 +34,7 @@ impl ObjectSession {
         ensures stays { StaySoundHeaps self.old.nodes.heaps self.new.nodes.heaps
             memory.old memory.new map.old map.new }
     {
-        if !is_size(bytes) {
-            return Err(FileError::InvalidSize);
-        }
-        if self.buffer.is_some() {
-            return Err(FileError::Exists);
-        }
-        let lent = self
-            .nodes
-            .heaps
-            .take_buffer(memory, map, bytes)
-            .map_err(error_of)?;
-        self.buffer = Some(lent);
-        Ok(lent.space)
+        self.nodes.heaps.lend(memory, map, &mut self.buffer, bytes)
     }
 
     /// Frees the session's buffer and returns its dataspace. Refuses with `NoBuffer` if there is none.
@@ -67,27 +52,6 @@ impl ObjectSession {
         ensures stays { StaySoundHeaps self.old.nodes.heaps self.new.nodes.heaps
             memory.old memory.new map.old map.new }
     {
-        let lent = self.buffer.ok_or(FileError::NoBuffer)?;
-        self.nodes.heaps.give_buffer(memory, map, lent);
-        self.buffer = None;
-        Ok(lent.space)
-    }
-}
-
-/// Returns whether a dataspace can have this number of bytes, in whole pages.
-fn is_size(bytes: u64) -> bool
-    ensures { result ≡ is_valid_size bytes }
-{
-    bytes != 0 && page_round(bytes).is_some()
-}
-
-/// Returns the error of a reply for a refusal of a buffer.
-fn error_of(refusal: Refusal) -> FileError
-    ensures { model_error result ≡ model_error_of refusal }
-{
-    match refusal {
-        Refusal::TooManyChunks => FileError::TooManyChunks,
-        Refusal::OutOfCaps => FileError::OutOfCaps,
-        _ => FileError::OutOfRam,
+        self.nodes.heaps.take_back(memory, map, &mut self.buffer)
     }
 }

@@ -247,8 +247,6 @@ fn error_of(refusal: Refusal) -> ObjectError
 {
     ObjectError::Shared(match refusal {
         Refusal::InvalidSize => FileError::InvalidSize,
-        Refusal::TooManyChunks => FileError::TooManyChunks,
-        Refusal::OutOfCaps => FileError::OutOfCaps,
-        _ => FileError::OutOfRam,
+        refusal => session_nodes::error_of(refusal),
     })
 }

@@ -8,12 +8,13 @@ ghost use Rattle.own_model.specs.ObjectText.{ObjectReply as Answered};
 ghost use Rattle.own_model.specs.ObjectText.ObjectRequest.{Name};
 ghost use Rattle.dataspace_core.specs.Store.{account_in, IsOpenIn};
 ghost use Rattle.sliced_heap.specs.Heap.{payer_of};
+ghost use Rattle.session_nodes.specs.SessionBuffer.{lent_effect, gone_effect};
 ghost use Rattle.session_nodes.specs.SessionHeaps.{stock_of, AreSoundHeaps};
-ghost use Rattle.object_service.specs.Session.{HasObjects, IsReady, IsAnswered, Serves, done_reply, counted_reply, lent_reply, lent_effect, gone_reply, gone_effect, served_in, session_served};
+ghost use Rattle.object_service.specs.Session.{HasObjects, IsReady, IsAnswered, Serves, done_reply, counted_reply, lent_reply, gone_reply, served_in, session_served};
 
 use crate::read_requests::name_of;
 use crate::session::ObjectSession;
-use core_calls::{Quotas, Reply};
+use core_calls::Reply;
 use dataspace_core::Memory;
 use object_kinds::ObjectKind;
 use region_map::RegionMap;
@@ -204,16 +205,7 @@ fn answer_stat(heaps: &SessionHeaps, memory: &Memory, reply: &mut Reply)
           (account_in memory.now (payer_of heaps.now.contents)));
     } }
 {
-    let account = heaps.account();
-    let (ram_used, caps_used) = memory.used(account);
-    let (ram_limit, caps_limit) = memory.limits(account);
-    let quotas = Quotas {
-        ram_used,
-        ram_limit,
-        caps_used,
-        caps_limit,
-    };
-    ObjectReply::Quotas(quotas).write(reply);
+    ObjectReply::Quotas(heaps.quotas(memory)).write(reply);
 }
 
 /// Writes the reply of a request that is done or refused.

@@ -230,7 +230,7 @@ impl Component {
     {
         match &self.role {
             Role::Server(_, host) => host.kinds(),
-            Role::Script(_) | Role::Init(_) | Role::Gone => None,
+            _ => None,
         }
     }
 }
@@ -288,7 +288,10 @@ fn session_kinds<'a>(
 {
     let _ = memory;
     match components[place].session(selector) {
-        Ok((server, _)) => components[server].kinds(),
+        Ok((server, session)) => {
+            let _ = session;
+            components[server].kinds()
+        }
         Err(_) => None,
     }
 }

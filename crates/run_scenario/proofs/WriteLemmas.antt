@@ -209,9 +209,9 @@ played_on listed {calls = calls} only first told behind ending {start = start} {
     (subst (λ expected. IsRunFrom (start_at only start begun expected) (told start) (behind start) calls (WritesAllReports (scope_of noted list) (start_at only start begun expected) e e') ending input rest failed w w') none played)))
 
 -- what the errors hold is what they hold at the end
-pub reported_at : {start first : RunStart} {told behind : List LineStep → List ℕ} {calls : Bool} {scope : ReportScope} {e e1 e2 : Option (List ℕ)} {ending : ScenarioEnd} {input rest : Option (List ℕ)} {failed : Bool} {w w' : Option (List ℕ)} → e2 ≡ e1 →
-    IsRunFrom start told behind calls (WritesAllReports scope first e e1) ending input rest failed w w' → IsRunFrom start told behind calls (WritesAllReports scope first e e2) ending input rest failed w w'
-reported_at {start = start} {first = first} {told = told} {behind = behind} {calls = calls} {scope = scope} {e = e} {ending = ending} {input = input} {rest = rest} {failed = failed} {w = w} {w' = w'} same played =
+pub reported_at : {start first : RunStart} {told behind : List LineStep → List ℕ} {calls : Bool} {scope : ReportScope} {e e1 e2 : Option (List ℕ)} {ending : ScenarioEnd} {input rest : Option (List ℕ)} {failed : Bool} {w w' : Option (List ℕ)} →
+    IsRunFrom start told behind calls (WritesAllReports scope first e e1) ending input rest failed w w' → e2 ≡ e1 → IsRunFrom start told behind calls (WritesAllReports scope first e e2) ending input rest failed w w'
+reported_at {start = start} {first = first} {told = told} {behind = behind} {calls = calls} {scope = scope} {e = e} {ending = ending} {input = input} {rest = rest} {failed = failed} {w = w} {w' = w'} played same =
     subst (λ held. IsRunFrom start told behind calls (WritesAllReports scope first e held) ending input rest failed w w') (sym same) played
 
 -- ---- within the bounds, and with no failed device, only want of room is a cause to stop

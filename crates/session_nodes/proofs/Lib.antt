@@ -49,3 +49,4 @@ pub mod SetLemmas
 pub mod ReplaceLemmas
 pub mod RemoveLemmas
 pub mod DropLemmas
+pub mod BufferRequestLemmas

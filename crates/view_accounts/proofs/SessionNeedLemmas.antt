@@ -1,17 +1,19 @@
 -- What is kept of sessions once a table was changed at one place.
 use Rattle.std.proofs.Common.{◌≡◌, ℕ, ◌==◌, ◌&&◌, Bool, true, false, cond, eqb-true, List, [], ◌∷◌, ◌++◌, Option, Some, None, Result, Ok, Err, OnOk, refl, sym, ◌∙◌, ap, subst}
 use Rattle.std.proofs.lemmas.Option.{none-some, same_Some}
-use Rattle.std.specs.Option.{option_map}
+use Rattle.std.specs.Option.{option_and_then, option_map}
 use Rattle.own_model.specs.Amounts.{Amounts}
 use Rattle.own_model.specs.OwnState.{NamedBuffer, bytes_of_buffer}
-use Rattle.own_model.specs.Session.{Session, served, upgraded}
+use Rattle.own_model.specs.ObjectKinds.{ObjectKind}
+use Rattle.own_model.specs.Session.{Session, Wish, new_session, offer_of, served, too_small, upgraded}
+use Rattle.object_kinds.specs.Offered.{offered_kinds}
 use Rattle.core_calls.specs.declared.quotas.Quotas.{Quotas}
 use Rattle.pd_core.specs.Answer.{quotas_account}
 use Rattle.budget_theorems.specs.Request.{donating}
 use Rattle.budget_theorems.specs.RequestTheorems.{Reaches, session_run}
 use Rattle.budget_theorems.specs.RequestTheorems.Reaches.{Asked, Raised}
 use Rattle.budget_meter.specs.Sessions.{HasReached, IsServedBy}
-use Rattle.view_accounts.specs.SessionNeeds.{Asks, Change, ChangesAt, IsMeasured, Raises}
+use Rattle.view_accounts.specs.SessionNeeds.{Asks, Begins, Change, ChangesAt, IsMeasured, Raises}
 use Rattle.view_accounts.specs.declared.session_needs.MeteredSession.{MeteredSession}
 
 -- what is so of a success is so of it in other words
@@ -55,6 +57,19 @@ module _ (component selector : ℕ) (change : Change) (c q : ℕ) (was is : Opti
 pub put_back : {T : Type 0} (b : Bool) (value was is mid : Option T) → mid ≡ cond b None was → is ≡ cond b value mid → is ≡ cond b value was
 put_back true value was is mid taken set = set
 put_back false value was is mid taken set = set ∙ taken
+
+-- a meter of a session that was just opened
+pub begins_there : (account : Quotas) (kinds : Option (List ObjectKind)) (now : Option Session) (was : Option MeteredSession) (new : MeteredSession) → Some (quotas_account account) ≡ option_map (λ s. s.account) now →
+    kinds ≡ option_and_then (λ (s : Session). offered_kinds (offer_of s.state)) now → IsMeasured new →
+    ((wish : Wish) → kinds ≡ offered_kinds (offer_of (new_session wish).state) → too_small wish.ram wish.caps ≡ None → quotas_account account ≡ (new_session wish).account →
+    HasReached [] (record { ram = wish.ram; caps = wish.caps }) (new_session wish) new.meter) →
+    Begins now was (Some new)
+begins_there account kinds now was new some offers measured reached =
+    let at = some_image (λ s. s.account) now (quotas_account account) some in
+    subst (λ s. Begins s was (Some new)) (sym at.1.0)
+    (measured, λ wish same enough.
+        reached wish (offers ∙ ap (option_and_then (λ (s : Session). offered_kinds (offer_of s.state))) at.1.0 ∙ ap (λ (s : Session). offered_kinds (offer_of s.state)) (sym same)) enough
+        (at.1.1 ∙ ap (λ (s : Session). s.account) (sym same)))
 
 -- a meter that has observed a request
 pub asks_there : (request reply : List ℕ) (account : Quotas) (now : Option Session) (was : Option MeteredSession) (old new : MeteredSession) → Some (quotas_account account) ≡ option_map (λ s. s.account) now → was ≡ Some old → IsMeasured new →

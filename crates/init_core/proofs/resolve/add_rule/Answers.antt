@@ -1,7 +1,6 @@
 -- One service more is resolved.
-use Rattle.std.proofs.Common.{◌≡◌, List, Some, ap, ◌∙◌}
+use Rattle.std.proofs.Common.{Some, ap, ◌∙◌}
 use Rattle.own_model.specs.Listed.{lead_of, own_rule, own_rule_for, services_of, way_to}
-use Rattle.own_model.specs.Routes.{Lead, Rule}
 use Rattle.list_parser.specs.Services.{service_text}
 use Rattle.init_core.specs.Rows.{model_lead}
 use Rattle.init_core.proofs.RuleLemmas.{one_resolved}

@@ -2,30 +2,16 @@
 use Rattle.std.proofs.Common.{arith, refl}
 use Rattle.std.proofs.lemmas.Option.{slice_get_read}
 use Rattle.std.proofs.lemmas.Grind.{common_steps}
-use Rattle.own_model.specs.Offer.{offer_of_service}
-use Rattle.own_model.specs.Offer.Offer.{OffersObjects}
 use Rattle.init_core.proofs.RowLemmas.{leads_to, leads_nowhere, leads_out, leads_outward}
 use Rattle.init_core.proofs.table.+server_for.Goals as goal
 
-pub returns-in-Some-ToBuiltIn : goal.returns-in-Some-ToBuiltIn
-returns-in-Some-ToBuiltIn t c =
+pub returns-in-Server : goal.returns-in-Server
+returns-in-Server t c =
     leads_to c.args.rows.now c.args.lists c.args.client c.args.service.now c.args.label.now c.in-Some.row.now (omega arith)
-    (slice_get_read c.args.rows.now _ c.args.client c.in-Some.row.now refl c.in-Some.ensures.lookup.3.0 c.in-Some.ensures.lookup.1)
-    (record { kind = offer_of_service c.in-Some-ToBuiltIn.field-0.now; place = c.in-Some-ToBuiltIn.place.now }) (grind (arith, common_steps))
+    (slice_get_read c.args.rows.now _ c.args.client c.in-Some.row.now refl c.in-Some.ensures.lookup.3.0 c.in-Some.ensures.lookup.1) c.in-Server.place (grind (arith, common_steps))
 
-pub returns-in-Some-ToDeclared : goal.returns-in-Some-ToDeclared
-returns-in-Some-ToDeclared t c =
-    leads_to c.args.rows.now c.args.lists c.args.client c.args.service.now c.args.label.now c.in-Some.row.now (omega arith)
-    (slice_get_read c.args.rows.now _ c.args.client c.in-Some.row.now refl c.in-Some.ensures.lookup.3.0 c.in-Some.ensures.lookup.1)
-    (record { kind = OffersObjects c.in-Some-ToDeclared.field-0.now.value.kinds; place = c.in-Some-ToDeclared.place.now }) (grind (arith, common_steps))
-
-pub returns-in-Some-Nowhere : goal.returns-in-Some-Nowhere
-returns-in-Some-Nowhere t c =
-    leads_nowhere c.args.rows.now c.args.lists c.args.client c.args.service.now c.args.label.now c.in-Some.row.now (omega arith)
-    (slice_get_read c.args.rows.now _ c.args.client c.in-Some.row.now refl c.in-Some.ensures.lookup.3.0 c.in-Some.ensures.lookup.1) (grind (arith, common_steps))
-
-pub returns-in-Some-Nowhere-2 : goal.returns-in-Some-Nowhere-2
-returns-in-Some-Nowhere-2 t c =
+pub returns-in-Nowhere : goal.returns-in-Nowhere
+returns-in-Nowhere t c =
     leads_nowhere c.args.rows.now c.args.lists c.args.client c.args.service.now c.args.label.now c.in-Some.row.now (omega arith)
     (slice_get_read c.args.rows.now _ c.args.client c.in-Some.row.now refl c.in-Some.ensures.lookup.3.0 c.in-Some.ensures.lookup.1) (grind (arith, common_steps))
 

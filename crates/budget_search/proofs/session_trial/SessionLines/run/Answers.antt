@@ -14,8 +14,8 @@ returns-clause-run g c = λ wish enough same has.
     let donation : Amounts = record { ram = wish.ram; caps = wish.caps } in
     let ended =
     c.in_ok-go_through.ensures.ended sent (new_session wish) donation
-    (begins c.args.client.now.core c.args.client.now.client wish sent c.in_ok-new.run.heard has
-    (c.in_ok-new.ensures wish (kinds_told c.args.client.now.core c.args.client.now.client (new_session wish) has c.kinds.result c.kinds.ensures) enough same)) in
+    (begins c.args.client.now.core c.args.client.now.client wish sent c.in_ok-heard.heard has
+    (c.in_ok-heard.ensures wish (kinds_told c.args.client.now.core c.args.client.now.client (new_session wish) has c.kinds.result c.kinds.ensures) enough same)) in
     subst (λ places. Shows (sent_at c.args.self.steps.now places) (new_session wish) donation (is_some c.go_through.new.run.trial.refused) c.go_through.new.run.heard.meter) c.as_slice.ensures.value
     ended.shows
 
@@ -25,8 +25,8 @@ returns-clause-ready g c = λ wish enough same has.
     let donation : Amounts = record { ram = wish.ram; caps = wish.caps } in
     let ended =
     c.in_ok-go_through.ensures.ended sent (new_session wish) donation
-    (begins c.args.client.now.core c.args.client.now.client wish sent c.in_ok-new.run.heard has
-    (c.in_ok-new.ensures wish (kinds_told c.args.client.now.core c.args.client.now.client (new_session wish) has c.kinds.result c.kinds.ensures) enough same)) in
+    (begins c.args.client.now.core c.args.client.now.client wish sent c.in_ok-heard.heard has
+    (c.in_ok-heard.ensures wish (kinds_told c.args.client.now.core c.args.client.now.client (new_session wish) has c.kinds.result c.kinds.ensures) enough same)) in
     let entry = ended.has.entry in
     subst (λ p. IsReady c.step.new.self.core p) (sym c.step.ensures.same)
     (closes c.go_through.new.self.core c.step.new.self.core c.go_through.new.self.client c.step.new.self.reply.text (c.step.ensures.answered entry) (c.step.ensures.stepped entry)

@@ -14,7 +14,7 @@ use Rattle.session_nodes.specs.SoundHeaps.{Stock}
 use Rattle.session_nodes.specs.declared.node_list.NodeList.{NodeList}
 use Rattle.session_nodes.proofs.AfterLemmas.{keeps_both}
 use Rattle.session_nodes.proofs.LinkLemmas.{listed_last}
-use Rattle.session_nodes.proofs.ResultLemmas.{err_case, err_and}
+use Rattle.session_nodes.proofs.ResultLemmas.{err_case, err_and, was_ok}
 use Rattle.object_service.specs.Calls.{refusal_error}
 use Rattle.object_service.specs.Counts.{AreCounted}
 use Rattle.object_service.specs.Objects.{number_at, numbers_of}
@@ -22,7 +22,7 @@ use Rattle.object_service.specs.Session.{objects_in, created_in, done_reply}
 use Rattle.object_service.specs.declared.session.ObjectSession.{ObjectSession}
 use Rattle.object_service.proofs.ChangeLemmas.{HasKind, objects_created, numbers_created, nodes_created}
 use Rattle.object_service.proofs.KeptLemmas.{few_nodes}
-use Rattle.object_service.proofs.ServeLemmas.{created_done, created_refused, serves_done, serves_refused, was_ok}
+use Rattle.object_service.proofs.ServeLemmas.{created_done, created_refused, serves_done, serves_refused}
 use Rattle.object_service.proofs.WordLemmas.{room_of}
 use Rattle.object_service.proofs.session.ObjectSession.create.Goals.{In_ok-address}
 use Rattle.object_service.proofs.session.ObjectSession.create.Goals as goal
