@@ -1,6 +1,7 @@
 -- From the first request on, and then the close.
 use Rattle.std.proofs.Common.{sym, subst}
 use Rattle.std.specs.Prelude.{is_some}
+use Rattle.std.specs.Option.{option_copied}
 use Rattle.own_model.specs.Amounts.{Amounts}
 use Rattle.own_model.specs.Session.{new_session}
 use Rattle.budget_meter.specs.Sessions.{Shows}
@@ -15,7 +16,7 @@ returns-clause-run g c = λ wish enough same has.
     let ended =
     c.in_ok-go_through.ensures.ended sent (new_session wish) donation
     (begins c.args.client.now.core c.args.client.now.client wish sent c.in_ok-heard.heard has
-    (c.in_ok-heard.ensures wish (kinds_told c.args.client.now.core c.args.client.now.client (new_session wish) has c.kinds.result c.kinds.ensures) enough same)) in
+    (c.in_ok-heard.ensures wish (kinds_told c.args.client.now.core c.args.client.now.client (new_session wish) has (option_copied c.kinds.result) c.kinds.ensures) enough same)) in
     subst (λ places. Shows (sent_at c.args.self.steps.now places) (new_session wish) donation (is_some c.go_through.new.run.trial.refused) c.go_through.new.run.heard.meter) c.as_slice.ensures.value
     ended.shows
 
@@ -26,7 +27,7 @@ returns-clause-ready g c = λ wish enough same has.
     let ended =
     c.in_ok-go_through.ensures.ended sent (new_session wish) donation
     (begins c.args.client.now.core c.args.client.now.client wish sent c.in_ok-heard.heard has
-    (c.in_ok-heard.ensures wish (kinds_told c.args.client.now.core c.args.client.now.client (new_session wish) has c.kinds.result c.kinds.ensures) enough same)) in
+    (c.in_ok-heard.ensures wish (kinds_told c.args.client.now.core c.args.client.now.client (new_session wish) has (option_copied c.kinds.result) c.kinds.ensures) enough same)) in
     let entry = ended.has.entry in
     subst (λ p. IsReady c.step.new.self.core p) (sym c.step.ensures.same)
     (closes c.go_through.new.self.core c.step.new.self.core c.go_through.new.self.client c.step.new.self.reply.text (c.step.ensures.answered entry) (c.step.ensures.stepped entry)
