@@ -162,7 +162,7 @@ fn add_missed(
     requires views { ShowAll decided.list.now decided.views.now }
     ensures { OnOk result (found.new.items ≡ found.old.items
         ++ finding_on (part_of decided.entry.list.now.entries (about.Entry number))
-        (missed decided.entry.list.now service.entry (number, entry.now))) }
+        (missed decided.entry.list.now service (number, entry.now))) }
 {
     let remark = missed(decided, service, number, entry);
     add_remark(found, alloc, decided.list, PartId::Entry(number), remark)
@@ -227,7 +227,7 @@ fn missed(
 ) -> Option<Remark>
     requires views { ShowAll decided.list.now decided.views.now }
     ensures { result
-        ≡ missed decided.entry.list.now service.entry (number, entry.now) }
+        ≡ missed decided.entry.list.now service (number, entry.now) }
 {
     if entry.provides() {
         unreached(decided, number)

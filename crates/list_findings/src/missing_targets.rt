@@ -118,7 +118,7 @@ fn add_stray_finding(
     ensures { OnOk result (found.new.items
         ≡ found.old.items ++ strays_of list.now.entries placed.entry.init
         (part_of list.now.entries (about.Rule placed.entry.owner placed.entry.place))
-        placed.entry.earlier.now placed.entry.rule.now (service_text service)) }
+        placed.entry.earlier.now placed.entry.rule.now (service_text service.entry)) }
 {
     let remark = strays_if_provided(list, placed, service);
     add_remark(found, alloc, list, placed.part(), remark)
@@ -131,7 +131,7 @@ fn strays_if_provided(
     service: ListService<'_>,
 ) -> Option<Remark>
     ensures { result ≡ strays_if_provided list.now.entries placed.entry.init
-        placed.entry.earlier.now placed.entry.rule.now (service_text service) }
+        placed.entry.earlier.now placed.entry.rule.now (service_text service.entry) }
 {
     match name_of(service) {
         Some(name) if is_provided(list, placed.init, name.as_bytes()) => {

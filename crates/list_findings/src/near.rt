@@ -79,7 +79,7 @@ fn is_service(list: &StartList, written: &Name) -> bool
 
 // Whether a service has a name.
 fn is_named(written: &Name, service: ListService<'_>) -> bool
-    ensures { result ≡ bytes_eq written.now (service_text service) }
+    ensures { result ≡ bytes_eq written.now (service_text service.entry) }
 {
     written.as_bytes() == service.name().as_bytes()
 }
@@ -99,7 +99,7 @@ fn meant_by(list: &StartList, written: &Name) -> Option<Name>
 
 // Whether the name of a service differs from this in case alone.
 fn is_in_case(written: &Name, service: ListService<'_>) -> bool
-    ensures { result ≡ is_in_case written.now (service_text service) }
+    ensures { result ≡ is_in_case written.now (service_text service.entry) }
 {
     let name = service.name();
     written.as_str().eq_ignore_ascii_case(name) && written.as_bytes() != name.as_bytes()

@@ -8,7 +8,7 @@ use trade_base::Service;
 
 /// Returns the name of a service of a list.
 pub(crate) fn name_of(service: ListService<'_>) -> Option<Name>
-    ensures { result ≡ Some (service_text service) }
+    ensures { result ≡ Some (service_text service.entry) }
 {
     match service {
         ListService::BuiltIn(service) => built_in_name(service),
