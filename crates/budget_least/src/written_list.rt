@@ -37,10 +37,20 @@ impl ListSizes {
         machine.push(JsonStep::Member("machine"))?;
         let MachineSize { pages, caps } = size;
         if pages != u64::from(list.pages()) {
-            self.add(alloc, machine.as_slice(), "pages", format!(in alloc; "{pages}")?)?;
+            self.add(
+                alloc,
+                machine.as_slice(),
+                "pages",
+                format!(in alloc; "{pages}")?,
+            )?;
         }
         if caps != u64::from(list.caps()) {
-            self.add(alloc, machine.as_slice(), "caps", format!(in alloc; "{caps}")?)?;
+            self.add(
+                alloc,
+                machine.as_slice(),
+                "caps",
+                format!(in alloc; "{caps}")?,
+            )?;
         }
         Ok(())
     }
@@ -53,19 +63,30 @@ impl ListSizes {
         component: usize,
         budget: Budget,
     ) -> Result<(), AllocError> {
-        let (Some(steps), Some(entry)) =
-            (self.entries.get(component), list.entries().get(component))
-        else {
+        let (Some(steps), Some(entry)) = (
+            self.entries.get(component),
+            list.entries().get(component),
+        ) else {
             return Ok(());
         };
         let steps = copy_of(alloc, steps.as_slice())?;
         if entry.ram() != budget.ram {
             let ram = Bytes(budget.ram);
-            self.add(alloc, steps.as_slice(), "quantum", format!(in alloc; "\"{ram}\"")?)?;
+            self.add(
+                alloc,
+                steps.as_slice(),
+                "quantum",
+                format!(in alloc; "\"{ram}\"")?,
+            )?;
         }
         if u64::from(entry.caps()) != budget.caps {
             let caps = budget.caps;
-            self.add(alloc, steps.as_slice(), "caps", format!(in alloc; "{caps}")?)?;
+            self.add(
+                alloc,
+                steps.as_slice(),
+                "caps",
+                format!(in alloc; "{caps}")?,
+            )?;
         }
         Ok(())
     }
@@ -91,18 +112,18 @@ impl ListSizes {
 }
 
 /// Returns whether the entry of an account that isn't a session's has the budget that is written.
-pub(crate) fn has_budget(
-    list: &StartList,
-    choice: BudgetChoice,
-    account: &AccountBudgets,
-) -> bool
+pub(crate) fn has_budget(list: &StartList, choice: BudgetChoice, account: &AccountBudgets) -> bool
     ensures { result ≡ has_budget list.now choice account.now }
 {
-    match (account.session, account.chosen(choice), list.entries().get(account.component)) {
+    match (
+        account.session,
+        account.chosen(choice),
+        list.entries().get(account.component),
+    ) {
         (Some(_), _, _) | (None, None, _) => true,
         (None, Some(_), None) => false,
-        (None, Some(budget), Some(entry)) =>
-            entry.ram() == budget.ram && u64::from(entry.caps()) == budget.caps,
+        (None, Some(budget), Some(entry)) => entry.ram() == budget.ram
+            && u64::from(entry.caps()) == budget.caps,
     }
 }
 
@@ -150,10 +171,7 @@ fn steps_of(alloc: Global, list: &StartList) -> Result<Vec<Vec<JsonStep>>, Alloc
 }
 
 // Returns the steps to the list of an init, by those to its entry.
-fn steps_within(
-    alloc: Global,
-    init: Option<&Vec<JsonStep>>,
-) -> Result<Vec<JsonStep>, AllocError> {
+fn steps_within(alloc: Global, init: Option<&Vec<JsonStep>>) -> Result<Vec<JsonStep>, AllocError> {
     let mut steps = match init {
         Some(init) => copy_of(alloc, init.as_slice())?,
         None => Vec::new(alloc),

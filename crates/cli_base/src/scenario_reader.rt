@@ -32,11 +32,7 @@ pub type Reader<'a> = Input<ScenarioBytes<'a>>;
 
 /// Returns a reader of a scenario. If standard error is a terminal, a run of over two seconds reports on it every second how many lines
 /// are read, unless the command prints meanwhile on a terminal.
-pub fn watched_reader<'a>(
-    rt: &'a HostRuntime,
-    origin: Origin<'a>,
-    printing: Printing,
-) -> Reader<'a>
+pub fn watched_reader<'a>(rt: &'a HostRuntime, origin: Origin<'a>, printing: Printing) -> Reader<'a>
     ensures bytes { ⟦<Reader<'a> as Source>⟧.remaining result ≡ origin_bytes origin.entry }
     ensures fresh { ⟦<Reader<'a> as Source>⟧.has_failed result ≡ false }
 {

@@ -146,9 +146,12 @@ made_lacks had has made value lacks are is lacks_are =
 
 pub made_replies : {E : Type 0} (was now : List LineResult) (made : Result (Vec ReplyChange Global) E) (value : Vec ReplyChange Global) (replies : List ReplyChange)
     → IfOk made (λ found. AreChanges was now found.items) → made ≡ Ok value → replies ≡ value.items → AreReplyChanges replies
-made_replies was now made value replies are is replies_are =
-    (was, now, subst (λ (rs : List ReplyChange). AreChanges was now rs) (sym replies_are)
-    (of_made (λ (found : Vec ReplyChange Global). AreChanges was now found.items) made value is are))
+made_replies was now made value replies are is replies_are = (
+  was,
+  now,
+  subst (λ (rs : List ReplyChange). AreChanges was now rs) (sym replies_are)
+      (of_made (λ (found : Vec ReplyChange Global). AreChanges was now found.items) made value is are),
+)
 
 -- with the needs of both runs
 pub with_needs : (before after : Listed) (breaches : List BreachChange) (lacks : List NeedChange) (replies : List ReplyChange) (status : ℕ)
@@ -206,9 +209,13 @@ pub made_breaches : {E : Type 0} (policy : Option (List ℕ)) (before after : Li
     (made : Result (Vec BreachChange Global) E) (value : Vec BreachChange Global) (breaches : List BreachChange)
     → AreBreachesBy policy before after olds news → IfOk made (λ found. map change_at found.items ≡ breach_changes olds news)
     → made ≡ Ok value → breaches ≡ value.items → AreNewBreaches policy before after breaches
-made_breaches policy before after olds news made value breaches by are is breaches_are =
-    (olds, news, by, ap (λ (bs : List BreachChange). map change_at bs) breaches_are
-    ∙ of_made (λ (found : Vec BreachChange Global). map change_at found.items ≡ breach_changes olds news) made value is are)
+made_breaches policy before after olds news made value breaches by are is breaches_are = (
+  olds,
+  news,
+  by,
+  ap (λ (bs : List BreachChange). map change_at bs) breaches_are
+      ∙ of_made (λ (found : Vec BreachChange Global). map change_at found.items ≡ breach_changes olds news) made value is are,
+)
 
 -- the breaches of the lines that were read
 pub placed_by : (text : List ℕ) (before after : Listed) (old policy : Policy) (old_lines lines : List PolicyLine) (olds news : List BreachAt)

@@ -5,8 +5,8 @@ ghost use Rattle.cli_lists.specs.Comparison.{HasStopped};
 use crate::diff_files::ListFile;
 use budget_least::{AccountBudgets, Budget, BudgetChoice, BudgetQuery, BudgetReport};
 use cli_base::{
-    Origin, OutputStream, Printing, REFUSED, Settings, Spot, StopMessage, UNWRITTEN, made_or_status,
-    plain_writer, report_error, spot_of, watched_reader,
+    Origin, OutputStream, Printing, REFUSED, Settings, Spot, StopMessage, UNWRITTEN,
+    made_or_status, plain_writer, report_error, spot_of, watched_reader,
 };
 use init_core::{BootFault, ListEntry, StartList};
 use line_rounds::UnfoldedText;

@@ -17,6 +17,6 @@ pub selected_by : (texts : List (Bor (List ℕ))) (test : PlannedTest) (is_empty
     → found ≡ is_selected (map (λ (text : Bor (List ℕ)). text.now) texts) test
 selected_by texts test is_empty found length_is some found_is =
     let some_mapped : nat_eq (length (map (λ (text : Bor (List ℕ)). text.now) texts)) 0 ≡ false =
-        ap (λ n. nat_eq n 0) (length-map texts (λ (text : Bor (List ℕ)). text.now)) ∙ sym length_is ∙ some in
+    ap (λ n. nat_eq n 0) (length-map texts (λ (text : Bor (List ℕ)). text.now)) ∙ sym length_is ∙ some in
     found_is ∙ sym (any_of_map (has_text (path_of test)) (λ (text : Bor (List ℕ)). text.now) texts)
     ∙ sym (ap (λ b. b || list_any (has_text (path_of test)) (map (λ (text : Bor (List ℕ)). text.now) texts)) some_mapped)

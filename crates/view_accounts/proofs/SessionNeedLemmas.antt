@@ -66,10 +66,12 @@ pub begins_there : (account : Quotas) (kinds : Option (List ObjectKind)) (now : 
     Begins now was (Some new)
 begins_there account kinds now was new some offers measured reached =
     let at = some_image (λ s. s.account) now (quotas_account account) some in
-    subst (λ s. Begins s was (Some new)) (sym at.1.0)
-    (measured, λ wish same enough.
-        reached wish (offers ∙ ap (option_and_then (λ (s : Session). offered_kinds (offer_of s.state))) at.1.0 ∙ ap (λ (s : Session). offered_kinds (offer_of s.state)) (sym same)) enough
-        (at.1.1 ∙ ap (λ (s : Session). s.account) (sym same)))
+    subst (λ s. Begins s was (Some new)) (sym at.1.0) (
+      measured,
+      λ wish same enough.
+          reached wish (offers ∙ ap (option_and_then (λ (s : Session). offered_kinds (offer_of s.state))) at.1.0 ∙ ap (λ (s : Session). offered_kinds (offer_of s.state)) (sym same)) enough
+          (at.1.1 ∙ ap (λ (s : Session). s.account) (sym same)),
+    )
 
 -- a meter that has observed a request
 pub asks_there : (request reply : List ℕ) (account : Quotas) (now : Option Session) (was : Option MeteredSession) (old new : MeteredSession) → Some (quotas_account account) ≡ option_map (λ s. s.account) now → was ≡ Some old → IsMeasured new →

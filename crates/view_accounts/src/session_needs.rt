@@ -246,11 +246,7 @@ impl SessionNeeds {
     }
 
     // Keeps a session as closed, as it was until then.
-    fn keep_closed(
-        &mut self,
-        session: Option<&SessionPeak>,
-        need: Budget,
-    ) -> Result<(), AllocError>
+    fn keep_closed(&mut self, session: Option<&SessionPeak>, need: Budget) -> Result<(), AllocError>
         ensures same { self.new.opened ≡ self.old.opened }
     {
         if let Some(session) = session {

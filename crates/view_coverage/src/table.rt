@@ -160,7 +160,12 @@ fn add_services(
 {
     for service in 0..list.service_count() {
         let name = service_name(list, service);
-        add_service(rows, list.entries(), ScriptService { client, service }, name)?;
+        add_service(
+            rows,
+            list.entries(),
+            ScriptService { client, service },
+            name,
+        )?;
     }
     Ok(())
 }

@@ -13,7 +13,7 @@ returns g c =
     let new : MeteredSession = record { earlier = c.args.self.now.count; need = c.least.result; meter = c.in_ok-meter.meter } in
     on_success c.set.result
     (λ set c' q.
-        set_there c.args.component c.args.selector (Begins (session_at c.args.component c.args.selector c.args.core.now)) c' q (value_at c.args.self.now.opened c' q) (value_at c.set.new.self c' q) (Some new) (set c' q)
-        (λ one other.
-            begins_there c.in-Some.account (option_copied c.session_kinds.result) (session_at c.args.component c.args.selector c.args.core.now) (value_at c.args.self.now.opened c' q) new c.in-Some.ensures c.session_kinds.ensures c.least.ensures c.in_ok-meter.ensures))
+    set_there c.args.component c.args.selector (Begins (session_at c.args.component c.args.selector c.args.core.now)) c' q (value_at c.args.self.now.opened c' q) (value_at c.set.new.self c' q) (Some new) (set c' q)
+    (λ one other.
+    begins_there c.in-Some.account (option_copied c.session_kinds.result) (session_at c.args.component c.args.selector c.args.core.now) (value_at c.args.self.now.opened c' q) new c.in-Some.ensures c.session_kinds.ensures c.least.ensures c.in_ok-meter.ensures))
     c.set.ensures
