@@ -100,6 +100,7 @@ pub(crate) fn asked_in(
 }
 
 // Returns the number of a service of a list, given by its name, if the list has the service.
+#[tactic(auto, using(crate::proofs::ServiceLemmas::service_found, crate::proofs::ServiceLemmas::service_passed))]
 fn service_number(list: &StartList, name: &[u8]) -> Option<usize>
     ensures { result
         ≡ service_number name.now 0 (services_of list.now.entries) }

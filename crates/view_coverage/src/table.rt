@@ -160,12 +160,7 @@ fn add_services(
 {
     for service in 0..list.service_count() {
         let name = service_name(list, service);
-        add_service(
-            rows,
-            list.entries(),
-            ScriptService { client, service },
-            name,
-        )?;
+        add_service(rows, list, ScriptService { client, service }, name)?;
     }
     Ok(())
 }
@@ -173,14 +168,14 @@ fn add_services(
 // Adds the session requests of a script for a service of this name, if the service is provided.
 fn add_service(
     rows: &mut Vec<CoverageRow>,
-    entries: &[ListEntry],
+    list: &StartList,
     asked: ScriptService,
     name: &str,
 ) -> Result<(), AllocError>
     ensures { OnOk result (rows.new.items ≡ rows.old.items
-        ++ service_rows entries.now asked.client asked.service name.now) }
+        ++ service_rows list.now.entries asked.client asked.service name.now) }
 {
-    if is_provided(entries, name) {
+    if is_provided(list.entries(), name) {
         rows.push(unmet(CoverageEvent::Requested(asked)))?;
     }
     Ok(())
