@@ -15,5 +15,5 @@ returns g c =
     (λ set c' q.
     set_there c.args.component c.args.selector (Begins (session_at c.args.component c.args.selector c.args.core.now)) c' q (value_at c.args.self.now.opened c' q) (value_at c.set.new.self c' q) (Some new) (set c' q)
     (λ one other.
-    begins_there c.in-Some.account (option_copied c.session_kinds.result) (session_at c.args.component c.args.selector c.args.core.now) (value_at c.args.self.now.opened c' q) new c.in-Some.ensures c.session_kinds.ensures c.least.ensures c.in_ok-meter.ensures))
+    begins_there c.in-Some.account (option_copied c.session_kinds-kinds.result) (session_at c.args.component c.args.selector c.args.core.now) (value_at c.args.self.now.opened c' q) new c.in-Some.ensures c.session_kinds-kinds.ensures c.least.ensures c.in_ok-meter.ensures))
     c.set.ensures
