@@ -1,6 +1,6 @@
 //! Entries that were added, were removed or have another budget.
 ghost use Rattle.std.specs.Prelude.{◌≡◌, ◌++◌, IfOk, OnOk};
-ghost use Rattle.std.specs.List.{enumerate_from, flat_map};
+ghost use Rattle.std.specs.List.{enumerate_from, flat_map, list_all};
 ghost use Rattle.list_diff.specs.Changes.{arrival, changes_of, fate, has_kind, same_binary, same_flag, same_kind, same_kinds, same_means, same_reserves};
 ghost use Rattle.std.specs.Option.{option_map};
 ghost use Rattle.list_parser.specs.View.{model_binary};
@@ -139,7 +139,14 @@ fn has_same_binary(one: &Binary, other: &Binary) -> bool
 fn has_same_kinds(one: &[ObjectKind], other: &[ObjectKind]) -> bool
     ensures { result ≡ same_kinds one.now other.now }
 {
-    one.len() == other.len() && one.iter().all(|kind| has_kind(other, kind))
+    one.len() == other.len() && are_among(other, one)
+}
+
+// Whether each of some kinds is one of these.
+fn are_among(kinds: &[ObjectKind], some: &[ObjectKind]) -> bool
+    ensures { result ≡ list_all (has_kind kinds.now) some.now }
+{
+    some.iter().all(|kind| has_kind(kinds, kind))
 }
 
 // Whether a kind is one of these.
