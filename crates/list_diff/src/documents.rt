@@ -60,20 +60,56 @@ impl ListDifferences<'_> {
         change: EntryChange,
     ) -> Result<(), AllocError> {
         let (before, after) = (self.before.entries(), self.after.entries());
-        let (sign, was, now) = match change {
-            EntryChange::Gone(number) => ("-", before.get(number), None),
-            EntryChange::Came(number) => ("+", None, after.get(number)),
-            EntryChange::Changed(was, now) => ("~", before.get(was), after.get(now)),
-        };
-        let members = vec![in alloc;
-            ("kind", JsonField::Word("entry")),
-            ("change", JsonField::Word(sign)),
-        ]?;
-        let (kinds_before, kinds) = (kinds_of(alloc, was)?, kinds_of(alloc, now)?);
-        let members = with_entry(members, &WERE, was, kinds_before.as_ref())?;
-        let members = with_entry(members, &MEANS, now, kinds.as_ref())?;
-        listing.add(members.as_slice())
+        match change {
+            EntryChange::Gone(number) => match before.get(number) {
+                Some(entry) => add_entry(alloc, listing, "-", &WERE, entry),
+                None => Ok(()),
+            },
+            EntryChange::Came(number) => match after.get(number) {
+                Some(entry) => add_entry(alloc, listing, "+", &MEANS, entry),
+                None => Ok(()),
+            },
+            EntryChange::Changed(was, now) => match (before.get(was), after.get(now)) {
+                (Some(was), Some(now)) => add_changed(alloc, listing, was, now),
+                _ => Ok(()),
+            },
+        }
     }
+}
+
+// Adds an entry that one list alone has, by the sign of the change, with its members under these names.
+fn add_entry(
+    alloc: Global,
+    listing: &mut Listing,
+    sign: &'static str,
+    names: &'static [&'static str; 7],
+    entry: &ListEntry,
+) -> Result<(), AllocError> {
+    let kinds = kinds_of(alloc, entry)?;
+    let members = vec![in alloc;
+        ("kind", JsonField::Word("entry")),
+        ("change", JsonField::Word(sign)),
+    ]?;
+    let members = with_entry(members, names, entry, &kinds)?;
+    listing.add(members.as_slice())
+}
+
+// Adds an entry that both lists have, as it was and as it is.
+fn add_changed(
+    alloc: Global,
+    listing: &mut Listing,
+    was: &ListEntry,
+    now: &ListEntry,
+) -> Result<(), AllocError> {
+    let kinds_before = kinds_of(alloc, was)?;
+    let kinds = kinds_of(alloc, now)?;
+    let members = vec![in alloc;
+        ("kind", JsonField::Word("entry")),
+        ("change", JsonField::Word("~")),
+    ]?;
+    let members = with_entry(members, &WERE, was, &kinds_before)?;
+    let members = with_entry(members, &MEANS, now, &kinds)?;
+    listing.add(members.as_slice())
 }
 
 // Adds the machine of the list after, and that of the list before.
@@ -88,16 +124,13 @@ fn add_machine(listing: &mut Listing, was: &StartList, now: &StartList) -> Resul
     ])
 }
 
-// The members followed by the name of an entry, if there is one, by its budget and by its kinds, under these names.
+// The members followed by the name of an entry, by its budget and by its kinds, under these names.
 fn with_entry<'a>(
     mut members: Vec<JsonMember<'a>>,
     names: &'static [&'static str; 7],
-    entry: Option<&'a ListEntry>,
-    kinds: Option<&'a ObjectList>,
+    entry: &'a ListEntry,
+    kinds: &'a Option<ObjectList>,
 ) -> Result<Vec<JsonMember<'a>>, AllocError> {
-    let Some(entry) = entry else {
-        return Ok(members);
-    };
     let binary = entry.binary();
     members.extend_from_slice(&[
         ("name", JsonField::Text(entry.path())),
@@ -124,10 +157,7 @@ fn with_entry<'a>(
 }
 
 // An object for each kind that an entry declares, or none if it declares no service.
-fn kinds_of(alloc: Global, entry: Option<&ListEntry>) -> Result<Option<ObjectList>, AllocError> {
-    let Some(entry) = entry else {
-        return Ok(None);
-    };
+fn kinds_of(alloc: Global, entry: &ListEntry) -> Result<Option<ObjectList>, AllocError> {
     match entry.binary() {
         Binary::Declared(service) => Ok(Some(kind_documents(alloc, service.kinds())?)),
         Binary::Script | Binary::Server(_) | Binary::Init => Ok(None),
