@@ -62,15 +62,24 @@ impl ListDifferences<'_> {
         let (before, after) = (self.before.entries(), self.after.entries());
         match change {
             EntryChange::Gone(number) => match before.get(number) {
-                Some(entry) => add_entry(alloc, listing, "-", &WERE, entry),
+                Some(entry) => {
+                    let kinds = kinds_of(alloc, entry)?;
+                    add_entry(alloc, listing, "-", &WERE, entry, &kinds)
+                }
                 None => Ok(()),
             },
             EntryChange::Came(number) => match after.get(number) {
-                Some(entry) => add_entry(alloc, listing, "+", &MEANS, entry),
+                Some(entry) => {
+                    let kinds = kinds_of(alloc, entry)?;
+                    add_entry(alloc, listing, "+", &MEANS, entry, &kinds)
+                }
                 None => Ok(()),
             },
             EntryChange::Changed(was, now) => match (before.get(was), after.get(now)) {
-                (Some(was), Some(now)) => add_changed(alloc, listing, was, now),
+                (Some(was), Some(now)) => {
+                    let (kinds_before, kinds) = (kinds_of(alloc, was)?, kinds_of(alloc, now)?);
+                    add_changed(alloc, listing, was, &kinds_before, now, &kinds)
+                }
                 _ => Ok(()),
             },
         }
@@ -78,37 +87,37 @@ impl ListDifferences<'_> {
 }
 
 // Adds an entry that one list alone has, by the sign of the change, with its members under these names.
-fn add_entry(
+fn add_entry<'a>(
     alloc: Global,
     listing: &mut Listing,
     sign: &'static str,
     names: &'static [&'static str; 7],
-    entry: &ListEntry,
+    entry: &'a ListEntry,
+    kinds: &'a Option<ObjectList>,
 ) -> Result<(), AllocError> {
-    let kinds = kinds_of(alloc, entry)?;
     let members = vec![in alloc;
         ("kind", JsonField::Word("entry")),
         ("change", JsonField::Word(sign)),
     ]?;
-    let members = with_entry(members, names, entry, &kinds)?;
+    let members = with_entry(members, names, entry, kinds)?;
     listing.add(members.as_slice())
 }
 
 // Adds an entry that both lists have, as it was and as it is.
-fn add_changed(
+fn add_changed<'a>(
     alloc: Global,
     listing: &mut Listing,
-    was: &ListEntry,
-    now: &ListEntry,
+    was: &'a ListEntry,
+    kinds_before: &'a Option<ObjectList>,
+    now: &'a ListEntry,
+    kinds: &'a Option<ObjectList>,
 ) -> Result<(), AllocError> {
-    let kinds_before = kinds_of(alloc, was)?;
-    let kinds = kinds_of(alloc, now)?;
     let members = vec![in alloc;
         ("kind", JsonField::Word("entry")),
         ("change", JsonField::Word("~")),
     ]?;
-    let members = with_entry(members, &WERE, was, &kinds_before)?;
-    let members = with_entry(members, &MEANS, now, &kinds)?;
+    let members = with_entry(members, &WERE, was, kinds_before)?;
+    let members = with_entry(members, &MEANS, now, kinds)?;
     listing.add(members.as_slice())
 }
 
