@@ -103,10 +103,14 @@ impl fmt::Display for LineMessage<'_> {
 
     fn fmt<W: fmt::Write>(&self, f: &mut fmt::Formatter<W>) -> fmt::Result {
         f.write_str(self.reason.first_words())?;
-        write!(f, "{}", LineToken {
-            text: self.text,
-            is_shown: self.reason.shows_text(),
-        })?;
+        write!(
+            f,
+            "{}",
+            LineToken {
+                text: self.text,
+                is_shown: self.reason.shows_text(),
+            }
+        )?;
         write!(f, "{}", FormWords(self.reason))
     }
 }

@@ -29,15 +29,14 @@ module _ (scope : ReportScope) (only : Option (List ℕ)) where
   are_reported_more world stand awaited (x ∷ xs) line text more (first, rest, parts, one, others) reported =
       let left = left_behind only world stand x in
       let next = next_stand only world stand x in
-      let turns = turns_of only left next xs in
-      (
+      let turns = turns_of only left next xs in (
         first,
         rest ++ more,
         ap (λ front. front ++ more) parts ∙ append_assoc first rest more,
         one,
         are_reported_more left next (awaited_after stand.number (resolved_at only stand x) awaited) xs line rest more others
-        (subst (λ w. IsReported scope only w (stand_behind only left next xs) line (awaited_behind (awaited_after stand.number (resolved_at only stand x) awaited) turns) more)
-        (sym (left_by_both only world left _ (call_of only stand x) (calls_of_steps turns) refl refl)) reported),
+            (subst (λ w. IsReported scope only w (stand_behind only left next xs) line (awaited_behind (awaited_after stand.number (resolved_at only stand x) awaited) turns) more)
+            (sym (left_by_both only world left _ (call_of only stand x) (calls_of_steps turns) refl refl)) reported),
       )
 
   module _ (start mid : World) (first stand : RunPosition) (begun awaited : Awaited) (xs : List (List ℕ)) (line : List ℕ) (left : mid ≡ after_all only start (calls_of_steps (turns_of only start first xs)))
@@ -47,9 +46,9 @@ module _ (scope : ReportScope) (only : Option (List ℕ)) where
     reports_more w w' w'' more (text, reported, grows) is then = (
       text ++ more,
       are_reported_more start first begun xs line text more reported
-      (subst (λ a. IsReported scope only (after_all only start (calls_of_steps (turns_of only start first xs))) (stand_behind only start first xs) line a more) awaits
-      (subst (λ s. IsReported scope only (after_all only start (calls_of_steps (turns_of only start first xs))) s line awaited more) stands
-      (subst (λ m. IsReported scope only m stand line awaited more) left is))),
+          (subst (λ a. IsReported scope only (after_all only start (calls_of_steps (turns_of only start first xs))) (stand_behind only start first xs) line a more) awaits
+          (subst (λ s. IsReported scope only (after_all only start (calls_of_steps (turns_of only start first xs))) s line awaited more) stands
+          (subst (λ m. IsReported scope only m stand line awaited more) left is))),
       Appends-more w w' w'' text more (text ++ more) grows then refl,
     )
 

@@ -19,7 +19,7 @@ pub play-played-requires-clause-leads : goal.play-played-requires-clause-leads
 play-played-requires-clause-leads g c = (
   record { name_is = refl; run_is = refl; subject_is = refl; tells_is = refl; holds_is = refl },
   leads_none (option_copied c.args.bench.now.run.now.only) c.args.core.now c.args.bench.now.notes.now.stand (tally c.args.bench.now.complained c.args.bench.now.notes.now.critic.expected) _ _ (reports_none (scope_of (subject_at c.args.bench.now.notes.now.critic.scenario) c.args.bench.now.run.now.list.now) (option_copied c.args.bench.now.run.now.only) c.args.core.now c.args.bench.now.notes.now.stand c.args.bench.now.notes.now.critic.expected
-  (g.E.Sink.contents c.args.bench.now.complaints.now)) c.requires.sees,
+      (g.E.Sink.contents c.args.bench.now.complaints.now)) c.requires.sees,
 )
 
 pub close-fault-requires : goal.close-fault-requires
