@@ -82,15 +82,15 @@ impl DiffText {
 }
 
 // Compares entries and reachability of two lists, in addition to the differences so far. Fails if the host is out of memory.
-fn differences(
+fn differences<'a>(
     alloc: Global,
-    so_far: ListDifferences<'_>,
+    so_far: ListDifferences<'a>,
     form: DiagnosticForm,
 ) -> Result<DiffText, AllocError>
     ensures { IfOk result (IsTextOf so_far.entry) }
 {
-    let olds = ReachTable::of(alloc, so_far.before)?;
-    let news = ReachTable::of(alloc, so_far.after)?;
+    let olds: ReachTable<'a> = ReachTable::of(alloc, so_far.before)?;
+    let news: ReachTable<'a> = ReachTable::of(alloc, so_far.after)?;
     let was = side_of(so_far.before, &olds);
     let now = side_of(so_far.after, &news);
     compare_sides(alloc, so_far, was, now, form)
