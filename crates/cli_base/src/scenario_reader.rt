@@ -1,6 +1,10 @@
 //! The reader of a scenario: its bytes, and on a terminal how many of its lines are read.
+ghost use Rattle.std.specs.Prelude.{◌≡◌, false};
+ghost use Rattle.cli_base.specs.Origins.{origin_bytes};
+
 use crate::streams::Origin;
 use cli_engine::Input;
+use run_lines::Source;
 use std::io;
 use std::io::{IsTerminal, Read};
 use std::time::Instant;
@@ -29,11 +33,10 @@ pub type Reader<'a> = Input<ScenarioBytes<'a>>;
 
 /// Returns a reader of a scenario. If standard error is a terminal, a run of over two seconds reports on it every second how many lines
 /// are read, unless the command prints meanwhile on a terminal.
-pub fn watched_reader<'a>(
-    rt: &'a HostRuntime,
-    origin: Origin<'a>,
-    printing: Printing,
-) -> Reader<'a> {
+pub fn watched_reader<'a>(rt: &'a HostRuntime, origin: Origin<'a>, printing: Printing) -> Reader<'a>
+    ensures bytes { ⟦<Reader<'a> as Source>⟧.remaining result ≡ origin_bytes origin.entry }
+    ensures fresh { ⟦<Reader<'a> as Source>⟧.has_failed result ≡ false }
+{
     let is_seen = printing == Printing::Meanwhile && rt.stdout().is_terminal();
     let progress = if is_seen || !rt.stderr().is_terminal() {
         None
@@ -44,7 +47,10 @@ pub fn watched_reader<'a>(
 }
 
 /// Returns a reader of a scenario that reports no progress.
-pub fn silent_reader(origin: Origin<'_>) -> Reader<'_> {
+pub fn silent_reader<'a>(origin: Origin<'a>) -> Reader<'a>
+    ensures bytes { ⟦<Reader<'a> as Source>⟧.remaining result ≡ origin_bytes origin.entry }
+    ensures fresh { ⟦<Reader<'a> as Source>⟧.has_failed result ≡ false }
+{
     Input::new(ScenarioBytes {
         origin,
         progress: None,
@@ -52,6 +58,10 @@ pub fn silent_reader(origin: Origin<'_>) -> Reader<'_> {
 }
 
 impl Read for ScenarioBytes<'_> {
+    ghost use Rattle.cli_base.specs.Origins.{origin_bytes};
+
+    ghost remaining = { λ source. origin_bytes source.origin };
+
     fn read(&mut self, buffer: &mut [u8]) -> io::Result<usize> {
         let count = self.origin.read(buffer)?;
         if let Some(progress) = &mut self.progress {

@@ -79,7 +79,9 @@ impl<'a> Settings<'a> {
         rt: &HostRuntime,
         marks: &'m [RoundMark],
     ) -> Result<RunPosition<'m>, u8>
-        ensures { IfErr result (λ status. status ≡ 1) }
+        ensures start { IfOk result (λ start. start
+            ≡ first_position (unwrap_or (option_copied self.entry.known) nothing) marks.now) }
+        ensures failed { IfErr result (λ status. status ≡ 1) }
     {
         made_or_status(rt, self.start(rt.alloc(), marks))
     }

@@ -21,6 +21,10 @@ pub enum Origin<'a> {
 }
 
 impl Read for Origin<'_> {
+    ghost use Rattle.cli_base.specs.Origins.{origin_bytes};
+
+    ghost remaining = { origin_bytes };
+
     fn read(&mut self, buffer: &mut [u8]) -> io::Result<usize> {
         match self {
             Origin::Typed(input) => input.read(buffer),

@@ -16,9 +16,9 @@ pub none_before : (r k e : Bool) → r ≡ false → k ≡ false → e ≡ false
 none_before r k e read written told = rw (read, written, told) refl
 
 -- lines that were run and what was written for them are lines that were run
-pub run_of : (list : Listed) (first begun : RunPosition) {told behind : List LineStep → List ℕ} {calls : Bool} (ending : ScenarioEnd)
+pub run_of : (list : Listed) (first begun : RunPosition) {told behind : List LineStep → List ℕ} {calls : Bool} {reports : List (List ℕ) → Type 0} (ending : ScenarioEnd)
     {input rest : Option (List ℕ)} {failed : Bool} {w w' : Option (List ℕ)} → begun ≡ first →
-    IsRunFrom (start_on None begun list) told behind calls ending input rest failed w w' → IsRunOf list first ending
+    IsRunFrom (start_on None begun list) told behind calls reports ending input rest failed w w' → IsRunOf list first ending
 run_of list first begun ending begins played =
     subst (λ stand. IsRunOf list stand ending) begins
     (record {
