@@ -2,7 +2,8 @@
 """Draws scenarios of one script, and compares the rows of `PROGRAM least --csv` with what
 `PROGRAM run` answers under many budgets: all page counts, the bytes at, one below and one above each row's ends, and
 capabilities from 0 to 20. Of a session the donation varies, and every other account has enough. The same scenario with names for
-its selectors has the same rows, also on a list whose budgets rarely suffice."""
+its selectors has the same rows, also on a list whose budgets rarely suffice. The safe budget of each account is computed a second
+time from its rows."""
 import csv, io, json, os, random, re, subprocess, tempfile
 
 from command import PROGRAM, SEED, number, run
@@ -85,6 +86,15 @@ def machine(scripts, reserve):
     return {"machine": {"pages": 4096, "caps": 4096}, "default-route": [{"any-service": True, "any-child": True}], "start": start}
 
 
+def safe_of(rows):
+    """The lowest RAM from which on some row has each, and the capabilities that all of these rows need."""
+    begins, ends = [low for low, _, _ in rows], {below for _, below, _ in rows}
+    if None not in ends:
+        return None
+    ram = max(low for low in begins if low not in ends)
+    return ram, max(caps for low, _, caps in rows if low >= ram)
+
+
 class Nethrywel:
     def __init__(self, program, folder):
         self.program, self.list, self.scenario = program, os.path.join(folder, "list.json"), os.path.join(folder, "scenario")
@@ -103,12 +113,16 @@ class Nethrywel:
 
     def rows(self, *words):
         printed = csv.DictReader(io.StringIO(self.printed("least", *words, "--machine", self.list, "--csv", self.scenario)))
-        found = {}
+        found, safe = {}, {}
         for row in printed:
             key = (row["component"], row["line"] and int(row["line"]))
             found.setdefault(key, []).append(
                 (int(row["ram_from"]), int(row["ram_below"]) if row["ram_below"] else None, int(row["caps_from"]))
             )
+            safe[key] = (int(row["safe_ram"]), int(row["safe_caps"])) if row["safe_ram"] else None
+        for key, rows in found.items():
+            if safe[key] != safe_of(rows):
+                raise SystemExit(f"{words}: {key} has the rows {rows}, and {safe[key]} is said to be safe")
         return found
 
     def replies(self, made, scripts):

@@ -108,6 +108,14 @@ def less(budgets):
         yield from ({**budgets, name: it} for it in ((ram - 1, caps), (ram, caps - 1)) if min(it) >= 0)
 
 
+def budgets_in(path):
+    """Returns the budget of each script of a start list, in bytes and capabilities."""
+    def bytes_of(text):
+        return int(text[:-1]) * 1024 if text.endswith("K") else int(text)
+
+    return {it["name"]: (bytes_of(it["quantum"]), it["caps"]) for it in json.loads(path.read_text())["start"] if it.get("binary") == "script"}
+
+
 def test_names(nethrywel, tmp_path_factory):
     @given(drawn())
     def check(it):
@@ -118,13 +126,20 @@ def test_names(nethrywel, tmp_path_factory):
         scenario.write_text("".join(f"{line}\n" for line in lines))
         words = ["least", "--machine", given_list, scenario]
         list_.write_text(nethrywel(*words, "--list").ok())
+        minimum = budgets_in(list_)
         least.write_text(nethrywel(*words, "--scenario").ok())
         nethrywel("run", "--machine", list_, least).ok()
+        safe_list, safe = folder / "safe.json", folder / "safe"
+        safe_list.write_text(nethrywel(*words, "--safe", "--list").ok())
+        safe.write_text(nethrywel(*words, "--safe", "--scenario").ok())
+        nethrywel("run", "--machine", safe_list, safe).ok()
         # The address of a block depends on the budget, so a smaller budget may name other blocks.
         if any(" new " in line for line in lines):
             return
-        minimum = {entry["name"]: (int(entry["quantum"].replace("K", "")) * (1024 if "K" in entry["quantum"] else 1), entry["caps"])
-                   for entry in json.loads(list_.read_text())["start"] if entry.get("binary") == "script"}
+        for name, (ram, caps) in budgets_in(safe_list).items():
+            for more in (1, 4096, 9000, 20000):
+                list_.write_text(machine({**budgets_in(safe_list), name: (ram + more, caps + more % 3)}))
+                nethrywel("run", "--machine", list_, safe).ok()
         for smaller in less(minimum):
             list_.write_text(machine(smaller))
             assert nethrywel("run", "--machine", list_, least).status == 3, smaller

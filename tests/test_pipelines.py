@@ -4,10 +4,11 @@ import io
 import json
 import re
 import shutil
+from decimal import Decimal
 from xml.etree import ElementTree
 
 import pytest
-from commands import CASES, CRAWLER, limited, on_terminal
+from commands import CASES, CRAWLER, limited, on_terminal, run
 
 FILES = CASES / "nethrywel/test/files"
 SCENARIO = [*CRAWLER, "friendly/crawler.scenario"]
@@ -23,6 +24,9 @@ def test_junit(nethrywel, tmp_path):
     suite = ElementTree.parse(tmp_path / "junit.xml").find(".//testsuite")
     tests, failures = suite.findall("testcase"), suite.findall("testcase/failure")
     assert (len(tests), len(failures), suite.get("tests"), suite.get("failures")) == (4, 2, "4", "2")
+    times = [it.get("time") for it in [suite, *tests]]
+    assert all(re.fullmatch(r"\d+\.\d{3}", it) for it in times)
+    assert Decimal(times[0]) == sum(Decimal(it) for it in times[1:])
     faults = [it[2:] for it in ran.out.splitlines() if it.startswith(f"# {name}:")]
     assert len(faults) == 3 and tests[2].get("name") == name
     assert (failures[0].get("message"), failures[0].text.strip().splitlines()) == (faults[0], faults)
@@ -43,6 +47,14 @@ def test_progress_of_tests(nethrywel):
     ran, seen = nethrywel("test", "all", cwd=FILES), on_terminal(nethrywel.path, "test", "all", cwd=FILES)
     assert (ran.err, seen.status, seen.out) == ("", ran.status, ran.out)
     assert re.fullmatch(r"(\r\d of 4)+\r\x1b\[K", seen.err)
+
+
+def test_progress_of_runs(nethrywel):
+    """A run of over two seconds reports its lines on a terminal, whose line is empty at the end, and nothing elsewhere."""
+    slow = f'{{ echo alice quota; sleep 2.2; echo alice quota; }} | "{nethrywel.path}" accounts -'
+    ran, seen = run("sh", "-c", slow), on_terminal("sh", "-c", slow)
+    assert (ran.status, ran.err, seen.status, seen.out) == (0, "", 0, ran.out)
+    assert seen.err == "2 lines\r\x1b[K"
 
 
 def rows_of(text):
@@ -78,7 +90,7 @@ def labels_of(shapes):
 TRACE = ("line component call reply ram_used ram_limit caps_used caps_limit session session_ram_used session_ram_limit"
          " session_caps_used session_caps_limit text").split()
 REACH = "from service to reach label labels witness".split()
-LEAST = "component session line ram_from ram_below caps_from unmeasured".split()
+LEAST = "component session line ram_from ram_below caps_from unmeasured safe_ram safe_caps count".split()
 
 
 @pytest.mark.parametrize("columns, words", [
@@ -87,7 +99,7 @@ LEAST = "component session line ram_from ram_below caps_from unmeasured".split()
 ], ids=lambda it: it[-1] if "/" in it[-1] or "." in it[-1] else it[0])
 def test_rows_as_json(nethrywel, columns, words):
     """A table has the same rows as JSON and as comma-separated values."""
-    found = documents(nethrywel, *words)
+    found = [it for it in documents(nethrywel, *words) if it.get("kind") != "machine"]
     for it in found:
         if columns is REACH:
             it["labels"] = labels_of(it["labels"])

@@ -9,9 +9,9 @@ from test_sweep import small
 # Tools that take no argument, or only names that are known.
 CLOSED = [*(f"dev/{it}" for it in "attack check-documents crate-graph schema setup steps theorems tour".split()), "tools/sweep"]
 TOOLS = [*CLOSED, *(f"dev/{it}" for it in ("package", "pictures")),
-         *(f"tools/{it}" for it in ("desk", "graph", "install", "picture", "report")),
+         *(f"tools/{it}" for it in ("desk", "from-genode", "graph", "install", "picture", "report")),
          "tests/run", "examples/statuses", "examples/compare", "bench/measure",
-         *(f"bench/{it}" for it in "browse generate.py least.py needs.py profile reach.py reach_worst.py release.py".split())]
+         *(f"bench/{it}" for it in "browse declared.py generate.py least.py needs.py profile reach.py reach_worst.py release.py".split())]
 NOTES = "friendly/notes.scenario"
 
 

@@ -6,7 +6,8 @@ use Rattle.std.specs.Option.{option_and_then, option_map}
 use Rattle.own_model.specs.Amounts.{Amounts, more_of, no_amounts}
 use Rattle.own_model.specs.Listed.{Listed}
 use Rattle.budget_least.specs.InitNeeds.{capped, is_entry_of, need_of, needed_below, sum_with}
-use Rattle.budget_least.specs.declared.account_budgets.AccountBudgets.{AccountBudgets}
+use Rattle.budget_search.specs.declared.account_budgets.AccountBudgets.{AccountBudgets}
+use Rattle.budget_search.specs.declared.budget_intervals.BudgetChoice.{BudgetChoice}
 
 -- a sum of three, of which two were added first
 capped_sum : (sum need rest : ℕ) → min (min (sum + need) 18446744073709551615 + rest) 18446744073709551615 ≡ min (sum + (need + rest)) 18446744073709551615
@@ -41,9 +42,9 @@ map_same f g same (Some x) = ap Some (same x)
 pub first_sum : (o : Option Amounts) → option_map capped o ≡ option_map (λ rest. capped (more_of no_amounts rest)) o
 first_sum o = map_same capped (λ rest. capped (more_of no_amounts rest)) (λ rest. sym (capped_first rest)) o
 
-module _ (list : Listed) (init : ℕ) (sum : Amounts) (account : AccountBudgets) (rest : List AccountBudgets) where
+module _ (choice : BudgetChoice) (list : Listed) (init : ℕ) (sum : Amounts) (account : AccountBudgets) (rest : List AccountBudgets) where
   abbrev all : Option Amounts
-  all = option_map (λ more. capped (more_of sum more)) (needed_below list init (account ∷ rest))
+  all = option_map (λ more. capped (more_of sum more)) (needed_below choice list init (account ∷ rest))
 
   taken_by : (need : Option Amounts) (below : Option Amounts) (new : Option Amounts) → new ≡ option_map (λ n. capped (more_of sum n)) need →
       option_map (λ more. capped (more_of sum more)) (option_and_then (λ n. option_map (more_of n) below) need)
@@ -54,24 +55,24 @@ module _ (list : Listed) (init : ℕ) (sum : Amounts) (account : AccountBudgets)
       ap Some (sym (capped_more sum need more)) ∙ ap (option_and_then (λ s. option_map (λ m. capped (more_of s m)) (Some more))) (sym is)
 
   -- and that of an entry what it needs
-  pub sum_step : (new : Option Amounts) → new ≡ sum_with list init sum account →
-      all ≡ option_and_then (λ s. option_map (λ more. capped (more_of s more)) (needed_below list init rest)) new
+  pub sum_step : (new : Option Amounts) → new ≡ sum_with choice list init sum account →
+      all ≡ option_and_then (λ s. option_map (λ more. capped (more_of s more)) (needed_below choice list init rest)) new
   sum_step new is = elim (is_entry_of list init account) as
-      (λ b. new ≡ (if b then option_map (λ n. capped (more_of sum n)) (need_of account) else Some sum) →
-      option_map (λ more. capped (more_of sum more)) (if b then option_and_then (λ need. option_map (more_of need) (needed_below list init rest)) (need_of account) else needed_below list init rest)
-      ≡ option_and_then (λ s. option_map (λ more. capped (more_of s more)) (needed_below list init rest)) new) [
-        | true ↦ λ same. taken_by (need_of account) (needed_below list init rest) new same
-        | false ↦ λ same. ap (option_and_then (λ s. option_map (λ more. capped (more_of s more)) (needed_below list init rest))) (sym same)
+      (λ b. new ≡ (if b then option_map (λ n. capped (more_of sum n)) (need_of choice account) else Some sum) →
+      option_map (λ more. capped (more_of sum more)) (if b then option_and_then (λ need. option_map (more_of need) (needed_below choice list init rest)) (need_of choice account) else needed_below choice list init rest)
+      ≡ option_and_then (λ s. option_map (λ more. capped (more_of s more)) (needed_below choice list init rest)) new) [
+        | true ↦ λ same. taken_by (need_of choice account) (needed_below choice list init rest) new same
+        | false ↦ λ same. ap (option_and_then (λ s. option_map (λ more. capped (more_of s more)) (needed_below choice list init rest))) (sym same)
       ] is
 
-module _ (list : Listed) (init : ℕ) (sum : Amounts) (account : AccountBudgets) (new : Amounts) where
+module _ (choice : BudgetChoice) (list : Listed) (init : ℕ) (sum : Amounts) (account : AccountBudgets) (new : Amounts) where
   capped_need : (need : Option Amounts) → Some new ≡ option_map (λ n. capped (more_of sum n)) need → capped new ≡ new
   capped_need None is = absurd (cc)
   capped_need (Some need) is = subst (λ a. capped a ≡ a) (sym (same_Some new (capped (more_of sum need)) is)) (capped_twice (more_of sum need))
 
-  pub capped_kept : Some new ≡ sum_with list init sum account → capped sum ≡ sum → capped new ≡ new
+  pub capped_kept : Some new ≡ sum_with choice list init sum account → capped sum ≡ sum → capped new ≡ new
   capped_kept is kept = elim (is_entry_of list init account) as
-      (λ b. Some new ≡ (if b then option_map (λ n. capped (more_of sum n)) (need_of account) else Some sum) → capped new ≡ new) [
-        | true ↦ λ same. capped_need (need_of account) same
+      (λ b. Some new ≡ (if b then option_map (λ n. capped (more_of sum n)) (need_of choice account) else Some sum) → capped new ≡ new) [
+        | true ↦ λ same. capped_need (need_of choice account) same
         | false ↦ λ same. subst (λ a. capped a ≡ a) (sym (same_Some new sum same)) kept
       ] is

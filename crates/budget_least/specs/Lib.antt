@@ -1,11 +1,6 @@
-pub mod Steps
-pub mod Run
-pub mod BudgetIntervals
-pub mod Alike
-pub mod Own
-pub mod OpenedSessions
-pub mod Measured
-pub mod Report
 pub mod InitNeeds
+pub mod MachineSizes
+pub mod Measured
 pub mod ComponentLines
-pub mod Shortages
+pub mod Report
+pub mod WrittenList

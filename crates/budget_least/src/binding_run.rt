@@ -1,11 +1,10 @@
 //! The run of a scenario that binds its names.
 
-use crate::account_budgets::AccountBudgets;
-use crate::ample_client::AmpleClient;
-use crate::funded::{LARGEST, ample, funded};
-use crate::lines_by_component::ComponentLine;
 use budget_meter::Budget;
-use core_calls::Call;
+use budget_search::{
+    AccountBudgets, AmpleClient, BudgetChoice, ComponentLine, LARGEST, ample, funded,
+};
+use core_calls::{Call, Reply};
 use init_core::{RouteTable, boot};
 use line_names::FilledLine;
 use line_steps::RunPosition;
@@ -19,8 +18,10 @@ pub(crate) enum BindingBudgets<'b> {
     Ample,
     /// Each account has the whole machine, and each session what the scenario donates.
     AsDonated,
-    /// Each account has its minimum, and each session what the lines donate that were measured.
-    Minimum {
+    /// Each account has the budget that is written, and each session what the lines donate that were measured.
+    Chosen {
+        /// Whether this is the minimum or the safe budget.
+        choice: BudgetChoice,
         /// The accounts.
         accounts: &'b [AccountBudgets],
         /// The lines of each component that were measured.
@@ -40,22 +41,27 @@ impl<'b> BindingBudgets<'b> {
     ) -> Result<StartList, AllocError>
         requires { component < length list.now.entries }
     {
-        match self.least(component) {
-            Some(least) if least.caps <= u64::from(LARGEST) => funded(
-                alloc, list, component, least,
+        match self.budget(component) {
+            Some(budget) if budget.caps <= u64::from(LARGEST) => funded(
+                alloc, list, component, budget,
             ),
             _ => ample(alloc, list, component),
         }
     }
 
-    // Returns the minimum of a component's own account, if the run has it.
-    fn least(self, component: usize) -> Option<Budget> {
-        let BindingBudgets::Minimum { accounts, .. } = self else {
+    // Returns the budget of a component's own account that is written, if the run has it.
+    fn budget(self, component: usize) -> Option<Budget> {
+        let BindingBudgets::Chosen {
+            choice,
+            accounts,
+            ..
+        } = self
+        else {
             return None;
         };
         for account in accounts {
             if account.session().is_none() && account.component() == component {
-                return account.least();
+                return account.chosen(choice);
             }
         }
         None
@@ -64,7 +70,7 @@ impl<'b> BindingBudgets<'b> {
     // Returns the arguments with which the line at a place among a component's opens its session, if they were set.
     fn args(self, component: usize, place: usize) -> Option<&'b [u8]> {
         match self {
-            BindingBudgets::Minimum { steps, .. } => steps.get(component)?.get(place)?.args(),
+            BindingBudgets::Chosen { steps, .. } => steps.get(component)?.get(place)?.args(),
             _ => None,
         }
     }
@@ -139,9 +145,10 @@ impl<'a, 'b, 'm> BindingRun<'a, 'b, 'm> {
             return Ok(());
         };
         if client.is_none() {
+            let reply = Reply::boot(alloc)?;
             let list = self.budgets.machine(alloc, self.list, component)?;
             let core = boot(alloc, &list)?;
-            *client = Some(AmpleClient::new(alloc, core, component)?);
+            *client = Some(AmpleClient::new(core, component, reply));
         }
         Ok(())
     }

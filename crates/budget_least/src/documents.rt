@@ -1,13 +1,15 @@
 //! A report as JSON.
 
-use crate::account_budgets::{AccountBudgets, SessionKey};
-use crate::budget_intervals::BudgetInterval;
+use crate::machine_size::MachineSize;
 use crate::report::BudgetReport;
+use budget_meter::Budget;
+use budget_search::{AccountBudgets, BudgetInterval, SessionKey};
 use std::alloc::{AllocError, Global};
 use view_json::{JsonField, Listing, ObjectList, ObjectListBuilder};
 
 impl BudgetReport<'_> {
-    /// Returns a list of JSON with a document for each row of each account. An error is out of memory.
+    /// Returns a list of JSON with a document for each interval of each account, and then one for the machine. The error is that the
+    /// host is out of memory.
     pub fn documents(&self, alloc: Global) -> Result<Vec<u8>, AllocError> {
         let mut listing = Listing::new(alloc);
         for account in self.accounts() {
@@ -16,7 +18,27 @@ impl BudgetReport<'_> {
                 add_row(&mut listing, self.path(account), account, row, &unmeasured)?;
             }
         }
+        self.add_machine(&mut listing)?;
         listing.into_text()
+    }
+
+    // Adds the sum of the budgets that are written, and the smallest machine for them.
+    fn add_machine(&self, listing: &mut Listing) -> Result<(), AllocError> {
+        let (ram, caps) = budget_fields(self.sum());
+        let (pages, machine_caps) = match self.machine() {
+            Some(MachineSize { pages, caps }) => (
+                JsonField::Number(pages),
+                JsonField::Number(caps),
+            ),
+            None => (JsonField::Nothing, JsonField::Nothing),
+        };
+        listing.add(&[
+            ("kind", JsonField::Word("machine")),
+            ("ram", ram),
+            ("caps", caps),
+            ("machine_pages", pages),
+            ("machine_caps", machine_caps),
+        ])
     }
 
     // Returns the path of the component of an account.
@@ -67,7 +89,9 @@ fn add_row<'a>(
         Some(below) => JsonField::Number(below),
         None => JsonField::Nothing,
     };
+    let (safe_ram, safe_caps) = budget_fields(account.safe());
     listing.add(&[
+        ("kind", JsonField::Word("interval")),
         ("component", JsonField::Text(component)),
         ("session", session),
         ("line", line),
@@ -75,5 +99,16 @@ fn add_row<'a>(
         ("ram_below", below),
         ("caps_from", JsonField::Number(row.caps_from)),
         ("unmeasured", JsonField::List(unmeasured)),
+        ("safe_ram", safe_ram),
+        ("safe_caps", safe_caps),
+        ("count", JsonField::Number(account.count())),
     ])
+}
+
+// Returns the RAM and the capabilities of a budget, or nothing without one.
+fn budget_fields<'a>(budget: Option<Budget>) -> (JsonField<'a>, JsonField<'a>) {
+    match budget {
+        Some(Budget { ram, caps }) => (JsonField::Number(ram), JsonField::Number(caps)),
+        None => (JsonField::Nothing, JsonField::Nothing),
+    }
 }

@@ -4,32 +4,24 @@
 //! sufficient budgets of each account.
 #![tactic(auto)]
 
-mod account_budgets;
-mod ample_client;
 mod binding_run;
-mod budget_intervals;
 mod documents;
-mod donation;
-mod draft;
-mod funded;
 mod line_donations;
 mod lines_by_component;
-mod opened_sessions;
-mod own_run;
-mod own_trials;
+mod machine_size;
+mod member_values;
 mod report;
 mod report_text;
-mod script_search;
-mod session_intervals;
-mod session_trial;
-mod trial;
 mod unmeasured_line;
 mod written_donation;
+mod written_list;
 
-pub use account_budgets::{AccountBudgets, GivenBudget, SessionKey};
-pub use budget_intervals::{BudgetGap, BudgetInterval, Likeness};
 pub use budget_meter::Budget;
+pub use budget_search::{
+    AccountBudgets, BudgetChoice, BudgetGap, BudgetInterval, GivenBudget, Likeness, RefusedLine,
+    SessionKey, Shortage, SkippedLine,
+};
+pub use machine_size::MachineSize;
 pub use report::{BudgetQuery, BudgetReport};
 pub use report_text::BudgetCsv;
-pub use trial::{RefusedLine, Shortage, SkippedLine};
 pub use unmeasured_line::{UnmeasuredLine, UnmeasuredMessage, UnmeasuredReason};

@@ -1,7 +1,7 @@
 //! The donations of the lines that open sessions.
 
-use crate::account_budgets::AccountBudgets;
 use budget_meter::Budget;
+use budget_search::{AccountBudgets, BudgetChoice};
 use std::alloc::{AllocError, Global};
 
 /// The donation of a line, by the sessions that it opens.
@@ -43,12 +43,12 @@ impl LineDonation {
         }
     }
 
-    // Returns what the line donates, if a donation suffices for each of its sessions.
-    fn donation(self) -> Option<Budget> {
-        match self {
-            LineDonation::Alike { least, .. } => Some(least),
-            LineDonation::Unlike { safe } => Some(safe),
-            LineDonation::Unused | LineDonation::Insufficient => None,
+    // Returns what the line donates by a choice, if a donation suffices for each of its sessions.
+    fn donation(self, choice: BudgetChoice) -> Option<Budget> {
+        match (self, choice) {
+            (LineDonation::Alike { least, .. }, BudgetChoice::Minimum) => Some(least),
+            (LineDonation::Alike { safe, .. } | LineDonation::Unlike { safe }, _) => Some(safe),
+            (LineDonation::Unused | LineDonation::Insufficient, _) => None,
         }
     }
 }
@@ -66,13 +66,16 @@ fn larger(one: Budget, other: Budget) -> Budget {
 pub(crate) struct LineDonations {
     /// The donations by the numbers of lines.
     lines: Vec<LineDonation>,
+    /// Whether lines donate minima or safe donations.
+    choice: BudgetChoice,
 }
 
 impl LineDonations {
     /// Returns the donations before the first session.
-    pub(crate) fn new(alloc: Global) -> LineDonations {
+    pub(crate) fn new(alloc: Global, choice: BudgetChoice) -> LineDonations {
         LineDonations {
             lines: Vec::new(alloc),
+            choice,
         }
     }
 
@@ -99,8 +102,8 @@ impl LineDonations {
         Ok(())
     }
 
-    /// Returns the donation of the line of a number: the minimum of its sessions, or the lowest from which on all suffice for each.
+    /// Returns the donation of the line of a number: the minimum of its sessions, or a donation from which on all suffice for each.
     pub(crate) fn of(&self, number: u64) -> Option<Budget> {
-        self.lines.get(number as usize)?.donation()
+        self.lines.get(number as usize)?.donation(self.choice)
     }
 }

@@ -1,122 +1,23 @@
 //! The lines of a scenario, component by component.
-ghost use Rattle.std.specs.Prelude.{◌≡◌, Some};
-ghost use Rattle.core_calls.specs.Call.{model_call, IsWellFormed};
+ghost use Rattle.std.specs.Prelude.{◌≡◌};
 ghost use Rattle.std.specs.Option.{option_copied};
 ghost use Rattle.budget_least.specs.ComponentLines.{expects_refusal};
-ghost use Rattle.budget_least.specs.Steps.{with_args};
 
 use crate::binding_run::{BindingBudgets, BindingRun};
-use crate::donation::args_with;
 use crate::line_donations::LineDonations;
-use crate::trial::SHORTAGES;
-use crate::unmeasured_line::{LineNumbers, UnmeasuredLine, UnmeasuredReason};
+use crate::unmeasured_line::{UnmeasuredLine, UnmeasuredReason};
 use crate::written_donation::can_donate;
 use budget_meter::Budget;
+use budget_search::{ComponentLine, LineNumbers, SHORTAGES};
 use core_calls::Call;
 use init_core::route;
 use line_friendly::{meets, next_word, trimmed_line};
-use line_grammar::read_line;
 use line_names::token_at;
 use line_steps::{LineBuffers, ResolvedLine, RunPosition, ScenarioCall, UnreadReason, resolve};
 use list_parser::{BootFault, StartList};
 use session_proto::SessionArgs;
 use std::alloc::{AllocError, Global};
 use text_codec::find_byte;
-
-/// A line that a component says.
-#[derive(Drop)]
-pub(crate) struct ComponentLine {
-    /// The number of the scenario's line, from 1 on.
-    pub(crate) number: u64,
-    /// Whether its refusal is expected, so that it is left out.
-    pub(crate) is_left_out: bool,
-    /// Whether the expected refusal may be a shortage of quota.
-    may_be_short: bool,
-    /// The line as the engine parses it.
-    line: Vec<u8>,
-    /// Whether the scenario's line can be written with another donation.
-    can_donate: bool,
-    /// The donation that was set for it, if one was.
-    donation: Option<Budget>,
-    /// The arguments with that donation.
-    args: Option<Vec<u8>>,
-}
-
-impl ComponentLine {
-    ghost use Rattle.std.specs.Prelude.{◌≡◌, IfSome};
-    ghost use Rattle.std.specs.Option.{option_map};
-    ghost use Rattle.core_calls.specs.Call.{model_call, IsWellFormed};
-    ghost use Rattle.budget_least.specs.Steps.{call_of, call_said, with_args};
-
-    /// Returns the call that the line makes, with the arguments that were set.
-    pub(crate) fn call(&self) -> Option<Call<'_>>
-        ensures call { option_map model_call result ≡ call_of self.now }
-        ensures well_formed { IfSome result IsWellFormed }
-    {
-        let call = self.said()?;
-        match &self.args {
-            Some(args) => Some(opening_with(call, args.as_slice())),
-            None => Some(call),
-        }
-    }
-
-    /// Returns the call as it is written in the line.
-    pub(crate) fn said(&self) -> Option<Call<'_>>
-        ensures call { option_map model_call result ≡ call_said self.now.line.items }
-        ensures well_formed { IfSome result IsWellFormed }
-    {
-        match read_line(self.line.as_slice()) {
-            Ok((_, call)) => Some(call),
-            Err(_) => None,
-        }
-    }
-
-    /// Returns the quota that the call of the line asks for, if the refusal of the call may be a shortage.
-    pub(crate) fn asked(&self, asked: Option<Budget>) -> Option<Budget> {
-        if self.may_be_short { asked } else { None }
-    }
-
-    /// Returns whether a line makes the same call, or is left out too.
-    pub(crate) fn is_like(&self, other: &ComponentLine) -> bool {
-        self.number == other.number
-            && self.is_left_out == other.is_left_out
-            && self.line.as_slice() == other.line.as_slice()
-    }
-
-    /// Sets the donation with which the line opens its session from now on, if the line can be written with it. The error is that
-    /// the host is out of memory.
-    pub(crate) fn donate(&mut self, alloc: Global, donation: Budget) -> Result<(), AllocError> {
-        if !self.can_donate {
-            return Ok(());
-        }
-        if let Some(Call::Open { args, .. }) = self.said() {
-            let args = args_with(alloc, donation, args)?;
-            self.donation = Some(donation);
-            self.args = Some(args);
-        }
-        Ok(())
-    }
-
-    /// Returns the arguments with which it opens a session, if they differ from the written ones.
-    pub(crate) fn args(&self) -> Option<&[u8]> {
-        match &self.args {
-            Some(args) => Some(args.as_slice()),
-            None => None,
-        }
-    }
-}
-
-// Returns a call with other arguments, if it opens a session.
-fn opening_with<'a>(call: Call<'a>, args: &'a [u8]) -> Call<'a>
-    requires { IsWellFormed call }
-    ensures call { model_call result ≡ with_args (Some args.now) (model_call call.entry) }
-    ensures well_formed { IsWellFormed result }
-{
-    match call {
-        Call::Open { service, .. } => Call::Open { service, args },
-        _ => call,
-    }
-}
 
 /// A line that changes with the budgets.
 #[derive(Clone, Copy)]
@@ -139,6 +40,7 @@ impl LinesByComponent {
     ghost use Rattle.line_steps.specs.ResolvedLines.{is_unread};
     ghost use Rattle.line_steps.specs.ResolvedViews.{resolved_view, HasParsedCall};
     ghost use Rattle.line_grammar.specs.Read.{IsReadAs};
+    ghost use Rattle.budget_least.specs.ComponentLines.{line_of, lines_in, with_call, with_line, with_resolved};
     ghost use Rattle.budget_least.specs.Measured.{counted};
 
     /// Reads the unfolded text of a scenario, by the components of a list, and fills its lines with what a run with these budgets
@@ -270,8 +172,10 @@ impl LinesByComponent {
         resolved: ResolvedLine<'_>,
     ) -> Result<(), BootFault>
         requires { HasParsedCall resolved }
-        ensures { OnOk result (length self.new.unmeasured.items
+        ensures unmeasured { OnOk result (length self.new.unmeasured.items
             ≡ counted (is_unread (resolved_view resolved.entry)) (length self.old.unmeasured.items)) }
+        ensures lines { OnOk result (lines_in self.new
+            ≡ with_resolved run.old.list.now number resolved.entry (lines_in self.old)) }
     {
         match resolved.unread() {
             Some(why) => self.leave(alloc, run.list, line, number, why),
@@ -288,8 +192,9 @@ impl LinesByComponent {
         number: u64,
         why: UnreadReason,
     ) -> Result<(), BootFault>
-        ensures { OnOk result (length self.new.unmeasured.items
+        ensures unmeasured { OnOk result (length self.new.unmeasured.items
             ≡ suc (length self.old.unmeasured.items)) }
+        ensures lines { self.new.steps ≡ self.old.steps }
     {
         let (name, _) = next_word(trimmed_line(line));
         let token = token_at(line, why.column());
@@ -313,7 +218,9 @@ impl LinesByComponent {
         resolved: ResolvedLine<'_>,
     ) -> Result<(), BootFault>
         requires { HasParsedCall resolved }
-        ensures { OnOk result (self.new.unmeasured ≡ self.old.unmeasured) }
+        ensures unmeasured { OnOk result (self.new.unmeasured ≡ self.old.unmeasured) }
+        ensures lines { OnOk result (lines_in self.new
+            ≡ with_resolved run.old.list.now number resolved.entry (lines_in self.old)) }
     {
         match resolved {
             ResolvedLine::Directive(directive) => {
@@ -335,7 +242,9 @@ impl LinesByComponent {
         call: &ScenarioCall<'_>,
     ) -> Result<(), BootFault>
         requires { IsReadAs call.now.line.now call.now.call }
-        ensures { OnOk result (self.new.unmeasured ≡ self.old.unmeasured) }
+        ensures unmeasured { OnOk result (self.new.unmeasured ≡ self.old.unmeasured) }
+        ensures lines { OnOk result (lines_in self.new
+            ≡ with_call run.old.list.now number call.now (lines_in self.old)) }
     {
         let Some(said) = call.call else {
             return Ok(());
@@ -343,6 +252,7 @@ impl LinesByComponent {
         let Some(component) = run.list.find(said.name) else {
             return Ok(());
         };
+        let may_be_short = may_be_short(call.reply) && is_routed(run.list, component, said.call);
         let is_left_out = expects_refusal(call.reply);
         if !is_left_out {
             let place = self.of(component).len();
@@ -350,17 +260,32 @@ impl LinesByComponent {
         }
         let mut kept = Vec::new(alloc);
         kept.extend_from_slice(call.line)?;
-        if let Some(steps) = self.steps.get_mut(component) {
-            steps.push(ComponentLine {
+        self.push(
+            component,
+            ComponentLine {
                 number,
                 is_left_out,
-                may_be_short: may_be_short(call.reply) && is_routed(run.list, component, said.call),
+                may_be_short,
                 line: kept,
                 can_donate: can_donate(line),
                 donation: None,
                 args: None,
-            })?;
+            },
+        )?;
+        Ok(())
+    }
+
+    // Adds a line to those of a component, if it is there.
+    fn push(&mut self, component: usize, line: ComponentLine) -> Result<(), AllocError>
+        ensures unmeasured { self.new.unmeasured ≡ self.old.unmeasured }
+        ensures lines { OnOk result (lines_in self.new
+            ≡ with_line component (line_of line) (lines_in self.old)) }
+    {
+        if component >= self.steps.len() {
+            return Ok(());
         }
+        let steps = &mut self.steps[component];
+        steps.push(line)?;
         Ok(())
     }
 }

@@ -1,38 +1,43 @@
 //! What all accounts of a scenario need.
-ghost use Rattle.std.specs.Prelude.{◌≡◌, ◌<◌, ◌^◌, length};
+ghost use Rattle.std.specs.Prelude.{◌≡◌, ◌<◌, length, suc, IfOk, OnOk};
+ghost use Rattle.std.specs.List.{list_all};
 ghost use Rattle.std.specs.Option.{option_map};
 ghost use Rattle.own_model.specs.Amounts.{more_of};
 ghost use Rattle.budget_meter.specs.Needs.{amounts_of};
-ghost use Rattle.budget_least.specs.Report.{accounts_of, report_of, unmeasured_of};
-ghost use Rattle.budget_least.specs.InitNeeds.{capped, is_entry_of, need_of, needed_below, sum_with};
+ghost use Rattle.budget_least.specs.Report.{accounts_of, report_of, sum_of, unmeasured_of, HasSmallestMachine};
+ghost use Rattle.budget_least.specs.InitNeeds.{capped, is_entry_of, need_of, needed_below, sum_with, AreChanged, AreNeeded, AreNeededFrom};
+ghost use Rattle.budget_least.specs.WrittenList.{has_budget, IsWritten};
 
-use crate::account_budgets::AccountBudgets;
 use crate::binding_run::BindingBudgets;
-use crate::draft::Draft;
 use crate::line_donations::LineDonations;
-use crate::lines_by_component::{ComponentLine, LinesByComponent, has_names};
+use crate::lines_by_component::{LinesByComponent, has_names};
+use crate::machine_size::MachineSize;
 use crate::report_text::BudgetCsv;
-use crate::script_search::{ScriptSearch, ScriptSessions};
 use crate::unmeasured_line::UnmeasuredLine;
 use crate::written_donation::with_donation;
+use crate::written_list::{ListSizes, has_budget, has_size, size_of};
 use budget_meter::Budget;
+use budget_search::{
+    AccountBudgets, BudgetChoice, ComponentLine, ScriptSearch, ScriptSessions, budget_of,
+};
 use line_steps::RunPosition;
-use list_parser::{Binary, BootFault, ListEntry, StartList};
-use std::alloc::Global;
-use trade_base::PAGE;
+use list_parser::{BootFault, ConfigField, StartList};
+use std::alloc::{AllocError, Global};
 
-/// The most runs with minimum budgets.
+/// The most runs with the budgets that are written.
 const MOST_READINGS: usize = 8;
 
-/// A question: a start list, the text of a scenario, and whether sessions get what the scenario donates in place of the
-/// minimum.
+/// A question: a start list, the text of a scenario, which budgets are written, and whether sessions get what the scenario donates
+/// in place of these.
 #[derive(Clone, Copy)]
 pub struct BudgetQuery<'a> {
     /// The start list.
     pub list: &'a StartList,
     /// The scenario, with its rounds unfolded.
     pub scenario: &'a [u8],
-    /// Whether sessions keep the scenario's donations. Otherwise they get the minimum.
+    /// Whether the minimum or the safe budget of each account is written.
+    pub choice: BudgetChoice,
+    /// Whether sessions keep the scenario's donations. Otherwise they get the budgets that are written.
     pub as_donated: bool,
 }
 
@@ -63,26 +68,30 @@ impl BudgetQuery<'_> {
 #[derive(Drop)]
 pub struct BudgetReport<'a> {
     pub(crate) list: &'a StartList,
+    pub(crate) choice: BudgetChoice,
     pub(crate) accounts: Vec<AccountBudgets>,
     scene: LinesByComponent,
 }
 
 impl<'a> BudgetReport<'a> {
-    /// Returns the answer to a question. Names denote the given values, and those that a run from the start with the minimum
-    /// budgets binds.
+    /// Returns the answer to a question. Names denote the given values, and those that a run from the start with the budgets that
+    /// are written binds.
     /// The list needn't boot. Fails with `QuotaExceeded` if a script's own budget is larger than the largest machine's, and with
     /// `NoMemory` if the host is out of memory.
     pub fn of(
         alloc: Global,
         question: BudgetQuery<'a>,
         start: RunPosition<'_>,
-    ) -> Result<BudgetReport<'a>, BootFault> {
+    ) -> Result<BudgetReport<'a>, BootFault>
+        ensures { IfOk result (λ report.
+            AreNeeded report.choice report.list.now report.accounts.items) }
+    {
         let lines = question.lines(alloc, &start, question.ample())?;
         let mut report = BudgetReport::with(alloc, question, lines)?;
         if has_names(question.scenario) {
             report.settle(alloc, question, &start)?;
         }
-        report.sum_inits();
+        report.sum_inits(alloc)?;
         Ok(report)
     }
 
@@ -94,6 +103,7 @@ impl<'a> BudgetReport<'a> {
     ) -> Result<BudgetReport<'a>, BootFault> {
         let mut report = BudgetReport {
             list: question.list,
+            choice: question.choice,
             accounts: Vec::new(alloc),
             scene: lines,
         };
@@ -101,7 +111,7 @@ impl<'a> BudgetReport<'a> {
         Ok(report)
     }
 
-    // Measures the lines again as a run with the minimum budgets fills them, until they stay the same. Lines that still change
+    // Measures the lines again as a run with the budgets that are written fills them, until they stay the same. Lines that still change
     // aren't measured.
     fn settle(
         &mut self,
@@ -110,11 +120,12 @@ impl<'a> BudgetReport<'a> {
         start: &RunPosition<'_>,
     ) -> Result<(), BootFault> {
         for left in (0..MOST_READINGS).rev() {
-            let minimum = BindingBudgets::Minimum {
+            let chosen = BindingBudgets::Chosen {
+                choice: self.choice,
                 accounts: self.accounts.as_slice(),
                 steps: self.scene.steps.as_slice(),
             };
-            let lines = question.lines(alloc, start, minimum)?;
+            let lines = question.lines(alloc, start, chosen)?;
             let changed = self.scene.changed(alloc, &lines)?;
             if changed.is_empty() {
                 return Ok(());
@@ -133,7 +144,7 @@ impl<'a> BudgetReport<'a> {
     fn add_accounts(&mut self, alloc: Global, as_donated: bool) -> Result<(), BootFault> {
         let list = self.list;
         let mut scripts = Vec::new(alloc);
-        let mut donations = LineDonations::new(alloc);
+        let mut donations = LineDonations::new(alloc, self.choice);
         for component in 0..list.count() {
             let script = sessions_of(alloc, list, component, self.scene.of(component))?;
             if let Some(script) = &script {
@@ -155,28 +166,60 @@ impl<'a> BudgetReport<'a> {
         Ok(())
     }
 
-    // Sums the needs of each init's list, the innermost init first.
-    fn sum_inits(&mut self) {
-        for place in (0..self.list.count()).rev() {
-            let is_init = match self.list.entries().get(place) {
-                Some(entry) => entry.is_init(),
-                None => false,
-            };
-            if is_init {
-                let needed = self.needed_below(place + 1);
-                for account in self.accounts.as_mut_slice() {
-                    if account.component == place {
-                        account.need(needed);
-                    }
-                }
-            }
+    // Gives the accounts of inits what their lists need, those of the innermost init first.
+    fn sum_inits(&mut self, alloc: Global) -> Result<(), AllocError>
+        ensures { OnOk result
+            (AreNeeded self.new.choice self.new.list.now self.new.accounts.items) }
+    {
+        let mut place = self.list.count();
+        while place > 0 {
+            place -= 1;
+            self.sum_init(alloc, place)?;
         }
+        Ok(())
+    }
+
+    // Gives the accounts of the component at a place what its list needs, if it is an init.
+    fn sum_init(&mut self, alloc: Global, place: usize) -> Result<(), AllocError>
+        requires { place < length self.old.list.now.entries }
+        ensures list { self.new.list ≡ self.old.list }
+        ensures choice { self.new.choice ≡ self.old.choice }
+        ensures needed { OnOk result (AreNeededFrom (suc place) self.old.choice self.old.list.now
+            self.old.accounts.items →
+            AreNeededFrom place self.new.choice self.new.list.now self.new.accounts.items) }
+    {
+        if !self.list.is_init(place) {
+            return Ok(());
+        }
+        let _parent = self.list.home(place);
+        let _few = self.list.count();
+        let needed = self.needed_below(place + 1);
+        self.set_need(alloc, place, needed)?;
+        Ok(())
+    }
+
+    // Sets what the accounts of a component need for others.
+    fn set_need(
+        &mut self,
+        alloc: Global,
+        component: usize,
+        needed: Option<Budget>,
+    ) -> Result<(), AllocError>
+        ensures list { self.new.list ≡ self.old.list }
+        ensures choice { self.new.choice ≡ self.old.choice }
+        ensures changed { OnOk result (AreChanged component (option_map amounts_of needed)
+            self.old.accounts.items self.new.accounts.items) }
+    {
+        for at in 0..self.accounts.len() {
+            self.accounts[at].need(alloc, component, needed)?;
+        }
+        Ok(())
     }
 
     // Returns the need of an init's list, by the init's number: what its entries need together with their reserves.
     fn needed_below(&self, init: usize) -> Option<Budget>
         ensures { option_map amounts_of result ≡ option_map capped
-            (needed_below self.now.list.now init self.now.accounts.items) }
+            (needed_below self.now.choice self.now.list.now init self.now.accounts.items) }
     {
         let accounts = self.accounts.as_slice();
         let mut sum = Budget { ram: 0, caps: 0 };
@@ -192,10 +235,10 @@ impl<'a> BudgetReport<'a> {
     // Adds what an account needs to a sum, if it is that of an entry of an init's list.
     fn sum_with(&self, init: usize, sum: Budget, account: &AccountBudgets) -> Option<Budget>
         ensures { option_map amounts_of result
-            ≡ sum_with self.now.list.now init (amounts_of sum) account.now }
+            ≡ sum_with self.now.choice self.now.list.now init (amounts_of sum) account.now }
     {
         if self.is_entry_of(account, init) {
-            with_need(sum, account)
+            with_need(sum, account, self.choice)
         } else {
             Some(sum)
         }
@@ -208,6 +251,24 @@ impl<'a> BudgetReport<'a> {
         match self.list.entries().get(account.component) {
             Some(entry) => account.session.is_none() && entry.home() == init,
             None => false,
+        }
+    }
+
+    /// Returns what the machine's init hands out in all: what the entries of its list need together, with their reserves. Returns
+    /// nothing if no budget suffices for one of them.
+    pub fn sum(&self) -> Option<Budget>
+        ensures { option_map amounts_of result ≡ sum_of self.now }
+    {
+        self.needed_below(0)
+    }
+
+    /// Returns the smallest machine on which a list with the budgets that are written boots, if there is one.
+    pub fn machine(&self) -> Option<MachineSize>
+        ensures { HasSmallestMachine (sum_of self.now) result }
+    {
+        match self.sum() {
+            Some(sum) => MachineSize::covering(sum),
+            None => None,
         }
     }
 
@@ -232,21 +293,48 @@ impl<'a> BudgetReport<'a> {
         BudgetCsv { report: self }
     }
 
-    /// The text of a start list from which the report's was read, with the least budgets in place. The machine is as large as they
-    /// ask, and no smaller than it was.
-    pub fn start_list(&self, alloc: Global, text: &[u8]) -> Result<String, BootFault> {
-        let mut draft = Draft::of(alloc, text, self.list)?;
+    /// Returns the text of a start list from which the report's was read, with its budgets in place. Every other byte stays. The
+    /// machine is as large as the budgets ask, and no smaller than it was; if no machine is large enough, it stays.
+    ///
+    /// Refuses as `StartList::read` if the text with the budgets is no start list, for example with `BadConfig size` if it is too
+    /// long. Then refuses with `BadConfig start` if the text isn't the report's.
+    pub fn start_list(&self, alloc: Global, text: &[u8]) -> Result<Vec<u8>, BootFault>
+        ensures { IfOk result (λ written. IsWritten self.now written.items) }
+    {
+        let size = size_of(self.list, self.machine());
+        let written = self.list_with(alloc, text, size)?;
+        let list = StartList::read(alloc, written.as_slice())?;
+        if self.has_budgets(&list) && has_size(&list, size) {
+            Ok(written)
+        } else {
+            Err(BootFault::BadConfig(ConfigField::Start))
+        }
+    }
+
+    // Returns the text of a start list with the report's budgets on a machine of a size.
+    fn list_with(
+        &self,
+        alloc: Global,
+        text: &[u8],
+        size: MachineSize,
+    ) -> Result<Vec<u8>, AllocError> {
+        let mut sizes = ListSizes::none(alloc, self.list)?;
         for account in self.accounts.as_slice() {
-            if let (None, Some(least)) = (account.session, account.least()) {
-                draft.set_budget(alloc, account.component, least)?;
+            if let (None, Some(budget)) = (account.session, account.chosen(self.choice)) {
+                sizes.add_budget(alloc, self.list, account.component, budget)?;
             }
         }
-        if let Some(sum) = self.needed_below(0) {
-            let pages = sum.ram.div_ceil(PAGE).max(u64::from(self.list.pages()));
-            let caps = sum.caps.max(u64::from(self.list.caps()));
-            draft.set_machine(alloc, pages, caps)?;
-        }
-        draft.text(alloc)
+        sizes.add_machine(alloc, self.list, size)?;
+        sizes.text(alloc, text)
+    }
+
+    // Returns whether the entries of a list have the report's budgets.
+    fn has_budgets(&self, list: &StartList) -> bool
+        ensures { result ≡ list_all (has_budget list.now self.now.choice) self.now.accounts.items }
+    {
+        self.accounts
+            .iter()
+            .all(|account| has_budget(list, self.choice, account))
     }
 
     /// Returns the text of the report's scenario, with the donations that were measured. A line of a round donates the same in each
@@ -272,19 +360,19 @@ impl<'a> BudgetReport<'a> {
 }
 
 // Adds what an account needs with its reserve to a sum.
-fn with_need(sum: Budget, account: &AccountBudgets) -> Option<Budget>
+fn with_need(sum: Budget, account: &AccountBudgets, choice: BudgetChoice) -> Option<Budget>
     ensures { option_map amounts_of result
-        ≡ option_map (λ need. capped (more_of (amounts_of sum) need)) (need_of account.now) }
+        ≡ option_map (λ need. capped (more_of (amounts_of sum) need)) (need_of choice account.now) }
 {
-    let (least, reserve) = (account.least()?, account.reserve);
+    let (budget, reserve) = (account.chosen(choice)?, account.reserve);
     Some(Budget {
         ram: sum
             .ram
-            .saturating_add(least.ram)
+            .saturating_add(budget.ram)
             .saturating_add(reserve.ram),
         caps: sum
             .caps
-            .saturating_add(least.caps)
+            .saturating_add(budget.caps)
             .saturating_add(reserve.caps),
     })
 }
@@ -298,7 +386,7 @@ fn sessions_of(
 ) -> Result<Option<ScriptSessions>, BootFault>
     requires { component < length list.now.entries }
 {
-    match search_of(list, component) {
+    match ScriptSearch::of(list, component) {
         Some(search) => {
             let sessions = search.sessions(alloc, steps)?;
             Ok(Some(sessions))
@@ -318,10 +406,9 @@ fn add_component(
 ) -> Result<(), BootFault>
     requires { component < length list.now.entries }
 {
-    let (Some(search), Some(sessions)) = (search_of(list, component), sessions) else {
+    let (Some(search), Some(sessions)) = (ScriptSearch::of(list, component), sessions) else {
         let given = budget_of(&list.entries()[component]);
-        let nothing = Some(Budget { ram: 0, caps: 0 });
-        accounts.push(AccountBudgets::idle(alloc, component, given, nothing)?)?;
+        accounts.push(AccountBudgets::idle(alloc, component, given)?)?;
         return Ok(());
     };
     let own = search.own(alloc, steps, &sessions.given)?;
@@ -330,29 +417,4 @@ fn add_component(
     }
     accounts.push(own)?;
     Ok(())
-}
-
-// Returns the search for the budgets of a component, if it is a script.
-fn search_of(list: &StartList, component: usize) -> Option<ScriptSearch<'_>>
-    requires { component < length list.now.entries }
-{
-    let entry = &list.entries()[component];
-    if entry.binary() != Binary::Script {
-        return None;
-    }
-    Some(ScriptSearch {
-        list,
-        component,
-        given: budget_of(entry),
-    })
-}
-
-// The budget of an entry.
-fn budget_of(entry: &ListEntry) -> Budget
-    ensures { result.caps < 2 ^ 32 }
-{
-    Budget {
-        ram: entry.ram(),
-        caps: u64::from(entry.caps()),
-    }
 }

@@ -1,10 +1,12 @@
 //! The text of a report.
 
-use crate::account_budgets::{AccountBudgets, GivenBudget};
-use crate::budget_intervals::{BudgetInterval, Likeness};
+use crate::machine_size::MachineSize;
 use crate::report::BudgetReport;
-use crate::trial::{RefusedLine, SkippedLine};
 use budget_meter::{Budget, Bytes};
+use budget_search::{
+    AccountBudgets, BudgetGap, BudgetInterval, GivenBudget, Likeness, RefusedLine, SessionKey,
+    SkippedLine,
+};
 use std::fmt;
 
 impl fmt::Display for BudgetReport<'_> {
@@ -12,8 +14,7 @@ impl fmt::Display for BudgetReport<'_> {
         for account in self.accounts() {
             self.show_name(f, account)?;
             if let Some(session) = account.session() {
-                let (selector, line) = (session.selector, session.line);
-                write!(f, " session {selector} (line {line})")?;
+                show_session(f, session, account.count())?;
             }
             f.write_str(": ")?;
             show_rows(f, account.rows())?;
@@ -21,7 +22,7 @@ impl fmt::Display for BudgetReport<'_> {
             show_beside(f, account)?;
             self.show_unmeasured(f, account)?;
         }
-        Ok(())
+        self.show_sum(f)
     }
 }
 
@@ -40,6 +41,25 @@ impl BudgetReport<'_> {
 }
 
 impl BudgetReport<'_> {
+    // Writes the sum of the budgets that are written, and the smallest machine for them.
+    fn show_sum<W: fmt::Write>(&self, f: &mut fmt::Formatter<W>) -> fmt::Result {
+        f.write_str("sum with reserves: ")?;
+        match self.sum() {
+            Some(Budget { ram, caps }) => {
+                let ram = Bytes(ram);
+                write!(f, "{ram} and {caps}\n")?;
+            }
+            None => f.write_str("none\n")?,
+        }
+        f.write_str("smallest machine: ")?;
+        match self.machine() {
+            Some(MachineSize { pages, caps }) => {
+                write!(f, "{pages} pages and {caps} capabilities\n")
+            }
+            None => f.write_str("none\n"),
+        }
+    }
+
     // Writes the lines that aren't measured, if the account is a component's own.
     fn show_unmeasured<W: fmt::Write>(
         &self,
@@ -54,6 +74,20 @@ impl BudgetReport<'_> {
         }
         Ok(())
     }
+}
+
+// Writes a session, and how many sessions of its line have the same budgets.
+fn show_session<W: fmt::Write>(
+    f: &mut fmt::Formatter<W>,
+    session: SessionKey,
+    count: u64,
+) -> fmt::Result {
+    let (selector, line) = (session.selector, session.line);
+    write!(f, " session {selector} (line {line}")?;
+    if count > 1 {
+        write!(f, ", {count} times")?;
+    }
+    f.write_str(")")
 }
 
 // Writes the intervals, from the lowest RAM on.
@@ -91,6 +125,7 @@ fn show_row<W: fmt::Write>(f: &mut fmt::Formatter<W>, row: &BudgetInterval) -> f
 
 // Writes the lines after the intervals, except those that aren't measured.
 fn show_beside<W: fmt::Write>(f: &mut fmt::Formatter<W>, account: &AccountBudgets) -> fmt::Result {
+    show_safe(f, account.least(), account.safe())?;
     if account.rows().is_empty() {
         if let Some(refused) = account.found.refused {
             f.write_str("  with the most of a machine: ")?;
@@ -98,14 +133,7 @@ fn show_beside<W: fmt::Write>(f: &mut fmt::Formatter<W>, account: &AccountBudget
             f.write_str("\n")?;
         }
     }
-    for hole in account.holes() {
-        let (from, below) = (Bytes(hole.ram_from), Bytes(hole.ram_below));
-        write!(f, "  {from} below {below}: ")?;
-        if let Some(refused) = hole.refused {
-            show_refused(f, refused)?;
-        }
-        f.write_str("\n")?;
-    }
+    show_holes(f, account.holes())?;
     show_given(f, account.given(), account.least())?;
     let reserve = account.reserve;
     if reserve.ram != 0 || reserve.caps != 0 {
@@ -114,6 +142,37 @@ fn show_beside<W: fmt::Write>(f: &mut fmt::Formatter<W>, account: &AccountBudget
     }
     for line in account.left_out() {
         show_left_out(f, *line, account.least())?;
+    }
+    Ok(())
+}
+
+// Writes the safe budget, unless it is the minimum.
+fn show_safe<W: fmt::Write>(
+    f: &mut fmt::Formatter<W>,
+    least: Option<Budget>,
+    safe: Option<Budget>,
+) -> fmt::Result {
+    if safe == least {
+        return Ok(());
+    }
+    match safe {
+        Some(Budget { ram, caps }) => {
+            let ram = Bytes(ram);
+            write!(f, "  safe from {ram} and {caps}\n")
+        }
+        None => f.write_str("  no budget is safe\n"),
+    }
+}
+
+// Writes the ranges of RAM between intervals.
+fn show_holes<W: fmt::Write>(f: &mut fmt::Formatter<W>, holes: &[BudgetGap]) -> fmt::Result {
+    for hole in holes {
+        let (from, below) = (Bytes(hole.ram_from), Bytes(hole.ram_below));
+        write!(f, "  {from} below {below}: ")?;
+        if let Some(refused) = hole.refused {
+            show_refused(f, refused)?;
+        }
+        f.write_str("\n")?;
     }
     Ok(())
 }
@@ -190,7 +249,9 @@ pub struct BudgetCsv<'a> {
 
 impl fmt::Display for BudgetCsv<'_> {
     fn fmt<W: fmt::Write>(&self, f: &mut fmt::Formatter<W>) -> fmt::Result {
-        f.write_str("component,session,line,ram_from,ram_below,caps_from,unmeasured\n")?;
+        f.write_str(
+            "component,session,line,ram_from,ram_below,caps_from,unmeasured,safe_ram,safe_caps,count\n",
+        )?;
         for account in self.report.accounts() {
             for row in account.rows() {
                 self.show_row(f, account, row)?;
@@ -222,7 +283,11 @@ impl BudgetCsv<'_> {
             None => write!(f, "{from},,{caps},")?,
         }
         self.show_unmeasured(f, account)?;
-        f.write_str("\n")
+        let count = account.count();
+        match account.safe() {
+            Some(Budget { ram, caps }) => write!(f, ",{ram},{caps},{count}\n"),
+            None => write!(f, ",,,{count}\n"),
+        }
     }
 
     // The numbers of the account's lines that aren't measured, separated by blanks.

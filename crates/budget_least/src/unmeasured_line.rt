@@ -2,7 +2,7 @@
 ghost use Rattle.std.specs.Prelude.{◌≡◌};
 ghost use Rattle.budget_least.specs.Report.{line_of};
 
-use crate::account_budgets::AccountBudgets;
+use budget_search::AccountBudgets;
 use line_names::NameReason;
 use line_steps::UnreadReason;
 use std::alloc::{AllocError, Global};
@@ -102,37 +102,5 @@ fn is_unbound(why: UnreadReason) -> bool {
     match why {
         UnreadReason::Name(fault) => fault.reason == NameReason::UnknownName,
         _ => false,
-    }
-}
-
-/// The numbers of lines that aren't measured.
-#[derive(Drop)]
-pub(crate) struct LineNumbers {
-    /// Whether the line of each number, from 0 on, is among them.
-    has: Vec<bool>,
-}
-
-impl LineNumbers {
-    /// Returns no numbers.
-    pub(crate) fn new(alloc: Global) -> LineNumbers {
-        LineNumbers {
-            has: Vec::new(alloc),
-        }
-    }
-
-    /// Adds a number, and returns whether it was there. The error is that the host is out of memory.
-    pub(crate) fn add(&mut self, number: u64) -> Result<bool, AllocError> {
-        let place = number as usize;
-        for _ in self.has.len()..place.saturating_add(1) {
-            self.has.push(false)?;
-        }
-        match self.has.get_mut(place) {
-            Some(has) => {
-                let was = *has;
-                *has = true;
-                Ok(was)
-            }
-            None => Ok(true),
-        }
     }
 }

@@ -7,5 +7,8 @@ pub mod RunLemmas
 pub mod SizeLemmas
 pub mod ReachedLemmas
 pub mod HexLemmas
+pub mod FirstLemmas
 pub mod ToldLemmas
+pub mod ObjectToldLemmas
+pub mod KeptStateLemmas
 pub mod SessionLemmas

@@ -12,7 +12,7 @@ use Rattle.core_calls.specs.declared.file_error.FileError.{FileError}
 use Rattle.core_calls.specs.declared.file_error.FileError.TheVariants as error
 use Rattle.core_calls.specs.declared.outcome.Outcome.{Outcome}
 use Rattle.core_calls.specs.declared.outcome.Outcome.TheVariants.{Selected, Attached, Bytes, Done, Quotas, Reserved, Served, Refused}
-use Rattle.core_calls.specs.declared.outcome.ServiceOutcome.TheVariants.{Done as ServiceDone, Count, Bytes as ServiceBytes, Name, Quotas as ServiceQuotas, Lent, Refused as ServiceRefused}
+use Rattle.core_calls.specs.declared.outcome.ServiceOutcome.TheVariants.{Done as ServiceDone, Count, Bytes as ServiceBytes, Name, Object, Quotas as ServiceQuotas, Lent, Refused as ServiceRefused, BadKind}
 use Rattle.budget_theorems.specs.Request.{shows_session_short}
 use Rattle.budget_meter.specs.Outcomes.{grants, is_done, lacks_session, lacks, is_denied, is_unnamed}
 use Rattle.budget_meter.specs.RequestTests.{is_granted}
@@ -68,8 +68,10 @@ reads (Served ServiceDone) text is = subst (Reads (Served ServiceDone)) (sym is)
 reads (Served (Count count)) text is = subst (Reads (Served (Count count))) (sym is) (refl, refl, refl, refl, refl, refl)
 reads (Served ServiceBytes) text is = subst (Reads (Served ServiceBytes)) (sym is) (refl, refl, refl, refl, refl, refl)
 reads (Served Name) text is = subst (Reads (Served Name)) (sym is) (refl, refl, refl, refl, refl, refl)
+reads (Served Object) text is = subst (Reads (Served Object)) (sym is) (refl, refl, refl, refl, refl, refl)
 reads (Served (ServiceQuotas quotas)) text is = subst (Reads (Served (ServiceQuotas quotas))) (sym is) (refl, refl, refl, refl, refl, refl)
 reads (Served (Lent None)) text is = subst (Reads (Served (Lent None))) (sym is) (refl, refl, refl, refl, refl, refl)
 reads (Served (Lent (Some selector))) text is = subst (Reads (Served (Lent (Some selector)))) (sym is) (refl, refl, refl, refl, refl, refl)
 reads (Served (ServiceRefused why)) text is = subst (Reads (Served (ServiceRefused why))) (sym is) (error_reads why)
+reads (Served BadKind) text is = subst (Reads (Served BadKind)) (sym is) (refl, refl, refl, refl, refl, refl)
 reads (Refused why) text is = subst (Reads (Refused why)) (sym is) (refusal_reads why)

@@ -11,8 +11,6 @@ use Rattle.trade_base.proofs.PageLemmas.{IsLeastPageSize-page_of}
 use Rattle.trade_base.specs.Bytes.{with_bytes}
 use Rattle.trade_base.specs.Page.{page_of, is_valid_size}
 use Rattle.trade_base.specs.declared.refusal.Refusal.TheVariants as refusal
-use Rattle.trade_base.specs.declared.service.Service.{Service}
-use Rattle.trade_base.specs.declared.service.Service.TheVariants as service
 use Rattle.own_model.proofs.BufferMadeLemmas.{request_new}
 use Rattle.own_model.proofs.FileListLemmas.{named_is}
 use Rattle.own_model.specs.Account.{Account, shortage, charged}
@@ -29,24 +27,21 @@ use Rattle.own_model.specs.FileText.FileReply.{Done, Count, Refused}
 use Rattle.own_model.specs.Growth.{Growth, most_chunks, hole_for, least_growth, larger_growth, new_hole, small_refusal, shape_grown}
 use Rattle.own_model.specs.LogService.{log_served_bytes}
 use Rattle.own_model.specs.LogText.{log_request}
-use Rattle.own_model.specs.ObjectKinds.{ObjectKind}
-use Rattle.own_model.specs.Offer.{offer_of_service, offer_parts}
-use Rattle.own_model.specs.Offer.Offer.{OffersObjects}
 use Rattle.own_model.specs.OwnState.{NamedBuffer, bytes_of_buffer}
 use Rattle.own_model.specs.OwnStep.{completed}
-use Rattle.own_model.specs.Session.{ServiceState, Session, Served, offer_of, served, served_by}
+use Rattle.own_model.specs.Session.{ServiceState, Session, Served, served_by}
 use Rattle.own_model.specs.Services.ServiceState.{Filing, Holding, Logging}
 use Rattle.own_model.specs.Sliced.{sliced_size}
 use Rattle.own_model.specs.Text.{is_name}
-use Rattle.pd_core.specs.Sessions.{IsBuiltIn}
 use Rattle.budget_theorems.specs.Request.{create_tests, filing_tests, put_tests, write_tests, tests_where_none, tests_by, shows_session_short}
 use Rattle.budget_theorems.specs.Test.{Test, test_of, tested_where, small_tests, growth_tests}
+use Rattle.budget_meter.specs.KeptState.{HasNoObjects}
 use Rattle.budget_meter.specs.RequestTests.{files_in, shows_charge, tests_by_reply, growth_by_reply, is_granted, IsCreated, IsWritten, IsDone, Changes}
 
-none_more : (c : ℕ) → nat_lt c c ≡ false
+pub none_more : (c : ℕ) → nat_lt c c ≡ false
 none_more c = grind (arith, nat_tests)
 
-one_more : (c : ℕ) → nat_lt c (c + 1) ≡ true
+pub one_more : (c : ℕ) → nat_lt c (c + 1) ≡ true
 one_more c = grind (arith, nat_tests)
 
 pub not_lt : (a b : ℕ) (v : Bool) → nat_lt b a ≡ v → nat_le a b ≡ cond v false true
@@ -514,11 +509,6 @@ module _ (files : Files) (a : Account) (few : a.ram_limit < 2 ^ 64) (selector : 
 
 -- ---- of any session
 
--- no service that the machine has built in offers objects
-objects_not_built_in : (kinds : List ObjectKind) (of : Service) → OffersObjects kinds ≡ offer_of_service of → ⊥
-objects_not_built_in kinds service.Log is = none-some (Some kinds) (sym (ap offer_parts is))
-objects_not_built_in kinds service.Files is = none-some kinds (sym (same_Some (Some kinds) None (ap offer_parts is)))
-
 -- what its client is told of a request tells what that tests, how far the heap of files grows, and what becomes of them
 pub record TellsSession (request : List ℕ) (buffer : Option NamedBuffer) (session : Session) (state : ServiceState) (reply : List ℕ) (o : Served) : Type 0 where
   pub tests : tests_by_reply (session_request request) reply session.account o.session.account (files_in state) ≡ tests_by state (bytes_of_buffer buffer) session.account request
@@ -600,11 +590,7 @@ module _ (request : List ℕ) (buffer : Option NamedBuffer) (session : Session) 
       let all = request_told files account few selector (session_request request) buffer in
       record { tests = all.tests; growth = all.growth; changes = all.changes; short = short_same files account few selector (session_request request) buffer }
 
-  -- no session of objects is one of a service that the machine has built in
-  told_in : (state : ServiceState) → IsBuiltIn (offer_of state) → let o = served_by state (bytes_of_buffer buffer) session request in TellsSession request buffer session state (told_by o) o
-  told_in (Logging partial) built_in = log_told partial (same_log buffer (log_served_bytes partial (log_request request)).reply)
-  told_in (Filing files) built_in = file_session_told files
-  told_in (Holding kinds objects) built_in = absurd (objects_not_built_in kinds built_in.service built_in.is)
-
-  pub session_told : IsBuiltIn (offer_of session.state) → let o = served (bytes_of_buffer buffer) session request in TellsSession request buffer session session.state (completed buffer o.buffer selector o.reply) o
-  session_told built_in = told_in session.state built_in
+  pub told_in : (state : ServiceState) → HasNoObjects state → let o = served_by state (bytes_of_buffer buffer) session request in TellsSession request buffer session state (told_by o) o
+  told_in (Logging partial) none = log_told partial (same_log buffer (log_served_bytes partial (log_request request)).reply)
+  told_in (Filing files) none = file_session_told files
+  told_in (Holding kinds objects) none = absurd none

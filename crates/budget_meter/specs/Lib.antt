@@ -5,5 +5,8 @@ pub mod Metered
 pub mod Run
 pub mod SessionRuns
 pub mod RequestTests
+pub mod ObjectSizes
+pub mod ObjectTests
+pub mod KeptState
 pub mod Sessions
 pub mod Outcomes

@@ -3,13 +3,14 @@ use Rattle.std.specs.Prelude.{Bool, true, false}
 use Rattle.core_calls.specs.declared.file_error.FileError.TheVariants.{OutOfRam as SessionOutOfRam, OutOfCaps as SessionOutOfCaps}
 use Rattle.core_calls.specs.declared.outcome.Outcome.{Outcome}
 use Rattle.core_calls.specs.declared.outcome.Outcome.TheVariants.{Served, Refused}
-use Rattle.core_calls.specs.declared.outcome.ServiceOutcome.TheVariants.{Done, Refused as ServiceRefused}
+use Rattle.core_calls.specs.declared.outcome.ServiceOutcome.TheVariants.{Done, Refused as ServiceRefused, BadKind}
 use Rattle.trade_base.specs.declared.refusal.Refusal.{Refusal}
 use Rattle.trade_base.specs.declared.refusal.Refusal.TheVariants.{OutOfRam, OutOfCaps, ServiceDenied, InvalidSession}
 
 -- a service did what was requested
 abbrev pub grants : Outcome → Bool
 grants (Served (ServiceRefused error)) = false
+grants (Served BadKind) = false
 grants (Served served) = true
 grants outcome = false
 

@@ -1,29 +1,26 @@
 -- The state of a meter of a session whose requests it observes, and of its runs up to the first shortfall.
-use Rattle.std.specs.Prelude.{◌≡◌, ◌<◌, ◌^◌, ℕ, false, Bool, List, ◌∷◌, ◌++◌, Option, None}
+use Rattle.std.specs.Prelude.{◌≡◌, ◌<◌, ◌^◌, ℕ, false, Bool, List, [], ◌∷◌, ◌++◌, Option, None}
 use Rattle.own_model.specs.Amounts.{Amounts}
-use Rattle.own_model.specs.OwnState.{NamedBuffer}
+use Rattle.own_model.specs.OwnState.{NamedBuffer, bytes_of_buffer}
 use Rattle.own_model.specs.OwnStep.{completed}
-use Rattle.own_model.specs.Session.{Session, Served, offer_of}
+use Rattle.own_model.specs.Session.{Session, Served, served}
 use Rattle.pd_core.specs.Answer.{quotas_account}
-use Rattle.pd_core.specs.Sessions.{IsBuiltIn}
 use Rattle.core_calls.specs.declared.quotas.Quotas.{Quotas}
 use Rattle.budget_theorems.specs.Request.{donating}
 use Rattle.budget_theorems.specs.RequestTheorems.{Reaches, session_needs, session_run, session_is_short}
+use Rattle.budget_theorems.specs.RequestTheorems.Reaches.{Asked}
 use Rattle.budget_meter.specs.Needs.{amounts_of, shown_by, shown_in}
 use Rattle.budget_meter.specs.SessionRuns.{Sent, reaching_to_want, run_in_want, opens_none, opening_need, opened_needs, opened_in_want}
-use Rattle.budget_meter.specs.Sizes.{Keeps}
-use Rattle.budget_meter.specs.RequestTests.{files_in}
+use Rattle.budget_meter.specs.KeptState.{KeepsState, heap_shape}
 use Rattle.budget_meter.specs.declared.meter.Meter.{Meter}
 use Rattle.budget_meter.specs.declared.session.SessionMeter.{SessionMeter}
 
--- of a session of a service that the machine has built in: its account, how far the heap of its files grows, and the files, by
--- name and size
+-- of a session: its account, how far the heap of its files or objects grows, and these, by name and size
 pub record IsAt (meter : SessionMeter) (session : Session) : Type 0 where
-  pub built_in : IsBuiltIn (offer_of session.state)
   pub account : quotas_account meter.account ≡ session.account
   pub few : meter.account.ram_limit.0 < 2 ^ 64
-  pub growth : meter.pages ≡ (files_in session.state).shape.growth
-  pub sizes : Keeps meter.sizes (files_in session.state).files
+  pub growth : meter.pages ≡ (heap_shape session.state).growth
+  pub kept : KeepsState meter.sizes meter.objects session.state
 
 -- a request of a session with this buffer was served, with this reply, and left this account
 pub record IsServedBy (reply : List ℕ) (left : Quotas) (buffer : Option NamedBuffer) (o : Served) : Type 0 where
@@ -38,6 +35,13 @@ pub record HasReached (all : List Reaches) (donation : Amounts) (session : Sessi
   pub opens : opens_none donation ≡ false
   pub shown : shown_in meter.meter ≡ shown_by donation (opening_need donation ∷ session_needs donation all (donating donation session))
   pub at : IsAt meter (session_run all (donating donation session))
+
+-- from all that it has observed, it observes one request more
+abbrev pub Observes : SessionMeter → SessionMeter → List ℕ → List ℕ → Quotas → Type 0
+Observes old new request reply left =
+    (all : List Reaches) (donation : Amounts) (session : Session) (buffer : Option NamedBuffer) → HasReached all donation session old →
+    IsServedBy reply left buffer (served (bytes_of_buffer buffer) (session_run all (donating donation session)) request) →
+    HasReached (all ++ Asked (bytes_of_buffer buffer) request ∷ []) donation session new
 
 -- ---- runs
 

@@ -9,6 +9,8 @@ mod file_sizes;
 mod growth;
 mod meter;
 mod needed_amounts;
+mod object_requests;
+mod object_sizes;
 mod outcomes;
 mod session;
 mod theorems;

@@ -83,8 +83,8 @@ fn large_pages(n: u64) -> Option<Budget>
     whole_pages(n)
 }
 
-// The amounts that a sliced block needs.
-fn sliced_pages(n: u64) -> Option<Budget>
+/// Returns the amounts that a sliced block needs.
+pub(crate) fn sliced_pages(n: u64) -> Option<Budget>
     ensures { amount_tests result ≡ tested_where (nat_lt 0 n && is_valid_size (sliced_header + n))
         (test_of (sliced_size n) 1) }
 {

@@ -23,7 +23,7 @@ fn grants(outcome: Outcome) -> bool
     ensures { result ≡ grants outcome }
 {
     match outcome {
-        Outcome::Served(ServiceOutcome::Refused(_)) => false,
+        Outcome::Served(ServiceOutcome::Refused(_) | ServiceOutcome::BadKind) => false,
         Outcome::Served(_) => true,
         _ => false,
     }

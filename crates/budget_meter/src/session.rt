@@ -1,22 +1,24 @@
 //! The meter of a session's account, request by request.
-ghost use Rattle.std.specs.Prelude.{◌≡◌, ◌<◌, ◌^◌, ◌∷◌, ◌++◌, [], ℕ, true, false, List, Some, IfOk, OnOk, Option};
+ghost use Rattle.std.specs.Prelude.{◌≡◌, ◌<◌, ◌^◌, ◌∷◌, ◌++◌, [], ℕ, true, false, List, Some, None, is_some, IfOk, OnOk, Option};
+ghost use Rattle.std.specs.Option.{option_copied, option_map};
 ghost use Rattle.own_model.specs.Amounts.{Amounts};
 ghost use Rattle.own_model.specs.FileService.{Files};
 ghost use Rattle.own_model.specs.OwnState.{NamedBuffer, bytes_of_buffer};
 ghost use Rattle.own_model.specs.Session.{Session, Wish, new_session, offer_of, served, too_small, upgraded};
 ghost use Rattle.pd_core.specs.Answer.{quotas_account};
-ghost use Rattle.pd_core.specs.Sessions.{IsBuiltIn};
+ghost use Rattle.object_kinds.specs.Offered.{offered_kinds};
 ghost use Rattle.session_proto.specs.File.{HasHex, model_request};
 ghost use Rattle.budget_theorems.specs.Request.{donating};
 ghost use Rattle.budget_theorems.specs.RequestTheorems.{Reaches, session_run};
-ghost use Rattle.budget_theorems.specs.RequestTheorems.Reaches.{Asked, Raised};
+ghost use Rattle.budget_theorems.specs.RequestTheorems.Reaches.{Raised};
 ghost use Rattle.budget_theorems.specs.Request.{write_tests};
 ghost use Rattle.own_model.specs.FileService.{file_named};
 ghost use Rattle.budget_meter.specs.NeededAmounts.{AsksAs, is_create};
 ghost use Rattle.budget_meter.specs.Needs.{amounts_of, shown_in, shown_of, together};
 ghost use Rattle.budget_meter.specs.SessionRuns.{Sent};
 ghost use Rattle.budget_meter.specs.SessionRuns.Sent.{Asks, Raises};
-ghost use Rattle.budget_meter.specs.Sessions.{HasReached, IsLeft, IsServedBy, Shows};
+ghost use Rattle.budget_meter.specs.ObjectSizes.{new_known};
+ghost use Rattle.budget_meter.specs.Sessions.{HasReached, IsLeft, IsServedBy, Observes, Shows};
 ghost use Rattle.budget_meter.specs.Sizes.{Keeps};
 ghost use Rattle.budget_meter.specs.RequestTests.{growth_by_reply, tests_by_reply};
 
@@ -25,10 +27,13 @@ use crate::file_sizes::FileSizes;
 use crate::growth::{FIRST_PAGES, take_growth};
 use crate::meter::{Meter, limits_of};
 use crate::needed_amounts::{NODE, file_written, longer, request_amounts, whole_pages};
+use crate::object_requests::{ServedRequest, object_amounts, take_object_request};
+use crate::object_sizes::ObjectSizes;
 use crate::outcomes::{is_granted, is_short, shows_charge};
 use core_calls::Answer;
+use object_kinds::ObjectKind;
 use pd_core::Quotas;
-use session_proto::FileRequest;
+use session_proto::{FileRequest, ObjectRequest};
 use std::alloc::{AllocError, Global};
 
 /// A meter of a session's account: the minimum opening donation that passes all tests so far, including that of the opening.
@@ -38,26 +43,35 @@ pub struct SessionMeter {
     alloc: Global,
     /// The account after the last request or upgrade.
     account: Quotas,
-    /// The growth number of the heap of the session's files.
+    /// The growth number of the heap of the session's files or objects.
     pages: u32,
     sizes: FileSizes,
+    /// The objects, if the session is one of a declared server.
+    objects: Option<ObjectSizes>,
 }
 
 impl SessionMeter {
-    /// Creates the meter of a session that was just opened, of a service that the machine has built in.
-    pub fn new(alloc: Global, account: Quotas) -> SessionMeter
-        ensures { (wish : Wish) → IsBuiltIn (offer_of (new_session wish).state) →
+    /// Creates the meter of a session that was just opened. Its server offers objects of these kinds, or none if it is one of a
+    /// built-in service. Returns an error if the host is out of memory.
+    pub fn new(
+        alloc: Global,
+        account: Quotas,
+        kinds: Option<&[ObjectKind]>,
+    ) -> Result<SessionMeter, AllocError>
+        ensures { IfOk result (λ meter. (wish : Wish) →
+            option_copied kinds.entry ≡ offered_kinds (offer_of (new_session wish).state) →
             too_small wish.ram wish.caps ≡ None →
             quotas_account account ≡ (new_session wish).account →
-            HasReached [] (record { ram = wish.ram; caps = wish.caps }) (new_session wish) result }
+            HasReached [] (record { ram = wish.ram; caps = wish.caps }) (new_session wish) meter) }
     {
-        SessionMeter {
+        Ok(SessionMeter {
             meter: Meter::opened(limits_of(account)),
             alloc,
             account,
             pages: FIRST_PAGES,
             sizes: FileSizes::new(alloc),
-        }
+            objects: objects_of(alloc, kinds)?,
+        })
     }
 
     /// Returns the minimum donation that passes the tests so far.
@@ -67,8 +81,12 @@ impl SessionMeter {
         self.meter.least
     }
 
-    /// Returns the amounts that a request needs of the session's account, by the size of the file that it writes.
+    /// Returns the amounts that a request needs of the session's account, by the size of the file that it writes, or by the
+    /// object that it creates or resizes.
     pub fn asked(&self, request: &[u8]) -> Option<Budget> {
+        if let Some(objects) = &self.objects {
+            return object_amounts(objects, ObjectRequest::read(request)?);
+        }
         let request = FileRequest::read(request)?;
         match file_written(request) {
             Some(file) => request_amounts(request, self.sizes.size(file)?),
@@ -103,13 +121,26 @@ impl SessionMeter {
         reply: Answer<'_>,
         after: Quotas,
     ) -> Result<(), AllocError>
-        ensures { OnOk result ((all : List Reaches) (donation : Amounts) (session : Session)
-            (buffer : Option NamedBuffer) → HasReached all donation session self.old →
-            IsServedBy reply.entry.text.now after buffer
-            (served (bytes_of_buffer buffer) (session_run all (donating donation session))
-            request.now) →
-            HasReached (all ++ Asked (bytes_of_buffer buffer) request.now ∷ []) donation session
-            self.new) }
+        ensures { OnOk result
+            (Observes self.old self.new request.now reply.entry.text.now after) }
+    {
+        if self.objects.is_some() {
+            self.hear_of_objects(request, reply, after)
+        } else {
+            self.hear_of_files(request, reply, after)
+        }
+    }
+
+    // Observes a request of files, or of a log.
+    fn hear_of_files(
+        &mut self,
+        request: &[u8],
+        reply: Answer<'_>,
+        after: Quotas,
+    ) -> Result<(), AllocError>
+        requires none { self.old.objects ≡ None }
+        ensures { OnOk result
+            (Observes self.old self.new request.now reply.entry.text.now after) }
     {
         let Some(request) = FileRequest::read(request) else {
             self.account = after;
@@ -118,6 +149,36 @@ impl SessionMeter {
         self.take(request, reply, after);
         self.account = after;
         self.sizes.keep(self.alloc, request, reply)?;
+        Ok(())
+    }
+
+    // Observes a request of objects.
+    fn hear_of_objects(
+        &mut self,
+        request: &[u8],
+        reply: Answer<'_>,
+        after: Quotas,
+    ) -> Result<(), AllocError>
+        requires some { is_some self.old.objects ≡ true }
+        ensures { OnOk result
+            (Observes self.old self.new request.now reply.entry.text.now after) }
+    {
+        let Some(request) = ObjectRequest::read(request) else {
+            self.account = after;
+            return Ok(());
+        };
+        let Some(objects) = &mut self.objects else {
+            return Ok(());
+        };
+        let before = self.account;
+        let served = ServedRequest {
+            reply,
+            before,
+            after,
+        };
+        self.pages = take_object_request(&mut self.meter, self.pages, objects, request, served);
+        self.account = after;
+        objects.keep(self.alloc, request, reply)?;
         Ok(())
     }
 
@@ -164,6 +225,7 @@ impl SessionMeter {
             (quotas_account self.old.account) (quotas_account after) files }
         ensures start { self.new.meter.start ≡ self.old.meter.start }
         ensures sizes { self.new.sizes ≡ self.old.sizes }
+        ensures objects { self.new.objects ≡ self.old.objects }
     {
         if is_create(request) {
             if shows_charge(reply, self.account, after) {
@@ -225,6 +287,19 @@ impl SessionMeter {
             return None;
         }
         longer(size, offset.saturating_add(count))
+    }
+}
+
+// The objects of a new session, of a server that offers objects of these kinds, if it does.
+fn objects_of(
+    alloc: Global,
+    kinds: Option<&[ObjectKind]>,
+) -> Result<Option<ObjectSizes>, AllocError>
+    ensures { IfOk result (λ objects. objects ≡ option_map new_known (option_copied kinds.entry)) }
+{
+    match kinds {
+        Some(kinds) => Ok(Some(ObjectSizes::new(alloc, kinds)?)),
+        None => Ok(None),
     }
 }
 

@@ -19,6 +19,11 @@ below_both : (x n : ℕ) (other : Option ℕ) → x < n → IsBelow x other → 
 below_both x n None less below = less
 below_both x n (Some end) less below = grind (arith, less, below)
 
+-- what is at most a number is below what the number is below
+pub starts_below : (x y : ℕ) (end : Option ℕ) → x ≤ y → IsBelow y end → IsBelow x end
+starts_below x y None within below = tt
+starts_below x y (Some end) within below = omega (arith, within, below)
+
 -- ---- one need more
 
 -- a number within bounds that a need has narrowed: by its bytes, which pass or fail

@@ -37,7 +37,7 @@ use Rattle.budget_theorems.proofs.SessionServeLemmas.{ServesAlike, serves}
 use Rattle.budget_theorems.proofs.SessionRunLemmas.{Donated, session_alike, session_decides, session_moved, first_donated}
 use Rattle.budget_theorems.proofs.StepLemmas.{Agrees, limits_of, here_when, entry_agrees}
 use Rattle.budget_theorems.proofs.TestLemmas.{IsAlike, short_alike, alike_of, less_alike}
-use Rattle.budget_theorems.proofs.WantLemmas.{within_by, below_by}
+use Rattle.budget_theorems.proofs.WantLemmas.{AlikeOrShort, FallShortAlike, within_by, below_by}
 use Rattle.budget_theorems.specs.Need.{Need, ComesOutAlike, limited, budgeted, need_of}
 use Rattle.budget_theorems.specs.Opened.{donated_to, selectors_but, but_limits_of, ends, raised_by, brought, reaching, CoversBoth, UnlessEnded, IsAmple, ReplyAlike, AllReplyAlike, HadAsMuch, OpeningsDonate, SameAnswersOfClient, ClientShortfallInACell, ClientShortfallBelowACell}
 use Rattle.budget_theorems.specs.Opened.ReplyAlike.{ButLimits, Texts}
@@ -565,12 +565,12 @@ module _ (entry : Entry) (q : ℕ) (session : Session) (calls : List Call) (base
   abbrev here : Bool
   here = session_is_short (reaching entry q calls one_state) (donating one session)
 
-  want_alike : IsAmple entry q one other calls one_state → AllByRecursion (ComesOutAlike one other) each → there ≡ here
+  want_alike : IsAmple entry q one other calls one_state → FallShortAlike one other each here there
   want_alike ample same =
       ap (λ all. session_is_short all (donating other session)) (all_alike ample same).brings
       ∙ (session_alike one other (reaching entry q calls one_state) (donating one session) (donating other session) (first_donated one other session) same).want
 
-  want_decides : IsAmple entry q one other calls one_state → AllByRecursion (Leads one other) each → AllByRecursion (ComesOutAlike one other) each ⊎ (there ≡ true)
+  want_decides : IsAmple entry q one other calls one_state → AlikeOrShort one other each there
   unfolding first_apart
   want_decides ample led = client_decides entry q one other calls (donating one session) one_state other_state first_apart ample led
 

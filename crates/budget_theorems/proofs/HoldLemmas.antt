@@ -25,7 +25,7 @@ use Rattle.own_model.specs.ObjectText.ObjectReply.{Done, Counted, Named, Refused
 use Rattle.own_model.specs.Sliced.{sliced_header, sliced_size}
 use Rattle.own_model.specs.Text.{is_name}
 use Rattle.budget_theorems.proofs.ServeLemmas.{Agree, then_it, Alike, Led, requests_agree, requests_decide}
-use Rattle.budget_theorems.proofs.TestLemmas.{lacks, short_alike, least_alike, growth_alike, decided, growth_decided}
+use Rattle.budget_theorems.proofs.TestLemmas.{lacks, alone, short_alike, least_alike, growth_alike, decided, growth_decided}
 use Rattle.budget_theorems.specs.Need.{limited}
 use Rattle.budget_theorems.specs.Request.{make_object_tests, contents_tests, resize_tests, holding_tests, shows_session_short}
 use Rattle.budget_theorems.specs.RequestTheorems.{AreTold}
@@ -210,10 +210,6 @@ module _ (x : Amounts) (a : Account) where
     or_told : {A : Type 0} (why : Option Refusal) (p : ObjectServed) → A ⊎ (lacks why ≡ true) → A ⊎ (shows_session_short (unless_refused (option_map as_error why) objects other p).reply ≡ true)
     or_told why p (inl alike) = inl alike
     or_told why p (inr is) = inr (short_told why objects other p is)
-
-    alone : {A B : Type 0} → A ⊎ B → (A × Unit {0}) ⊎ B
-    alone (inl here) = inl (here, tt)
-    alone (inr there) = inr there
 
     module _ (kind : ObjectKind) where
       chunks_decide : (full : Bool) (p : ObjectServed) → AreLed (cond full [] (growth_tests kind.block objects.shape a)) →

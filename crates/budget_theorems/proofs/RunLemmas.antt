@@ -15,7 +15,7 @@ use Rattle.budget_theorems.proofs.DecideLemmas.{own_decides}
 use Rattle.budget_theorems.proofs.EachLemmas.{of_mapped, to_mapped}
 use Rattle.own_model.proofs.ListLemmas.{all_append, all_left, all_right}
 use Rattle.budget_theorems.proofs.StepLemmas.{Moved, own_agrees}
-use Rattle.budget_theorems.proofs.WantLemmas.{within_by, below_by}
+use Rattle.budget_theorems.proofs.WantLemmas.{AlikeOrShort, FallShortAlike, within_by, below_by}
 use Rattle.budget_theorems.specs.Theorems.{SameAnswersInACell, ShortfallInACell, ShortfallBelowACell}
 use Rattle.budget_theorems.specs.Need.{Need, HasRam, IsBelow, budgeted, need_of, needs, ComesOutAlike, cell, greatest_choice}
 use Rattle.budget_theorems.specs.Test.{tests}
@@ -94,10 +94,10 @@ module _ (entry : Entry) (calls : List Call) (s : OwnState) (one other : Amounts
   abbrev here : Bool
   here = run_is_short entry calls (budgeted one s)
 
-  alike : AllByRecursion (ComesOutAlike one other) each → there ≡ here
+  alike : FallShortAlike one other each here there
   alike same = (run_alike one other entry calls (budgeted one s) (budgeted other s) (first_moved one other entry s) same).want
 
-  decides : AllByRecursion (Leads one other) each → AllByRecursion (ComesOutAlike one other) each ⊎ (there ≡ true)
+  decides : AlikeOrShort one other each there
   decides led = run_decides one other entry calls (budgeted one s) (budgeted other s) (first_moved one other entry s) led
 
   within : IsBelow other.caps (cell entry calls one s).caps_below → HasRam (cell entry calls one s) other.ram → there ≡ (here || nat_lt other.caps (cell entry calls one s).caps_from)

@@ -12,7 +12,7 @@ use Rattle.budget_theorems.proofs.CellLemmas.{Leads, in_cell_of}
 use Rattle.budget_theorems.proofs.EachLemmas.{of_mapped, to_mapped}
 use Rattle.budget_theorems.proofs.SessionServeLemmas.{serves, serve_decides}
 use Rattle.budget_theorems.proofs.TestLemmas.{IsAlike, IsLed, alike_of, alike_to, led_of}
-use Rattle.budget_theorems.proofs.WantLemmas.{within_by, below_by}
+use Rattle.budget_theorems.proofs.WantLemmas.{AlikeOrShort, FallShortAlike, within_by, below_by}
 use Rattle.budget_theorems.specs.Need.{Need, HasRam, IsBelow, ComesOutAlike, need_of, greatest_choice}
 use Rattle.budget_theorems.specs.Request.{request_tests, donating, shows_session_short}
 use Rattle.budget_theorems.specs.RequestTheorems.{Reaches, session_after, needs_of_one, session_needs, session_cell, session_run, AreTold, OneAlike, AllAlike, one_is_short, session_is_short, SameAnswersOfSession, SessionShortfallInACell, SessionShortfallBelowACell}
@@ -149,10 +149,10 @@ module _ (all : List Reaches) (session : Session) (one other : Amounts) where
   abbrev here : Bool
   here = session_is_short all (donating one session)
 
-  alike : AllByRecursion (ComesOutAlike one other) each → there ≡ here
+  alike : FallShortAlike one other each here there
   alike same = (session_alike one other all (donating one session) (donating other session) (first_donated one other session) same).want
 
-  decides : AllByRecursion (Leads one other) each → AllByRecursion (ComesOutAlike one other) each ⊎ (there ≡ true)
+  decides : AlikeOrShort one other each there
   decides led = session_decides one other all (donating one session) (donating other session) (first_donated one other session) led
 
   within : IsBelow other.caps (session_cell all one session).caps_below → HasRam (session_cell all one session) other.ram → there ≡ (here || nat_lt other.caps (session_cell all one session).caps_from)

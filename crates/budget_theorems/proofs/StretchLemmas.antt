@@ -2,13 +2,13 @@
 use Rattle.std.proofs.lemmas.Bool.Decides.{nat_tests}
 use Rattle.std.proofs.Common.{arith, ◌≡◌, ℕ, zero, suc, ◌-◌, ◌<◌, ◌≤◌, ◌&&◌, Bool, true, false, List, [], ◌∷◌, nat_lt, nat_eq, refl, sym, ap, ◌∙◌, true≢false, ⊎_elim, ◌||◌}
 use Rattle.std.proofs.lemmas.Bool.{cases_lt, or_left}
-use Rattle.std.specs.Prelude.{if◌then◌else◌, Option, Some, None, max, not}
+use Rattle.std.specs.Prelude.{if◌then◌else◌, max, not}
 use Rattle.own_model.specs.Amounts.{Amounts}
 use Rattle.own_model.specs.Call.{Call}
 use Rattle.own_model.specs.OwnState.{OwnState}
 use Rattle.own_model.specs.OwnStep.{own_step}
 use Rattle.own_model.specs.StartList.{Entry}
-use Rattle.budget_theorems.proofs.CellLemmas.{in_own_cell}
+use Rattle.budget_theorems.proofs.CellLemmas.{in_own_cell, starts_below}
 use Rattle.budget_theorems.proofs.RunLemmas.{want_within, want_below}
 use Rattle.budget_theorems.proofs.SessionRunLemmas.{session_within, session_below}
 use Rattle.budget_theorems.specs.Need.{Need, Cell, IsBelow, HasRam, cell_by, covers_ram, greatest_choice, budgeted, needs}
@@ -16,11 +16,6 @@ use Rattle.budget_theorems.specs.Request.{donating}
 use Rattle.budget_theorems.specs.RequestTheorems.{session_needs, session_is_short}
 use Rattle.budget_theorems.specs.Intervals.{IntervalOfBudgets, covers, is_covered, interval_of, stretches, up_to_shortfall, needs_to_shortfall, AccountIntervalsAreExact, EndingIntervalsAreExact, SessionStretchesAreExact}
 use Rattle.budget_theorems.specs.Shortfall.{wants, run_is_short}
-
--- what is below a number is below what it is below
-below_through : (x y : ℕ) (end : Option ℕ) → x ≤ y → IsBelow y end → IsBelow x end
-below_through x y None within below = tt
-below_through x y (Some end) within below = omega (arith, within, below)
 
 -- a choice that passed is no more than a cell's beginning, and than its budget
 choice_by : (c p : Bool) (n g from top : ℕ) → (p ≡ true → n ≤ top) → (g ≤ from) × (g ≤ top) →
@@ -73,7 +68,7 @@ module _ (each : Amounts → List Need) (want : Amounts → Bool) (within : (one
     choice = greatest_choice one (each one)
 
     few_there : IsBelow budget.caps c.caps_below
-    few_there = below_through budget.caps caps c.caps_below few (in_own_cell one (each one)).caps.below
+    few_there = starts_below budget.caps caps c.caps_below few (in_own_cell one (each one)).caps.below
 
     -- from the choice on a budget is in want below the cell, where the run is, and with fewer capabilities than it needed
     want_there : budget.ram ≤ top → choice ≤ budget.ram → want budget ≡ (nat_lt budget.ram c.ram_from || (want one || nat_lt budget.caps c.caps_from))
@@ -81,7 +76,7 @@ module _ (each : Amounts → List Need) (want : Amounts → Bool) (within : (one
         ⊎_elim
         (λ less. below one budget few_there less from ∙ sym (or_left (nat_lt budget.ram c.ram_from) (want one || nat_lt budget.caps c.caps_from) (grind (arith, nat_tests, less))))
         (λ more.
-        within one budget few_there (record { enough = more; below = below_through budget.ram top c.ram_below up (in_own_cell one (each one)).ram.below })
+        within one budget few_there (record { enough = more; below = starts_below budget.ram top c.ram_below up (in_own_cell one (each one)).ram.below })
         ∙ sym (or_second (nat_lt budget.ram c.ram_from) (want one || nat_lt budget.caps c.caps_from) (grind (arith, nat_tests, more))))
         (cases_lt budget.ram c.ram_from)
 

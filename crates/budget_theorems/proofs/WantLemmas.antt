@@ -11,8 +11,16 @@ same_or b true enough = absurd (true≢false enough)
 same_or true false enough = refl
 same_or false false enough = refl
 
--- where tests come out alike two runs are in want alike, and where they lead there they do so, or the other run is in want
-module _ (one other : Amounts) (each : List Need) (here there : Bool) (alike : AllByRecursion (ComesOutAlike one other) each → there ≡ here) (decides : AllByRecursion (Leads one other) each → AllByRecursion (ComesOutAlike one other) each ⊎ (there ≡ true)) where
+-- if tests come out alike, two runs are both short of quota, or neither is
+abbrev pub FallShortAlike : Amounts → Amounts → List Need → Bool → Bool → Type 0
+FallShortAlike one other each here there = AllByRecursion (ComesOutAlike one other) each → there ≡ here
+
+-- if tests lead to a first difference, they come out alike, or the other run is short of quota
+abbrev pub AlikeOrShort : Amounts → Amounts → List Need → Bool → Type 0
+AlikeOrShort one other each there =
+    AllByRecursion (Leads one other) each → AllByRecursion (ComesOutAlike one other) each ⊎ (there ≡ true)
+
+module _ (one other : Amounts) (each : List Need) (here there : Bool) (alike : FallShortAlike one other each here there) (decides : AlikeOrShort one other each there) where
   in_or_want : AllByRecursion (Leads one other) each → IsIn (cell_by one each) other ⊎ (there ≡ true)
   in_or_want led = elim (decides led) [ inl same ↦ inl (in_cell_to one other each same) | inr short ↦ inr short ]
 

@@ -35,19 +35,20 @@ impl<'a> Warnings<'a> {
     ghost use Rattle.std.specs.List.{slice_split};
     ghost use Rattle.std.specs.Option.{option_copied};
     ghost use Rattle.line_advice.specs.Advice.{is_newline, scenario_advice};
-    ghost use Rattle.line_advice.specs.Services.{services_of};
+    ghost use Rattle.line_advice.specs.Services.{kinds_of, services_of};
 
-    /// Finds what is probably not intended in the session requests of a scenario's text, by the services of a start list; in those
+    /// Finds what is probably not intended in the session requests of a scenario's text, by the services of a start list and the
+    /// kinds of its servers; in those
     /// of the component `only` alone, if it is some. The error is out of memory.
     pub fn of(
         rt: &HostRuntime,
-        list: &StartList,
+        list: &'a StartList,
         only: Option<&[u8]>,
         scenario: &'a str,
         text: &'a [u8],
     ) -> Result<Warnings<'a>, AllocError>
         ensures { IfOk result (λ warnings.
-            warnings ≡ scenario_advice (services_of list.now.entries) (option_copied only.entry) 1
+            warnings ≡ scenario_advice (services_of list.now.entries) (kinds_of list.now.entries) (option_copied only.entry) 1
             (slice_split is_newline text.now)) }
     {
         let found = advise(rt.alloc(), list, only, text)?;

@@ -15,6 +15,7 @@ mod paths;
 mod policy_verdict;
 mod replacing;
 mod reports;
+mod scenario_reader;
 mod settings;
 mod status;
 mod streams;
@@ -31,15 +32,18 @@ pub use list_fault::{ListFaultMessage, fault_spot, tell_fault};
 pub use machine::{Machine, report_boot_fault};
 pub use machine_choice::MachineChoice;
 pub use paths::{is_policy, is_scenario, machine_path, policy_path};
-pub use policy_verdict::{PolicyDiagnostic, PolicyVerdict, check_policy};
+pub use policy_verdict::{
+    PolicyDiagnostic, PolicyReadFailure, PolicyVerdict, check_policy, policy_text,
+};
 pub use replacing::{replace_file, write_file};
 pub use reports::{
     Spot, error_line, report, report_error, report_write_failure, summarize, summarize_errors,
 };
+pub use scenario_reader::{Printing, Reader, silent_reader, watched_reader};
 pub use settings::{Settings, names_given};
 pub use status::{
     OUT_OF_MEMORY, REFUSED, StopMessage, UNREAD, UNWRITTEN, made_or_status, no_memory,
     print_documents, spot_of, status_of, unread_status,
 };
-pub use streams::{Origin, OutputStream, Reader, Writer, plain_writer, text_of, writer};
+pub use streams::{Origin, OutputStream, Writer, plain_writer, text_of, writer};
 pub use unfolding::{rounds_spot, rounds_token, unfolded};

@@ -1,5 +1,5 @@
 //! The check of a start list against a policy: each line of the policy that the list breaks, with its place.
-ghost use Rattle.std.specs.Prelude.{◌≡◌, ◌++◌, ℕ, List, map, IfOk, IfSome, MatchOption, OnOk};
+ghost use Rattle.std.specs.Prelude.{◌≡◌, ◌++◌, ℕ, List, map, MatchOption, IfErr, IfOk, IfSome, OnOk};
 ghost use Rattle.list_policy.specs.Components.{fault_at};
 ghost use Rattle.list_policy.specs.Demand.{AreBreaches};
 ghost use Rattle.list_policy.specs.Line.{line_at};
@@ -7,13 +7,13 @@ ghost use Rattle.list_policy.specs.Verdict.{AreBrokenAt, IsVerdict, breach_place
 ghost use Rattle.list_policy.specs.declared.breach.Breach.{Breach};
 ghost use Rattle.cli_base.specs.PolicyVerdict.{IsNoPolicy, note_place, verdict_places, verdict_status};
 
-use crate::files::read_list;
+use crate::files::{FileReadMessage, read_list};
 use crate::reports::Spot;
 use crate::status::REFUSED;
 use init_core::StartList;
 use list_policy::{Breach, BreachText, Policy, PolicyFault, PolicyLine, exit_status};
 use std::alloc::{AllocError, Global};
-use std::str;
+use std::{fmt, str};
 
 /// The most bytes of a policy.
 const LONGEST_POLICY: usize = 65_536;
@@ -61,6 +61,52 @@ impl PolicyDiagnostic {
     }
 }
 
+/// The reason for which the text of a policy isn't read, with the policy's path.
+#[derive(Clone, Copy)]
+pub enum PolicyReadFailure<'a> {
+    /// The file can't be read.
+    Unread(FileReadMessage<'a>),
+    /// The file of this path has more than 65536 bytes.
+    TooLong(&'a str),
+    /// The file of this path isn't UTF-8.
+    NoText(&'a str),
+}
+
+impl fmt::Display for PolicyReadFailure<'_> {
+    fn fmt<W: fmt::Write>(&self, f: &mut fmt::Formatter<W>) -> fmt::Result {
+        match self {
+            PolicyReadFailure::Unread(why) => write!(f, "{why}"),
+            PolicyReadFailure::TooLong(path) => {
+                write!(f, "{path} has more than {LONGEST_POLICY} bytes")
+            }
+            PolicyReadFailure::NoText(path) => write!(f, "{path} is not UTF-8"),
+        }
+    }
+}
+
+/// Reads the text of the policy of a path. Errors in order: the file can't be read; it has more than 65536 bytes; it isn't UTF-8.
+pub fn policy_text<'a>(rt: &HostRuntime, path: &'a str) -> Result<Vec<u8>, PolicyReadFailure<'a>> {
+    match read_list(rt, path) {
+        Ok(bytes) => text_of(path, bytes),
+        Err(why) => Err(PolicyReadFailure::Unread(why.about(path))),
+    }
+}
+
+// Returns the bytes of a policy's file if they are a text. Errors in order: there are more than 65536; they aren't UTF-8.
+#[tactic(auto, using(crate::proofs::VerdictLemmas::too_long, crate::proofs::VerdictLemmas::not_text))]
+fn text_of(path: &str, bytes: Vec<u8>) -> Result<Vec<u8>, PolicyReadFailure<'_>>
+    ensures text { IfOk result (λ text. text.items ≡ bytes.items) }
+    ensures no_text { IfErr result (λ why. IsNoPolicy bytes.items) }
+{
+    if LONGEST_POLICY < bytes.len() {
+        return Err(PolicyReadFailure::TooLong(path));
+    }
+    match str::from_utf8(&bytes) {
+        Ok(_) => Ok(bytes),
+        Err(_) => Err(PolicyReadFailure::NoText(path)),
+    }
+}
+
 /// Checks a start list against the policy of a path. Returns an error if the host is out of memory.
 pub fn check_policy(
     rt: &HostRuntime,
@@ -71,41 +117,16 @@ pub fn check_policy(
         (λ places. (text : List ℕ) × IsVerdict list.now text places)) }
 {
     let alloc = rt.alloc();
-    match read_list(rt, path) {
-        Ok(bytes) => verdict_of(alloc, list, path, &bytes),
-        Err(why) => {
-            let why = why.about(path);
-            Ok(PolicyVerdict::ReadFailure(format!(in alloc; "{why}")?))
-        }
-    }
-}
-
-// Checks a start list against the bytes of a policy, which must be UTF-8 and at most 65536.
-#[tactic(auto, using(crate::proofs::VerdictLemmas::too_long, crate::proofs::VerdictLemmas::not_text))]
-fn verdict_of(
-    alloc: Global,
-    list: &StartList,
-    path: &str,
-    bytes: &[u8],
-) -> Result<PolicyVerdict, AllocError>
-    ensures { IfOk result (λ verdict. MatchOption (verdict_places verdict) (IsNoPolicy bytes.now)
-        (IsVerdict list.now bytes.now)) }
-{
-    if LONGEST_POLICY < bytes.len() {
-        return Ok(PolicyVerdict::ReadFailure(format!(in alloc;
-            "{path} has more than {LONGEST_POLICY} bytes"
-        )?));
-    }
-    match str::from_utf8(bytes) {
-        Ok(_) => text_verdict(alloc, list, bytes),
-        Err(_) => Ok(PolicyVerdict::ReadFailure(format!(in alloc; "{path} is not UTF-8")?)),
+    match policy_text(rt, path) {
+        Ok(text) => verdict_of(alloc, list, &text),
+        Err(why) => Ok(PolicyVerdict::ReadFailure(format!(in alloc; "{why}")?)),
     }
 }
 
 // Checks a start list against the text of a policy.
 #[tactic(auto, using(list_policy::proofs::VerdictLemmas::held_is, list_policy::proofs::VerdictLemmas::faulty_is))]
-fn text_verdict(alloc: Global, list: &StartList, text: &[u8]) -> Result<PolicyVerdict, AllocError>
-    ensures { IfOk result (λ verdict. MatchOption (verdict_places verdict) (IsNoPolicy text.now)
+fn verdict_of(alloc: Global, list: &StartList, text: &[u8]) -> Result<PolicyVerdict, AllocError>
+    ensures { IfOk result (λ verdict. MatchOption (verdict_places verdict) ⊥
         (IsVerdict list.now text.now)) }
 {
     let policy = Policy::read(alloc, list, text)?;

@@ -1,7 +1,8 @@
 //! What a command line sets for each command: the values of names, and the form of diagnostics.
-ghost use Rattle.std.specs.Prelude.{◌≡◌, IfOk, OnOk};
+ghost use Rattle.std.specs.Prelude.{◌≡◌, IfErr, IfOk, OnOk};
 ghost use Rattle.std.specs.Option.{option_copied, unwrap_or};
 ghost use Rattle.line_names.specs.NameTable.{nothing};
+ghost use Rattle.line_steps.specs.RunPosition.{first_position};
 ghost use Rattle.cli_base.specs.Given.{given_by, given_by_all, name_in, value_in};
 
 use crate::reports::{Spot, report_error};
@@ -54,7 +55,9 @@ impl<'a> Settings<'a> {
     }
 
     /// Binds each name to its value. If the host is out of memory, prints that and returns the exit status 1.
-    pub fn known_or_status(self, rt: &HostRuntime) -> Result<NameTable, u8> {
+    pub fn known_or_status(self, rt: &HostRuntime) -> Result<NameTable, u8>
+        ensures { IfErr result (λ status. status ≡ 1) }
+    {
         made_or_status(rt, self.known(rt.alloc()))
     }
 
@@ -63,7 +66,10 @@ impl<'a> Settings<'a> {
         self,
         alloc: Global,
         marks: &'m [RoundMark],
-    ) -> Result<RunPosition<'m>, AllocError> {
+    ) -> Result<RunPosition<'m>, AllocError>
+        ensures { IfOk result (λ start. start
+            ≡ first_position (unwrap_or (option_copied self.entry.known) nothing) marks.now) }
+    {
         RunPosition::new(self.known(alloc)?, marks)
     }
 
@@ -72,7 +78,11 @@ impl<'a> Settings<'a> {
         self,
         rt: &HostRuntime,
         marks: &'m [RoundMark],
-    ) -> Result<RunPosition<'m>, u8> {
+    ) -> Result<RunPosition<'m>, u8>
+        ensures start { IfOk result (λ start. start
+            ≡ first_position (unwrap_or (option_copied self.entry.known) nothing) marks.now) }
+        ensures failed { IfErr result (λ status. status ≡ 1) }
+    {
         made_or_status(rt, self.start(rt.alloc(), marks))
     }
 }

@@ -1,5 +1,8 @@
 //! The streams of a run: what a scenario is read from, and what replies and diagnostics are written to.
-use cli_engine::{Input, Output};
+ghost use Rattle.std.specs.Prelude.{◌≡◌, false};
+
+use cli_engine::Output;
+use run_lines::Sink;
 use std::alloc::Global;
 use std::fs::File;
 use std::io;
@@ -18,6 +21,10 @@ pub enum Origin<'a> {
 }
 
 impl Read for Origin<'_> {
+    ghost use Rattle.cli_base.specs.Origins.{origin_bytes};
+
+    ghost remaining = { origin_bytes };
+
     fn read(&mut self, buffer: &mut [u8]) -> io::Result<usize> {
         match self {
             Origin::Typed(input) => input.read(buffer),
@@ -70,14 +77,13 @@ impl OutputStream<'_> {
     }
 }
 
-/// The reader of a scenario's lines.
-pub type Reader<'a> = Input<Origin<'a>>;
-
 /// The writer of lines to their destination, with or without colours.
 pub type Writer<'a> = ColorSink<Output<OutputStream<'a>>>;
 
 /// Returns a writer to a destination whose lines have no colours.
-pub fn plain_writer<'a>(rt: &HostRuntime, place: OutputStream<'a>) -> Writer<'a> {
+pub fn plain_writer<'a>(rt: &HostRuntime, place: OutputStream<'a>) -> Writer<'a>
+    ensures { ⟦<Writer<'a> as Sink>⟧.has_failed result ≡ false }
+{
     ColorSink::plain(rt.alloc(), Output::new(place))
 }
 

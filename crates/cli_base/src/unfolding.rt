@@ -1,4 +1,6 @@
 //! Scenarios with their rounds unfolded.
+ghost use Rattle.std.specs.Prelude.{◌≡◌, ◌⊎◌, IfErr};
+
 use crate::lines::LineStarts;
 use crate::reports::{Spot, report_error, summarize_errors};
 use crate::settings::Settings;
@@ -18,7 +20,9 @@ pub fn unfolded<'a>(
     scenario: &str,
     text: &'a [u8],
     settings: Settings<'_>,
-) -> Result<UnfoldedText<'a>, u8> {
+) -> Result<UnfoldedText<'a>, u8>
+    ensures { IfErr result (λ status. (status ≡ 1) ⊎ (status ≡ 3)) }
+{
     let known = settings.known_or_status(rt)?;
     match unfold(rt.alloc(), text, known) {
         Ok(unfolded) => Ok(unfolded),

@@ -1,7 +1,8 @@
 //! The command `least`: the sufficient budgets of a scenario's accounts.
 ghost use Rattle.std.specs.Prelude.{◌≡◌, if◌then◌else◌, length, nat_lt};
+ghost use Rattle.budget_search.specs.declared.budget_intervals.BudgetChoice.TheVariants.{Minimum, Safe};
 
-use budget_least::{BudgetQuery, BudgetReport, UnmeasuredLine};
+use budget_least::{BudgetChoice, BudgetQuery, BudgetReport, UnmeasuredLine};
 use cli_base::{
     Machine, MachineChoice, Settings, Spot, UNWRITTEN, print_documents, report_boot_fault,
     report_error, scenario_text, status_of, summarize_errors, unfolded, unread_status,
@@ -21,9 +22,9 @@ enum BudgetFormat {
     Values,
     /// As a document of JSON.
     Documents,
-    /// As the start list with the minimum budgets.
+    /// As the start list with its budgets in place.
     List,
-    /// As the scenario with the minimum donations.
+    /// As the scenario with its donations in place.
     Scenario,
 }
 
@@ -41,6 +42,17 @@ impl BudgetFormat {
         } else {
             BudgetFormat::Text
         }
+    }
+}
+
+// Returns which of the sufficient budgets a command line asks for.
+fn choice_asked(asked: &LeastOptions<'_>) -> BudgetChoice
+    ensures { result ≡ (if asked.now.safe then Safe else Minimum) }
+{
+    if asked.safe {
+        BudgetChoice::Safe
+    } else {
+        BudgetChoice::Minimum
     }
 }
 
@@ -84,6 +96,7 @@ fn least_on(
     let question = BudgetQuery {
         list: machine.list(),
         scenario: lines.bytes(),
+        choice: choice_asked(asked),
         as_donated: asked.as_donated,
     };
     match BudgetReport::of(rt.alloc(), question, start) {
@@ -139,23 +152,23 @@ fn tell(
         }
         BudgetFormat::Documents => print_documents(rt, report.documents(rt.alloc())),
         BudgetFormat::List => match report.start_list(rt.alloc(), machine) {
-            Ok(text) => status_of(rt, println!(rt; "{text}")),
-            Err(fault) => tell_fault_of_run(rt, &fault),
+            Ok(text) => status_of(rt, io::writer(rt).write_all(text.as_slice())),
+            Err(fault) => tell_fault(rt, "the list with these budgets", &fault),
         },
         BudgetFormat::Scenario => match report.scenario(rt.alloc(), scenario) {
             Ok(text) => status_of(rt, io::writer(rt).write_all(text.as_slice())),
-            Err(fault) => tell_fault_of_run(rt, &fault),
+            Err(fault) => tell_fault(rt, "run", &fault),
         },
     }
 }
 
-// Prints a fault of the run, and returns the exit status.
-fn tell_fault_of_run(rt: &HostRuntime, fault: &BootFault) -> u8 {
+// Prints a fault of what has this name, and returns the exit status.
+fn tell_fault(rt: &HostRuntime, name: &str, fault: &BootFault) -> u8 {
     report_error(
         rt,
         DiagnosticForm::Text,
         Spot::nowhere(),
-        &format_args!("run: {fault}"),
+        &format_args!("{name}: {fault}"),
     );
     UNWRITTEN
 }

@@ -8,6 +8,10 @@
 mod check;
 mod check_documents;
 mod diff;
+mod diff_files;
+mod diff_policy;
+mod diff_runs;
+mod diff_text;
 mod reach_command;
 mod review;
 mod route;

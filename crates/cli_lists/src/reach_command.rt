@@ -122,15 +122,15 @@ fn reach_text(
 }
 
 // Adds the cells of a table.
-fn add_cells<'a>(
+fn add_cells(
     alloc: Global,
     listing: &mut Listing,
-    list: &'a StartList,
-    table: &'a ReachTable<'a>,
+    list: &StartList,
+    table: &ReachTable<'_>,
 ) -> Result<(), AllocError> {
     for cell in table.cells() {
         let labels = label_documents(alloc, &cell.labels)?;
-        add_cell(listing, list, cell, &labels)?;
+        add_cell(listing, list, cell, cell.service, &labels)?;
     }
     Ok(())
 }
@@ -139,7 +139,8 @@ fn add_cells<'a>(
 fn add_cell<'a>(
     listing: &mut Listing,
     list: &'a StartList,
-    cell: &'a ReachCell,
+    cell: &'a ReachCell<'_>,
+    service: &'a str,
     labels: &'a ObjectList,
 ) -> Result<(), AllocError> {
     let entries = list.entries();
@@ -151,7 +152,7 @@ fn add_cell<'a>(
         };
         listing.add(&[
             ("from", JsonField::Text(client.path())),
-            ("service", JsonField::Word(cell.service)),
+            ("service", JsonField::Text(service.as_bytes())),
             ("to", JsonField::Text(server.path())),
             ("reach", JsonField::Word(reach)),
             ("label", label),
@@ -163,7 +164,7 @@ fn add_cell<'a>(
 }
 
 // Returns one of the shortest labels of a cell, if there is a label.
-fn witness_of(cell: &ReachCell) -> JsonField<'_> {
+fn witness_of<'a>(cell: &'a ReachCell<'_>) -> JsonField<'a> {
     match cell.witness() {
         Some(label) => JsonField::Text(label),
         None => JsonField::Nothing,

@@ -138,14 +138,16 @@ route =
 abbrev pub test : Shape
 test =
     with_rules (codes "test")
-    (option_rule (codes "machine") ∷ option_rule (codes "junit") ∷ flag_rule (codes "strict") ∷ flag_rule (codes "coverage") ∷ flag_rule (codes "json")
+    (option_rule (codes "machine") ∷ option_rule (codes "junit") ∷ options_rule (codes "filter") ∷ flag_rule (codes "strict")
+    ∷ flag_rule (codes "coverage") ∷ flag_rule (codes "coverage-calls") ∷ option_rule (codes "threshold") ∷ flag_rule (codes "json")
     ∷ set ∷ option_rule (codes "color") ∷ words_rule (codes "path") ∷ [])
 
 -- the command that compares two start lists
 abbrev pub diff : Shape
 diff =
     with_rules (codes "diff")
-    (flag_rule (codes "json") ∷ file_rule (codes "before") ∷ file_rule (codes "after") ∷ word_rule (codes "scenario") ∷ [])
+    (flag_rule (codes "json") ∷ option_rule (codes "policy") ∷ option_rule (codes "scenario-after") ∷ set ∷ file_rule (codes "before") ∷ file_rule (codes "after")
+    ∷ word_rule (codes "scenario") ∷ [])
 
 -- the command that prints a page of help
 abbrev pub help : Shape
@@ -164,7 +166,7 @@ abbrev pub least : Shape
 least =
     with_rules (codes "least")
     (option_rule (codes "machine") ∷ flag_rule (codes "as-donated") ∷ flag_rule (codes "csv") ∷ flag_rule (codes "json")
-    ∷ flag_rule (codes "list") ∷ flag_rule (codes "scenario") ∷ set ∷ file_rule (codes "played") ∷ [])
+    ∷ flag_rule (codes "list") ∷ flag_rule (codes "scenario") ∷ flag_rule (codes "safe") ∷ set ∷ file_rule (codes "played") ∷ [])
 
 -- the program itself
 abbrev pub program : App
@@ -254,17 +256,23 @@ Asks (command.Least asked) name rows = (name ≡ codes "least")
     × (asked.json ≡ is_set (codes "json") rows)
     × (asked.list ≡ is_set (codes "list") rows)
     × (asked.donations ≡ is_set (codes "scenario") rows)
+    × (asked.safe ≡ is_set (codes "safe") rows)
     × (asked.scenario.now ≡ first_or (codes "-") (codes "played") rows)
 Asks (command.Diff asked) name rows = (name ≡ codes "diff")
     × (asked.json ≡ is_set (codes "json") rows)
     × (asked.before.now ≡ first_or [] (codes "before") rows)
     × (asked.after.now ≡ first_or [] (codes "after") rows)
     × (option_map (λ t. t.now) asked.scenario ≡ first_of (codes "scenario") rows)
+    × (option_map (λ t. t.now) asked.scenario_after ≡ first_of (codes "scenario-after") rows)
+    × (option_map (λ t. t.now) asked.policy ≡ first_of (codes "policy") rows)
 Asks (command.Test asked) name rows = (name ≡ codes "test")
     × (option_map (λ t. t.now) asked.machine ≡ first_of (codes "machine") rows)
     × (option_map (λ t. t.now) asked.junit ≡ first_of (codes "junit") rows)
+    × (map (λ t. t.now) asked.filters.items ≡ unwrap_or (all_of (codes "filter") rows) [])
     × (asked.strict ≡ is_set (codes "strict") rows)
     × (asked.coverage ≡ is_set (codes "coverage") rows)
+    × (asked.coverage_calls ≡ is_set (codes "coverage-calls") rows)
+    × (option_map (λ t. t.now) asked.threshold ≡ first_of (codes "threshold") rows)
     × (asked.json ≡ is_set (codes "json") rows)
     × IsColor asked.color (first_or (codes "auto") (codes "color") rows)
     × (map (λ t. t.now) asked.paths.items ≡ unwrap_or (all_of (codes "path") rows) [])

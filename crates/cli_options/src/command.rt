@@ -189,10 +189,12 @@ pub struct LeastOptions<'a> {
     pub csv: bool,
     /// Whether a document of JSON is written in place of a text.
     pub json: bool,
-    /// Whether the start list with the minimum budgets is written.
+    /// Whether the start list with the budgets in place is written.
     pub list: bool,
-    /// Whether the scenario with the minimum donations is written.
+    /// Whether the scenario with the donations in place is written.
     pub donations: bool,
+    /// Whether the safe budget of each account is written in place of the minimum.
+    pub safe: bool,
     /// The path of the scenario.
     pub scenario: &'a str,
 }
@@ -225,6 +227,10 @@ pub struct DiffOptions<'a> {
     pub after: &'a str,
     /// The path of a scenario whose replies are compared, if one is.
     pub scenario: Option<&'a str>,
+    /// The path of the scenario that is run on the list after, or none if `scenario` is.
+    pub scenario_after: Option<&'a str>,
+    /// The path of a policy whose breaches are compared, if one is.
+    pub policy: Option<&'a str>,
 }
 
 /// The options of `test`.
@@ -234,10 +240,16 @@ pub struct TestOptions<'a> {
     pub machine: Option<&'a str>,
     /// The path of the JUnit document of all results, or none.
     pub junit: Option<&'a str>,
+    /// The texts of which the path of a test has one, or nothing for all tests.
+    pub filters: Vec<&'a str>,
     /// Whether a warning fails its scenario.
     pub strict: bool,
     /// Whether the coverage of the scenarios is printed.
     pub coverage: bool,
+    /// Whether the coverage has refusals and errors too, and is printed.
+    pub coverage_calls: bool,
+    /// The percentage of rules and session requests that scenarios must cover, as text, or none.
+    pub threshold: Option<&'a str>,
     /// Whether the coverage is printed as a document of JSON, in place of all lines.
     pub json: bool,
     /// The condition under which lines are coloured.
@@ -335,8 +347,11 @@ impl<'a> Command<'a> {
         Ok(Command::Test(TestOptions {
             machine: found.get_str("machine"),
             junit: found.get_str("junit"),
+            filters: words(alloc, found, "filter")?,
             strict: is_set(found, "strict"),
             coverage: is_set(found, "coverage"),
+            coverage_calls: is_set(found, "coverage-calls"),
+            threshold: found.get_str("threshold"),
             json: is_set(found, "json"),
             color: colored(found),
             paths: words(alloc, found, "path")?,
@@ -479,6 +494,7 @@ impl<'a> Command<'a> {
             json: is_set(found, "json"),
             list: is_set(found, "list"),
             donations: is_set(found, "scenario"),
+            safe: is_set(found, "safe"),
             scenario: path(found, "played"),
         })
     }
@@ -513,6 +529,8 @@ impl<'a> Command<'a> {
             before: word(found, "before"),
             after: word(found, "after"),
             scenario: found.get_str("scenario"),
+            scenario_after: found.get_str("scenario-after"),
+            policy: found.get_str("policy"),
         })
     }
 }

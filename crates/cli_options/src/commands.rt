@@ -145,6 +145,15 @@ pub fn alone_usage_error(alloc: Global) -> Result<Error, Error> {
     )
 }
 
+/// Returns the error of `diff` with a scenario for the list after alone.
+pub fn diff_usage_error(alloc: Global) -> Result<Error, Error> {
+    refused(
+        alloc,
+        ErrorKind::MissingRequiredArgument,
+        "'nethrywel diff' takes --scenario-after only together with SCENARIO",
+    )
+}
+
 /// Returns the error of a `--color` that isn't auto, always or never.
 pub fn color_value_error(alloc: Global) -> Result<Error, Error> {
     refused(

@@ -29,8 +29,8 @@ Exit status:
   1    a failed read or write, too many lines, or no memory during a run
   2    a refused command line, file or start list; with --strict also a finding
   3    a reply that isn't as expected, a line that is no call, a failed test, a
-       broken policy, a denied request, or an unknown component; with --strict
-       also a warning about a line
+       broken policy, coverage below a threshold, a denied request, or an unknown
+       component; with --strict also a warning about a line
   4    `diff` found a difference
   141  the reader of the output closed it
 docs/reference/ has the formats of scenarios, start lists, policies and output.";
@@ -82,6 +82,13 @@ Requests of a File_system session:
   PUT F O B LEN        Write LEN bytes at B of the buffer at offset O of the file
   GET F O B LEN        Read up to LEN bytes at offset O into B of the buffer
 HEX is hexadecimal digits, or \"text\" as the last argument of WRITE.
+Requests of a session of a server that declares its service and its kinds:
+  MAKE KIND F          Create an object of a kind, with 0 units
+  RESIZE F N           Give the object N units
+  DROP F               Remove the object
+  COUNT, COUNT KIND    Return the number of objects, or of those of a kind
+  NAME I               Return kind, name and units of object I, from 0
+  STAT, BUFFER N, UNBUFFER   as of a File_system session
 
 Expected replies:
   granted              any reply except a refusal and ERR ..
@@ -136,7 +143,7 @@ pub(crate) const ALONE: &str =
 pub(crate) const TEST: &str = "Run scenarios as tests and report the results (TAP 13)";
 
 pub(crate) const DIFF: &str =
-    "Compare two start lists: entries, budgets, who reaches whom, and replies";
+    "Compare two start lists: entries, budgets, who reaches whom, breaches of a policy, and replies";
 
 pub(crate) const LEAST: &str = "Compute the sufficient and the minimum budgets of a scenario";
 
@@ -149,6 +156,9 @@ pub(crate) const AS_DONATED: &str = "Keep the donations of the scenario";
 pub(crate) const LEAST_LIST: &str = "Write the start list with the minimum budgets";
 
 pub(crate) const LEAST_SCENARIO: &str = "Write the scenario with the minimum donations";
+
+pub(crate) const SAFE: &str =
+    "Write safe budgets and donations, from which on all suffice, in place of the minimum";
 
 pub(crate) const SCENARIO: &str = "The path of a scenario; - is standard input";
 
@@ -186,7 +196,7 @@ pub(crate) const TO: &str = "Show only servers of this path, with each route";
 
 pub(crate) const CLIENT: &str = "The path of the script that requests the session";
 
-pub(crate) const SERVICE: &str = "The service: LOG or File_system";
+pub(crate) const SERVICE: &str = "The service: LOG, File_system or a declared one";
 
 pub(crate) const ARGS: &str = "The session's arguments; without them the label is empty";
 
@@ -206,6 +216,12 @@ pub(crate) const AFTER: &str = "The start list after the change, in JSON";
 
 pub(crate) const COMPARED: &str = "A scenario whose replies are compared line by line";
 
+pub(crate) const COMPARED_POLICY: &str =
+    "A policy for AFTER; its breaches that BEFORE or AFTER alone has are reported";
+
+pub(crate) const SCENARIO_AFTER: &str =
+    "Run the scenario FILE on AFTER, and SCENARIO on BEFORE alone";
+
 pub(crate) const PATHS: &str =
     "A scenario, a policy, or a folder with these: NAME.scenario runs on NAME.json if that exists, and NAME.json is checked against NAME.policy";
 
@@ -213,6 +229,14 @@ pub(crate) const OTHER_MACHINE: &str =
     "A start list in JSON for scenarios without their own, instead of the built-in machine";
 
 pub(crate) const COVERAGE: &str =
-    "Report which rules decide a request, and which refusals and errors occur";
+    "Report which rules decide a session request, and which script requests which service";
+
+pub(crate) const COVERAGE_CALLS: &str = "Report the coverage, and which refusals and errors occur";
+
+pub(crate) const THRESHOLD: &str =
+    "Report the coverage, and exit with status 3 if less than N percent of the rules and session requests are covered";
+
+pub(crate) const FILTER: &str =
+    "Run only the tests with TEXT in their paths; repeatable, and then one of the texts is enough";
 
 pub(crate) const JUNIT: &str = "Write the results to FILE as JUnit's XML";

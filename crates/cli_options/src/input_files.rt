@@ -1,9 +1,9 @@
 //! The files that a command reads, and whether two of them are standard input.
-ghost use Rattle.std.specs.Prelude.{◌≡◌, ◌∷◌, ◌++◌, []};
+ghost use Rattle.std.specs.Prelude.{◌≡◌, ◌≤◌, ◌∷◌, ◌++◌, []};
 ghost use Rattle.std.specs.Option.{option_copied};
-ghost use Rattle.cli_options.specs.Inputs.{given, is_given_input, is_input, is_repeated, reads_twice};
+ghost use Rattle.cli_options.specs.Inputs.{diff_files, given, inputs, is_given_input, is_input, is_repeated, reads_twice};
 
-use crate::command::Command;
+use crate::command::{Command, DiffOptions};
 
 /// The path that denotes standard input.
 const STANDARD_INPUT: &str = "-";
@@ -24,7 +24,7 @@ impl Command<'_> {
                 Some(scenario) => are_both(asked.machine, scenario),
                 None => are_both(asked.machine, asked.name),
             },
-            Command::Diff(asked) => are_two(asked.scenario, asked.before, asked.after),
+            Command::Diff(asked) => diff_reads_twice(asked),
             Command::Tree(_) | Command::Reach(_) | Command::Route(_) => false,
             Command::Test(_) | Command::Help(_) => false,
         }
@@ -38,15 +38,22 @@ fn are_both(first: Option<&str>, second: &str) -> bool
     is_given_input(first) && is_input(second)
 }
 
-// Returns whether two of three files, of which the first may not be given, are standard input.
-fn are_two(first: Option<&str>, second: &str, third: &str) -> bool
-    ensures { result ≡ is_repeated (given (option_copied first.entry) ++ second.now ∷ third.now ∷ []) }
+// Returns whether two of the files that `diff` reads are standard input.
+#[tactic(auto, using(crate::proofs::InputLemmas::counted))]
+fn diff_reads_twice(asked: &DiffOptions<'_>) -> bool
+    ensures { result ≡ is_repeated (diff_files asked.now) }
 {
-    if is_given_input(first) {
-        is_input(second) || is_input(third)
-    } else {
-        is_input(second) && is_input(third)
-    }
+    let scenarios = inputs(asked.scenario) + inputs(asked.scenario_after);
+    let lists = inputs(Some(asked.before)) + inputs(Some(asked.after));
+    scenarios + inputs(asked.policy) + lists > 1
+}
+
+// Returns the number of files that are standard input, of one that may be given: 0 or 1.
+fn inputs(path: Option<&str>) -> usize
+    ensures count { result ≡ inputs (given (option_copied path.entry)) }
+    ensures most { result ≤ 1 }
+{
+    usize::from(is_given_input(path))
 }
 
 // Returns whether a file is given and is standard input.

@@ -15,5 +15,7 @@ pub use command::{
     LeastOptions, ReachOptions, RecordOptions, RouteOptions, RunOptions, TestOptions, TraceOptions,
     TreeOptions,
 };
-pub use commands::{alone_usage_error, color_value_error, missing_command_error, words_given};
+pub use commands::{
+    alone_usage_error, color_value_error, diff_usage_error, missing_command_error, words_given,
+};
 pub use help::CALLS;

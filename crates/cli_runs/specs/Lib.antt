@@ -1,1 +1,2 @@
 pub mod RunEnd
+pub mod RunStatus

@@ -1,10 +1,15 @@
 //! The command `accounts`: the accounts after a scenario.
+ghost use Rattle.std.specs.Prelude.{◌≡◌, IfNone, IfOk};
+ghost use Rattle.cli_runs.specs.RunStatus.{HasStatus, start_of};
+ghost use Rattle.cli_runs.specs.declared.view.AccountsForm.{AccountsForm as AccountsForms};
+ghost use Rattle.cli_runs.specs.declared.view.RunView.TheVariants.{Accounts};
+
 use crate::run_end::RunEnd;
 use crate::run_request::{RunRequest, play};
 use crate::view::{AccountsForm, RowsForm, RunView};
 use cli_base::{OutputStream, Reader, Settings, Writer, plain_writer};
 use cli_options::AccountsOptions;
-use run_lines::LineRunFault;
+use run_lines::{LineRunFault, Source};
 use run_scenario::ScenarioInput;
 use std::alloc::AllocError;
 use std::io;
@@ -37,13 +42,16 @@ fn form_asked(asked: &AccountsOptions<'_>) -> AccountsForm {
 }
 
 /// Runs a scenario, and prints the rows of its accounts in a form if no fault stops the run.
-pub(crate) fn print_accounts(
+pub(crate) fn print_accounts<'r>(
     rt: &HostRuntime,
     play: ScenarioInput<'_>,
     form: RowsForm,
-    reader: &mut Reader<'_>,
+    reader: &mut Reader<'r>,
     complaints: &mut Writer<'_>,
-) -> RunEnd {
+) -> RunEnd
+    ensures status { (view : AccountsForms) → IfOk result.ended (HasStatus (Accounts view)
+        (start_of (Accounts view) play.entry) (⟦<Reader<'r> as Source>⟧.remaining reader.old)) }
+{
     let mut nowhere = plain_writer(rt, OutputStream::Dropped);
     match accounts(rt.alloc(), play, reader, &mut nowhere, complaints) {
         Ok(list) => print_list(rt, list, form),
@@ -55,7 +63,9 @@ pub(crate) fn print_accounts(
 }
 
 // Prints an account list, unless a fault stopped the run.
-fn print_list(rt: &HostRuntime, list: AccountList, form: RowsForm) -> RunEnd {
+fn print_list(rt: &HostRuntime, list: AccountList, form: RowsForm) -> RunEnd
+    ensures { IfOk result.ended (λ ending. IfNone ending.fault (ending ≡ list.ending)) }
+{
     let AccountList { mut ending, rows } = list;
     let mut unread = false;
     if ending.fault.is_none() {

@@ -5,12 +5,11 @@ use crate::run_end::RunEnd;
 use crate::run_request::{NONE_EARLIER, RunRequest, play};
 use crate::view::RunView;
 use cli_base::{
-    Machine, MachineChoice, Origin, OutputStream, REFUSED, Settings, UNWRITTEN, Writer, no_memory,
-    plain_writer, report_boot_fault, scenario_text, status_of, text_of, unfolded,
+    Machine, MachineChoice, Origin, OutputStream, Printing, REFUSED, Settings, UNWRITTEN, Writer,
+    no_memory, plain_writer, report_boot_fault, scenario_text, status_of, text_of, unfolded,
+    watched_reader,
 };
-use cli_engine::Input;
 use cli_options::AloneOptions;
-use init_core::Binary;
 use line_rounds::UnfoldedText;
 use run_scenario::ScenarioInput;
 use std::io;
@@ -97,7 +96,7 @@ fn tell_each<'a>(
     let mut status = 0;
     let mut complained = false;
     for entry in machine.list().entries() {
-        if entry.binary() == Binary::Script {
+        if entry.is_script() {
             let one = One {
                 machine,
                 name: entry.path(),
@@ -163,7 +162,8 @@ impl<'a> One<'a> {
             scenario: all.settings.subject(all.scenario),
             start,
         };
-        let mut reader = Input::new(Origin::Held(self.lines.bytes()));
+        let origin = Origin::Held(self.lines.bytes());
+        let mut reader = watched_reader(rt, origin, Printing::Afterwards);
         let mut writer = writer_unless(rt, all.summary, OutputStream::text(rt));
         let complained = OutputStream::Complained(rt.stderr());
         let mut complaints = writer_unless(rt, self.silent, complained);

@@ -1,5 +1,7 @@
 //! A scenario's run on a machine, over files and the standard streams.
-ghost use Rattle.std.specs.Prelude.{◌≡◌, ◌==◌, if◌then◌else◌};
+ghost use Rattle.std.specs.Prelude.{◌≡◌, ◌==◌, if◌then◌else◌, IfOk};
+ghost use Rattle.cli_base.specs.Origins.{origin_bytes};
+ghost use Rattle.cli_runs.specs.RunStatus.{EndsPlay, HasStatus, start_by, start_of};
 
 use crate::accounts::print_accounts;
 use crate::run_end::RunEnd;
@@ -7,9 +9,8 @@ use crate::view::{AccountsForm, RunView, view};
 use cli_base::{
     Machine, MachineChoice, Origin, OutputStream, REFUSED, ReadFailure, STANDARD_INPUT, Settings,
     Spot, Warnings, made_or_status, read_whole, report_boot_fault, report_error, unfolded,
-    warned_status, writer,
+    warned_status, watched_reader, writer,
 };
-use cli_engine::Input;
 use init_core::StartList;
 use line_names::RoundMark;
 use run_scenario::{ScenarioInput, near_component};
@@ -186,13 +187,17 @@ fn play_from(
     scene: RunRequest<'_>,
     origin: Origin<'_>,
     marks: &[RoundMark],
-) -> u8 {
+) -> u8
+    ensures { EndsPlay machine.now scene.entry.viewing
+        (start_by scene.entry.settings marks.now) (origin_bytes origin.entry) result }
+{
+    let list = machine.list();
     let start = match scene.settings.start_or_status(rt, marks) {
         Ok(start) => start,
         Err(status) => return status,
     };
     let play = ScenarioInput {
-        list: machine.list(),
+        list,
         scenario: scene.settings.subject(scene.scenario),
         start,
     };
@@ -201,10 +206,10 @@ fn play_from(
         report_boot_fault(rt, scene.settings.form, machine, fault);
     }
     let form = scene.settings.form;
-    match scene.viewing {
-        RunView::Alone(_) => played.tell_fault(rt, form, scene.scenario),
-        _ => played.tell(rt, form, scene.scenario, scene.earlier),
+    if let RunView::Alone(_) = scene.viewing {
+        return played.tell_fault(rt, form, scene.scenario);
     }
+    played.tell(rt, form, scene.scenario, scene.earlier)
 }
 
 // Runs the lines of a source over the standard streams.
@@ -213,9 +218,12 @@ fn played(
     play: ScenarioInput<'_>,
     viewing: RunView<'_>,
     origin: Origin<'_>,
-) -> RunEnd {
+) -> RunEnd
+    ensures status { IfOk result.ended
+        (HasStatus viewing.entry (start_of viewing.entry play.entry) (origin_bytes origin.entry)) }
+{
     let coloring = viewing.coloring();
-    let mut reader = Input::new(origin);
+    let mut reader = watched_reader(rt, origin, viewing.printing());
     let stderr = OutputStream::Complained(rt.stderr());
     let mut complaints = writer(rt, stderr, Lines::Complaints, coloring.err);
     if let RunView::Accounts(AccountsForm::Rows(form)) = viewing {
@@ -224,7 +232,7 @@ fn played(
     let stdout = OutputStream::Printed(io::writer(rt));
     let mut replies = writer(rt, stdout, Lines::Replies, coloring.out);
     let ended = view(
-        rt,
+        rt.alloc(),
         play,
         viewing,
         &mut reader,

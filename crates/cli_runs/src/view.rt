@@ -1,9 +1,14 @@
 //! The part of a run that a command prints.
-use cli_base::{Coloring, Reader, Writer};
+ghost use Rattle.std.specs.Prelude.{◌≡◌, ◌==◌, ◌||◌, is_some, nat_lt, IfOk};
+ghost use Rattle.cli_runs.specs.RunStatus.{HasStatus, start_of};
+
+use cli_base::{Coloring, Printing};
 use init_core::BootFault;
+use run_lines::{Sink, Source};
 use run_scenario::{ScenarioEnd, ScenarioInput};
+use std::alloc::Global;
 use view_accounts::accounts;
-use view_runs::{CsvRows, JsonRows, TranscriptOptions, alone, run, trace};
+use view_runs::{AloneComparison, CsvRows, JsonRows, TranscriptOptions, alone, run, trace};
 
 /// The part of a run that a command prints.
 #[derive(Clone, Copy)]
@@ -40,6 +45,14 @@ pub(crate) enum RowsForm {
 }
 
 impl<'a> RunView<'a> {
+    /// Returns when the part is printed: the accounts after the run, and each other part during it.
+    pub(crate) fn printing(self) -> Printing {
+        match self {
+            RunView::Accounts(_) => Printing::Afterwards,
+            _ => Printing::Meanwhile,
+        }
+    }
+
     /// Returns which streams are coloured: only a transcript has colours.
     pub(crate) fn coloring(self) -> Coloring {
         match self {
@@ -50,16 +63,19 @@ impl<'a> RunView<'a> {
 }
 
 /// Runs a scenario, and writes this part of it: a table as comma-separated values or as documents of JSON, and the accounts as
-/// lines. Returns the fault of the boot if there is one.
-pub(crate) fn view(
-    rt: &HostRuntime,
+/// lines. Returns how the run ended: with the errors of its own lines, and one more if a component is asked for that has no line.
+/// The error is the fault of the boot.
+pub(crate) fn view<S: Source, K: Sink, E: Sink>(
+    alloc: Global,
     play: ScenarioInput<'_>,
     viewing: RunView<'_>,
-    reader: &mut Reader<'_>,
-    writer: &mut Writer<'_>,
-    complaints: &mut Writer<'_>,
-) -> Result<ScenarioEnd, BootFault> {
-    let alloc = rt.alloc();
+    reader: &mut S,
+    writer: &mut K,
+    complaints: &mut E,
+) -> Result<ScenarioEnd, BootFault>
+    ensures status { IfOk result (λ ending. HasStatus viewing.entry
+        (start_of viewing.entry play.entry) (S.remaining reader.old) ending) }
+{
     match viewing {
         RunView::Run(showing, _) => run(alloc, play, showing, reader, writer, complaints),
         RunView::Trace { json: false } => {
@@ -71,12 +87,20 @@ pub(crate) fn view(
         }
         RunView::Accounts(_) => { Ok(accounts(alloc, play, reader, writer, complaints)?.ending) }
         RunView::Alone(name) => {
-            let compared = alone(alloc, play, name, reader, writer, complaints)?;
-            Ok(if compared.lines == 0 || compared.difference.is_some() {
-                compared.ending.complained()
-            } else {
-                compared.ending
-            })
+            Ok(comparison_end(alone(alloc, play, name, reader, writer, complaints)?))
         }
+    }
+}
+
+// Returns how a comparison ended: with one more error if the component has no line or another reply alone.
+fn comparison_end(compared: AloneComparison) -> ScenarioEnd
+    ensures fault { result.fault ≡ compared.ending.fault }
+    ensures errors { nat_lt 0 result.complaints ≡ (compared.lines == 0
+        || is_some compared.difference || nat_lt 0 compared.ending.complaints) }
+{
+    if compared.lines == 0 || compared.difference.is_some() {
+        compared.ending.complained()
+    } else {
+        compared.ending
     }
 }

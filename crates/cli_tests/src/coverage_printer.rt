@@ -1,10 +1,12 @@
 //! The coverage of the scenarios that are run as tests.
-use cli_base::Machine;
+use cli_base::{Machine, Spot, report_error};
+use cli_options::TestOptions;
 use run_exchanges::Exchange;
 use std::alloc::AllocError;
 use std::io;
 use std::io::Write;
 use view_coverage::{CoverageReport, cover};
+use view_diagnostics::DiagnosticForm;
 
 /// The name of the machine of scenarios without a start list.
 const BUILT_IN: &str = "built-in machine";
@@ -18,14 +20,24 @@ pub(crate) struct CoveragePrinter {
 }
 
 impl CoveragePrinter {
-    /// Returns the coverage of no scenario yet. If `coverage` isn't set, none is added later.
-    pub(crate) fn new(rt: &HostRuntime, coverage: bool, json: bool) -> CoveragePrinter {
-        let report = if coverage {
-            Some(CoverageReport::new(rt.alloc()))
-        } else {
-            None
-        };
-        CoveragePrinter { report, json }
+    ghost use Rattle.std.specs.Prelude.{◌≡◌, ◌||◌, is_some};
+    ghost use Rattle.cli_tests.specs.Outcome.{is_short_by};
+
+    /// Returns the coverage of no scenario yet. If the options don't ask for coverage, none is added later.
+    pub(crate) fn new(rt: &HostRuntime, asked: &TestOptions<'_>) -> CoveragePrinter
+        ensures { is_some result.report
+            ≡ ((asked.now.coverage || asked.now.coverage_calls) || is_some asked.now.threshold) }
+    {
+        if asked.coverage || asked.coverage_calls || asked.threshold.is_some() {
+            return CoveragePrinter {
+                report: Some(CoverageReport::new(rt.alloc(), asked.coverage_calls)),
+                json: asked.json,
+            };
+        }
+        CoveragePrinter {
+            report: None,
+            json: asked.json,
+        }
     }
 
     /// Returns whether the command line asks for coverage, as text or as a document.
@@ -66,5 +78,32 @@ impl CoveragePrinter {
         }
         let text = format!(in alloc; "{report}")?;
         io::writer(rt).write_all(text.as_bytes())
+    }
+
+    /// Returns whether less is covered than this percentage, and then prints how much on standard error.
+    pub(crate) fn falls_short(
+        &self,
+        rt: &HostRuntime,
+        form: DiagnosticForm,
+        threshold: Option<u8>,
+    ) -> bool
+        ensures { result ≡ is_short_by self.now.report threshold }
+    {
+        let Some(report) = &self.report else {
+            return false;
+        };
+        let Some(percent) = threshold else {
+            return false;
+        };
+        let count = report.count();
+        if !count.falls_short(percent) {
+            return false;
+        }
+        let message = format_args!(
+            "--threshold: expected {percent} percent of the rules and session requests covered, found {} of {}",
+            count.covered, count.all
+        );
+        report_error(rt, form, Spot::nowhere(), &message);
+        true
     }
 }

@@ -3,7 +3,7 @@ use cli_base::{REFUSED, ReadFailure, Spot, is_policy, is_scenario, no_memory, re
 use std::alloc::{AllocError, AllocFailed};
 use std::fs::DirEntry;
 use std::io::ErrorKind;
-use std::{fs, io};
+use std::{fmt, fs, io};
 use view_diagnostics::DiagnosticForm;
 
 /// The most folders that are searched for one path.
@@ -16,6 +16,8 @@ pub(crate) enum SearchFailure<'a> {
     Unreadable(&'a str, io::Error),
     /// Neither this folder nor a folder below it has a scenario or a policy.
     Nothing(&'a str),
+    /// The path of no test has one of these texts.
+    Unselected(&'a [&'a str]),
     /// The host is out of memory.
     NoMemory,
 }
@@ -33,8 +35,12 @@ impl<'a, T: Drop> From<AllocFailed<T>> for SearchFailure<'a> {
 }
 
 impl SearchFailure<'_> {
+    ghost use Rattle.std.specs.Prelude.{◌≡◌, ◌⊎◌};
+
     /// Prints the reason, and returns the exit status: 2, or 1 if the host is out of memory.
-    pub(crate) fn tell(self, rt: &HostRuntime, form: DiagnosticForm) -> u8 {
+    pub(crate) fn tell(self, rt: &HostRuntime, form: DiagnosticForm) -> u8
+        ensures { (result ≡ 1) ⊎ (result ≡ 2) }
+    {
         match self {
             SearchFailure::Unreadable(path, error) => {
                 let unread = ReadFailure::Closed(error);
@@ -46,8 +52,28 @@ impl SearchFailure<'_> {
                 report_error(rt, form, Spot::file(path), &message);
                 REFUSED
             }
+            SearchFailure::Unselected(texts) => {
+                report_error(rt, form, Spot::nowhere(), &UnselectedMessage(texts));
+                REFUSED
+            }
             SearchFailure::NoMemory => no_memory(rt),
         }
+    }
+}
+
+// The message that the paths of the tests have none of these texts.
+#[derive(Clone, Copy)]
+struct UnselectedMessage<'a>(&'a [&'a str]);
+
+impl fmt::Display for UnselectedMessage<'_> {
+    fn fmt<W: fmt::Write>(&self, f: &mut fmt::Formatter<W>) -> fmt::Result {
+        f.write_str("--filter: expected a part of a test's path, found ")?;
+        let mut parted = "";
+        for text in self.0 {
+            write!(f, "{parted}`{text}`")?;
+            parted = ", ";
+        }
+        Ok(())
     }
 }
 

@@ -8,6 +8,7 @@ mod coverage_printer;
 mod file_search;
 mod planned_test;
 mod policy_test;
+mod scenario_test;
 mod test;
 
 pub use test::run_tests;

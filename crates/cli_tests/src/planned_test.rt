@@ -1,11 +1,13 @@
 //! The tests of a run: scenarios, and start lists with the policies next to them.
-ghost use Rattle.std.specs.Prelude.{◌≡◌, string_bytes, OnOk};
+ghost use Rattle.std.specs.Prelude.{◌≡◌, ℕ, List, filter, is_some, map, string_bytes, OnOk};
+ghost use Rattle.std.specs.Borrow.{Bor};
 ghost use Rattle.std.specs.List.{list_any};
 ghost use Rattle.std.specs.Option.{option_map};
 ghost use Rattle.cli_tests.specs.declared.planned_test.PlannedTest.TheVariants.{Policy, Scenario};
-ghost use Rattle.cli_tests.specs.Plan.{holds_policy, with_beside, with_file, with_policy};
+ghost use Rattle.cli_tests.specs.Plan.{has_text, holds_policy, is_selected, path_of, with_beside, with_file, with_policy};
 
 use cli_base::{is_policy, policy_path};
+use memchr::memmem;
 use std::alloc::{AllocError, AllocFailed};
 use std::fs;
 
@@ -35,6 +37,50 @@ pub(crate) fn planned_tests(
         add_file(&mut tests, file, beside)?;
     }
     Ok(tests)
+}
+
+/// Removes the tests whose paths have none of these texts. Without a text all tests remain.
+pub(crate) fn select_tests(tests: &mut Vec<PlannedTest>, texts: &[&str])
+    ensures { tests.new.items
+        ≡ filter (is_selected (map (λ text. text.now) texts.now)) tests.old.items }
+{
+    tests.retain(|test| is_selected(texts, test));
+}
+
+// Returns whether the path of a test has one of these texts, or there is no text.
+fn is_selected(texts: &[&str], test: &PlannedTest) -> bool
+    ensures { result ≡ is_selected (map (λ text. text.now) texts.now) test.now }
+{
+    let path = test.path();
+    texts.is_empty() || any_text(path, texts)
+}
+
+// Returns whether a path has one of these texts.
+fn any_text(path: &str, texts: &[&str]) -> bool
+    ensures { result ≡ list_any (λ (text : Bor (List ℕ)). has_text path.now text.now) texts.now }
+{
+    texts.iter().any(|text| has_text(path, text))
+}
+
+// Returns whether a path has a text.
+fn has_text(path: &str, text: &str) -> bool
+    ensures { result ≡ has_text path.now text.now }
+{
+    memmem::find(path.as_bytes(), text.as_bytes()).is_some()
+}
+
+impl PlannedTest {
+    ghost use Rattle.std.specs.Prelude.{◌≡◌};
+    ghost use Rattle.cli_tests.specs.Plan.{path_of};
+
+    // Returns the path of the test's file.
+    fn path(&self) -> &str
+        ensures { result.now ≡ path_of self.now }
+    {
+        match self {
+            PlannedTest::Scenario(path) | PlannedTest::Policy(path) => path.as_str(),
+        }
+    }
 }
 
 // Adds the tests of a file, and of the policy next to it, if there is one.

@@ -1,5 +1,6 @@
 pub mod Call
 pub mod FileError
+pub mod ObjectError
 pub mod Outcome
 pub mod Quotas
 pub mod ReplyText

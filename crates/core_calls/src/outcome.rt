@@ -31,16 +31,20 @@ pub enum Outcome {
 pub enum ServiceOutcome {
     /// The request is done.
     Done,
-    /// The number of bytes that were written.
+    /// The number of bytes that were written, or of objects.
     Count(u64),
     /// At least one byte of a file was read.
     Bytes,
     /// A file's name.
     Name,
+    /// An object's kind, name and units.
+    Object,
     /// Use and limits of the session's account.
     Quotas(Quotas),
     /// A buffer was created. The selector is missing until the client has one.
     Lent(Option<Selector>),
     /// The request is refused.
     Refused(FileError),
+    /// The request is refused, because the server offers no kind of the name.
+    BadKind,
 }

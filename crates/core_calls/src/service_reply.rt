@@ -2,10 +2,14 @@
 ghost use Rattle.std.specs.Prelude.{◌≡◌, ◌+◌, ◌*◌, ◌<◌, ◌≤◌, ◌++◌, length, decimal};
 ghost use Rattle.own_model.specs.FileText.{bytes_reply, file_reply};
 ghost use Rattle.own_model.specs.FileText.FileReply.{Count, Done, Lent, Named, Quotas as SessionQuotas, Refused};
+ghost use Rattle.own_model.specs.ObjectText as objects;
+ghost use Rattle.own_model.specs.ObjectText.{object_reply};
 ghost use Rattle.core_calls.specs.FileError.{model_error};
+ghost use Rattle.core_calls.specs.ObjectError.{model_object_error};
 ghost use Rattle.core_calls.specs.Quotas.{quotas_account};
 
 use crate::file_error::FileError;
+use crate::object_error::ObjectError;
 use crate::outcome::{Outcome, ServiceOutcome};
 use crate::quotas::Quotas;
 use crate::reply::Reply;
@@ -65,6 +69,21 @@ impl Reply {
         self.outcome = Outcome::Served(ServiceOutcome::Name);
     }
 
+    /// Sets the reply to an object's kind, name and units, and keeps the log lines.
+    pub fn serve_object(&mut self, kind: &[u8], name: &[u8], units: u64)
+        requires { length kind.now + length name.now ≤ 2075 }
+        ensures { self.new
+            ≡ record self.old { text = object_reply (objects.ObjectReply.Named kind.now name.now units) } }
+    {
+        self.text.replace(b"OK ");
+        self.text.add(kind);
+        self.text.add(b" ");
+        self.text.add(name);
+        self.text.add(b" ");
+        self.text.add_number(units);
+        self.outcome = Outcome::Served(ServiceOutcome::Object);
+    }
+
     /// Sets the reply to use and limit of the session's account, and keeps the log lines.
     pub fn serve_quotas(&mut self, quotas: Quotas)
         ensures { self.new
@@ -100,5 +119,27 @@ impl Reply {
         self.text.replace(b"ERR ");
         self.text.add(error.name().as_bytes());
         self.outcome = Outcome::Served(ServiceOutcome::Refused(error));
+    }
+
+    /// Sets the reply to the error with which a declared server refuses a request, and keeps the log lines.
+    pub fn serve_object_error(&mut self, error: ObjectError)
+        ensures { self.new ≡ record self.old {
+          text = object_reply (objects.ObjectReply.Refused (model_object_error error));
+        } }
+    {
+        match error {
+            ObjectError::BadKind => self.serve_bad_kind(),
+            ObjectError::Shared(error) => self.serve_error(error),
+        }
+    }
+
+    // Sets the reply to the error that the server offers no kind of a name, and keeps the log lines.
+    fn serve_bad_kind(&mut self)
+        ensures { self.new ≡ record self.old {
+          text = object_reply (objects.ObjectReply.Refused objects.ObjectError.BadKind);
+        } }
+    {
+        self.text.replace(b"ERR BAD_KIND");
+        self.outcome = Outcome::Served(ServiceOutcome::BadKind);
     }
 }

@@ -1,34 +1,37 @@
 -- Requests of the buffer: why they are refused, and what they leave of a session.
-use Rattle.std.proofs.Common.{◌≡◌, ℕ, ◌+◌, ◌<◌, ◌≤◌, true, false, List, [], length, take, drop, Option, Some, None, is_some, refl, sym, ap, subst, ◌∙◌, arith}
+use Rattle.std.proofs.Common.{◌≡◌, ℕ, ◌+◌, ◌<◌, ◌≤◌, cond, true, false, List, [], length, take, drop, Option, Some, None, is_some, refl, sym, ap, subst, ◌∙◌, arith}
 use Rattle.std.proofs.lemmas.Bool.Decides.{nat_tests}
-use Rattle.std.specs.Prelude.{nat_lt}
+use Rattle.std.proofs.lemmas.Option.{none-some, same_Some}
+use Rattle.std.specs.Prelude.{nat_lt, Result, Ok, Err, IfOk, OnErr}
+use Rattle.std.specs.Result.{result_err}
 use Rattle.std.specs.Option.{option_map}
 use Rattle.trade_base.specs.Bytes.{with_bytes}
-use Rattle.trade_base.specs.Page.{is_valid_size}
-use Rattle.trade_base.specs.declared.refusal.Refusal.{Refusal}
+use Rattle.trade_base.specs.declared.id.DsId.{DsId}
 use Rattle.trade_base.proofs.BytesLemmas.{with_bytes-nothing}
-use Rattle.own_model.specs.Account.{Account, alloc_refusal}
-use Rattle.own_model.specs.BufferService.{BufferRequest, BufferServed, beside, make_refusal, made, range_refusal, part_of, put, got, session_request, unless_refused}
-use Rattle.own_model.specs.BufferService.BufferRequest.{Make}
+use Rattle.own_model.specs.Account.{Account}
+use Rattle.own_model.specs.BufferService.{BufferRequest, BufferServed, beside, given_back, make_refusal, made, range_refusal, part_of, put, got, session_request, unless_refused}
+use Rattle.own_model.specs.BufferService.BufferRequest.{Make, GiveBack}
 use Rattle.own_model.specs.BufferService.SessionRequest.{OfFiles, OfBuffer}
-use Rattle.own_model.specs.FileService.{File, Files, FileServed, error_of, told, written}
+use Rattle.own_model.specs.FileService.{File, Files, FileServed, told, written}
 use Rattle.own_model.specs.FileText as model
 use Rattle.own_model.specs.FileText.{file_reply}
-use Rattle.own_model.specs.FileText.FileError.{Gap}
+use Rattle.own_model.specs.FileText.FileError.{Gap, NoBuffer}
 use Rattle.own_model.specs.FileText.FileReply.{Count, Refused}
 use Rattle.region_map.specs.Regions.{Regions}
 use Rattle.dataspace_core.specs.Store.{Store, space_at}
 use Rattle.server_frame.specs.SessionBuffer.{IsEffect, bytes_lent}
 use Rattle.server_frame.specs.Session.{holding_of}
+use Rattle.core_calls.specs.FileError.{model_error}
 use Rattle.core_calls.specs.ReplyText.{Told}
+use Rattle.core_calls.specs.declared.file_error.FileError.{FileError}
 use Rattle.server_frame.specs.declared.effect.Effect.{Effect}
 use Rattle.server_frame.specs.declared.effect.Effect.TheVariants.{Nothing}
 use Rattle.session_proto.specs.File.{model_request}
 use Rattle.session_proto.specs.declared.file.FileRequest.{FileRequest}
 use Rattle.session_nodes.specs.SoundHeaps.{Stock}
 use Rattle.session_nodes.specs.SessionHeaps.{stock_of, StaySoundHeaps, KeepsHeaps}
-use Rattle.session_nodes.specs.SessionBuffer.{FillsBuffer, TakesBuffer, HasBuffer, buffer_key}
-use Rattle.file_service.specs.Session.{files_in, served_in, session_served, Answers, HasFiles, IsAnswered, IsReady, Leaves, LeavesSession, Serves}
+use Rattle.session_nodes.specs.SessionBuffer.{FillsBuffer, FreesBuffer, HasBuffer, LendsBuffer, buffer_key}
+use Rattle.file_service.specs.Session.{files_in, served_in, session_served, Answers, HasFiles, IsAnswered, IsReady, Leaves, LeavesSession, Serves, done_reply, lent_reply}
 use Rattle.file_service.specs.declared.session.FileSession.{FileSession}
 use Rattle.session_nodes.specs.declared.session_buffer.SessionBuffer.{SessionBuffer}
 use Rattle.file_service.proofs.RequestLemmas.{told_text}
@@ -60,10 +63,6 @@ module _ (offset place count : ℕ) (buffer : Option (List ℕ)) (files : Files)
         got offset place count buffer (Some file) files account ≡ beside (option_map (λ bytes. with_bytes bytes place part) buffer) (told (Count (length part)) files account)
     got_done part good is = rw (no_gap, good, is) refl
 
--- why no buffer is made where the session lends none, and so many bytes have a size
-short_made : (n : ℕ) (buffer : Option (List ℕ)) (account : Account) → is_valid_size n ≡ true → is_some buffer ≡ false → make_refusal n buffer account ≡ option_map error_of (alloc_refusal n account)
-short_made n buffer account valid none = rw (valid, none) refl
-
 -- a range that isn't refused is in the buffer
 pub range_within : (place count : ℕ) (bytes : List ℕ) → range_refusal place count (Some bytes) ≡ None → place + count ≤ length bytes
 range_within place count bytes good = grind (arith, nat_tests)
@@ -77,10 +76,11 @@ nothing_got (Some bytes) place = ap Some (with_bytes-nothing bytes place)
 pub read_as : (text : List ℕ) (read request : FileRequest) → read ≡ request → Some (model_request read) ≡ session_request text → session_request text ≡ Some (model_request request)
 read_as text read request same is = sym is ∙ ap (λ r. Some (model_request r)) same
 
--- a session lends bytes where it lends anything
-lends_some : (lent : Option SessionBuffer) (store : Store) → is_some (bytes_lent store (buffer_key lent)) ≡ is_some lent
-lends_some None store = refl
-lends_some (Some lent) store = refl
+-- no buffer is freed where there is none
+given_none : (buffer : Option SessionBuffer) (store : Store) (e : model.FileError) (files : Files) (account : Account) → Some e ≡ cond (is_some buffer) None (Some NoBuffer) →
+    given_back (bytes_lent store (buffer_key buffer)) files account ≡ beside (bytes_lent store (buffer_key buffer)) (told (Refused e) files account)
+given_none None store e files account is = ap (λ x. beside None (told (Refused x) files account)) (sym (same_Some e NoBuffer is))
+given_none (Some lent) store e files account is = absurd (none-some e (sym is))
 
 -- ---- what they leave
 
@@ -104,6 +104,14 @@ module _ {session : FileSession} {store : Store} {regions : Regions} (ready : Is
     };
   }
 
+  -- also if the buffer, the memory and the map are told to be the same
+  told_refused : (reply : model.FileReply) (served : BufferServed) → served ≡ beside lends (told reply (files_in session has) has.account) → (buffer : Option SessionBuffer) {new : Store} {after : Regions} →
+      buffer ≡ session.buffer → new ≡ store → after ≡ regions → Answers served reply session (record session { buffer = buffer }) new after
+  told_refused reply served is buffer {new} {after} same_buffer same_store same_map =
+      subst (λ m. Answers served reply session (record session { buffer = buffer }) m after) (sym same_store)
+      (subst (λ m. Answers served reply session (record session { buffer = buffer }) store m) (sym same_map)
+      (subst (λ b. Answers served reply session (record session { buffer = b }) store regions) (sym same_buffer) (told_all reply served is)))
+
   -- a request of files leaves the buffer
   pub files_leave : {later : FileSession} {new : Store} {after : Regions} (served : FileServed) → KeepsHeaps session.nodes.heaps later.nodes.heaps store new regions after →
       Leaves served session later (stock_of later.nodes.heaps new after) → LeavesSession (beside lends served) session later new after
@@ -119,37 +127,52 @@ module _ {session : FileSession} {store : Store} {regions : Regions} (ready : Is
     label = leaves.own.label;
   }
 
-  module _ (n : ℕ) (valid : is_valid_size n ≡ true) (none : is_some session.buffer ≡ false) where
-    served_by : (o : Option Refusal) → alloc_refusal n has.account ≡ o →
-        session_served (Some (OfBuffer (Make n))) session store regions ≡ unless_refused (option_map error_of o) lends (files_in session has) has.account (made n (files_in session has) has.account)
-    served_by o is = ap (λ r. unless_refused r lends (files_in session has) has.account (made n (files_in session has) has.account))
-        (short_made n lends has.account valid (lends_some session.buffer store ∙ none) ∙ ap (option_map error_of) is)
-
-    -- a buffer that the account doesn't cover is refused, and leaves all
-    pub make_refused : (r : Refusal) (reply : model.FileReply) {new : Store} {after : Regions} → alloc_refusal n has.account ≡ Some r → reply ≡ Refused (error_of r) → new ≡ store → after ≡ regions →
-        Answers (session_served (Some (OfBuffer (Make n))) session store regions) reply session session new after
-    make_refused r reply {new} {after} short is same stays =
-        let all = told_all (Refused (error_of r)) _ (served_by (Some r) short) in
-        subst (λ m. Answers (session_served (Some (OfBuffer (Make n))) session store regions) reply session session m after) (sym same)
-        (subst (λ m. Answers (session_served (Some (OfBuffer (Make n))) session store regions) reply session session store m) (sym stays)
-        (subst (λ p. Answers (session_served (Some (OfBuffer (Make n))) session store regions) p session session store regions) (sym is) all))
-
-    -- else it is lent
-    pub make_done : (lent : SessionBuffer) {new : Store} {after : Regions} → alloc_refusal n has.account ≡ None →
-        TakesBuffer n lent has (stock_of session.nodes.heaps new after) (holding_of session.nodes.heaps.contents new after) new → StaySoundHeaps session.nodes.heaps session.nodes.heaps store new regions after →
-        Answers (session_served (Some (OfBuffer (Make n))) session store regions) model.FileReply.Lent session (record session { buffer = Some lent }) new after
-    make_done lent {new} {after} covered taken stays =
-        let is = sym (served_by None covered) in
-        record {
-          reply_is = ap (λ (o : BufferServed). o.reply) is;
-          leaves = record {
-            ready = record { furnished = stays.furnished; files = subst (HasFiles session) (sym taken.stock) ready.files; lent = taken.stands };
-            account = ap (λ (s : Stock). s.account) taken.stock ∙ ap (λ (o : BufferServed). o.account) is;
-            files = ap (files_in session) taken.stock ∙ ap (λ (o : BufferServed). o.files) is;
-            buffer = ap Some taken.zero ∙ ap (λ (o : BufferServed). o.buffer) is;
-            label = refl;
+  -- a buffer is lent, or refused
+  pub lend_answers : (n : ℕ) (r : Result DsId FileError) (buffer : Option SessionBuffer) {new : Store} {after : Regions} → option_map model_error (result_err r) ≡ make_refusal n lends has.account →
+      IfOk r (λ space. LendsBuffer n space buffer has (stock_of session.nodes.heaps new after) (holding_of session.nodes.heaps.contents new after) new) → OnErr r (buffer ≡ session.buffer) → OnErr r (new ≡ store) → OnErr r (after ≡ regions) →
+      StaySoundHeaps session.nodes.heaps session.nodes.heaps store new regions after → Answers (session_served (Some (OfBuffer (Make n))) session store regions) (lent_reply r) session (record session { buffer = buffer }) new after
+  lend_answers n (Ok space) buffer {new} {after} refusal it same_buffer same_store same_map stays =
+      let is = ap (λ o. unless_refused o lends (files_in session has) has.account (made n (files_in session has) has.account)) refusal in
+      record {
+        reply_is = ap (λ (o : BufferServed). o.reply) is;
+        leaves = record {
+          ready = record {
+            furnished = stays.furnished;
+            files = subst (HasFiles session) (sym it.taken.stock) ready.files;
+            lent = subst (λ b. HasBuffer b (holding_of session.nodes.heaps.contents new after)) (sym it.later_is) it.taken.stands;
           };
-        }
+          account = ap (λ (s : Stock). s.account) it.taken.stock ∙ ap (λ (o : BufferServed). o.account) is;
+          files = ap (files_in session) it.taken.stock ∙ ap (λ (o : BufferServed). o.files) is;
+          buffer = ap (λ b. bytes_lent new (buffer_key b)) it.later_is ∙ ap Some it.taken.zero ∙ ap (λ (o : BufferServed). o.buffer) is;
+          label = refl;
+        };
+      }
+  lend_answers n (Err e) buffer {new} {after} refusal it same_buffer same_store same_map stays =
+      let is = sym (ap (λ o. unless_refused o lends (files_in session has) has.account (made n (files_in session has) has.account)) refusal) in
+      told_refused (Refused (model_error e)) _ is buffer same_buffer same_store same_map
+
+  -- it is freed, or there is none
+  pub take_back_answers : (r : Result DsId FileError) (buffer : Option SessionBuffer) {new : Store} {after : Regions} → option_map model_error (result_err r) ≡ cond (is_some session.buffer) None (Some NoBuffer) →
+      IfOk r (λ space. FreesBuffer space session.buffer buffer has (stock_of session.nodes.heaps new after) (holding_of session.nodes.heaps.contents new after) store) → OnErr r (buffer ≡ session.buffer) → OnErr r (new ≡ store) → OnErr r (after ≡ regions) →
+      StaySoundHeaps session.nodes.heaps session.nodes.heaps store new regions after → Answers (session_served (Some (OfBuffer GiveBack)) session store regions) (done_reply r) session (record session { buffer = buffer }) new after
+  take_back_answers (Ok space) buffer {new} {after} refusal it same_buffer same_store same_map stays =
+      let is = ap (λ b. given_back (bytes_lent store (buffer_key b)) (files_in session has) has.account) (sym it.was_is) in
+      record {
+        reply_is = ap (λ (o : BufferServed). o.reply) is;
+        leaves = record {
+          ready = record {
+            furnished = stays.furnished;
+            files = subst (HasFiles session) (sym it.given.stock) ready.files;
+            lent = subst (λ b. HasBuffer b (holding_of session.nodes.heaps.contents new after)) (sym it.later_is) it.given.none;
+          };
+          account = ap (λ (s : Stock). s.account) it.given.stock ∙ ap (λ (o : BufferServed). o.account) is;
+          files = ap (files_in session) it.given.stock ∙ ap (λ (o : BufferServed). o.files) is;
+          buffer = ap (λ b. bytes_lent new (buffer_key b)) it.later_is ∙ ap (λ (o : BufferServed). o.buffer) is;
+          label = refl;
+        };
+      }
+  take_back_answers (Err e) buffer {new} {after} refusal it same_buffer same_store same_map stays =
+      told_refused (Refused (model_error e)) _ (given_none session.buffer store (model_error e) (files_in session has) has.account refusal) buffer same_buffer same_store same_map
 
   -- a get fills the buffer
   pub got_filled : (lent : SessionBuffer) (place n : ℕ) (bytes part : List ℕ) (served : BufferServed) {new : Store} → session.buffer ≡ Some lent →

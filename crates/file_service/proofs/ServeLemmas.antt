@@ -1,7 +1,6 @@
 -- How requests are served, by the tests that they pass.
-use Rattle.std.proofs.Common.{rules, ◌≡◌, ℕ, ◌<◌, ◌≤◌, true, false, List, [], length, take, drop, Option, Some, None, is_some, refl, sym, ap, subst, ◌∙◌, true≢false, arith}
+use Rattle.std.proofs.Common.{rules, ◌≡◌, ℕ, ◌<◌, ◌≤◌, true, false, List, [], length, take, drop, Option, Some, None, is_some, refl, sym, ap, subst, arith}
 use Rattle.std.proofs.lemmas.Bool.Decides.{nat_tests}
-use Rattle.std.specs.Prelude.{Result, Ok, Err, MatchResult, is_ok}
 use Rattle.trade_base.specs.declared.refusal.Refusal.{Refusal}
 use Rattle.own_model.specs.Account.{Account}
 use Rattle.own_model.specs.FileService.{File, Files, FileServed, node_size, created, content_credited, rewritten, without, told, error_of, file_named, sized, cleared, dropped, read, written}
@@ -129,10 +128,3 @@ module _ (name : List ℕ) (session : FileSession) (has : Stock) where
 
   pub write_gap : (offset : ℕ) (bytes : List ℕ) (file : File) → found_in ≡ Some file → length file.bytes < offset → IsTold (Write name offset bytes) (Refused Gap) session has
   write_gap offset bytes file there above = grind (arith, nat_tests)
-
--- ---- results
-
--- what is Ok after its error was mapped was Ok before
-pub was_ok : {T E D : Type 0} (self : Result T E) (mapped : Result T D) (x : T) (Q : E → Type 0) → MatchResult self (λ y. mapped ≡ Ok y) Q → is_ok mapped ≡ is_ok self → mapped ≡ Ok x → self ≡ Ok x
-was_ok (Ok y) mapped x Q cases variant is = let e : y ≡ x = cc in ap Ok e
-was_ok (Err e) mapped x Q cases variant is = absurd (true≢false (ap is_ok (sym is) ∙ variant))

@@ -111,15 +111,6 @@ abbrev pub lent_reply : Result DsId FileError → model.FileReply
 lent_reply (Ok _) = Lent
 lent_reply (Err e) = Refused (model_error e)
 
-abbrev pub lent_effect : Result DsId FileError → Effect
-lent_effect (Ok ds) = Effect.Buffer ds
-lent_effect (Err e) = Effect.Nothing
-
--- the effect of a freed buffer
-abbrev pub gone_effect : Result DsId FileError → Effect
-gone_effect (Ok ds) = Effect.Gone ds
-gone_effect (Err e) = Effect.Nothing
-
 -- a count
 abbrev pub counted_reply : Result ℕ FileError → model.FileReply
 counted_reply (Ok n) = Count n

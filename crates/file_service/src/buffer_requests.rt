@@ -2,7 +2,6 @@
 ghost use Rattle.std.specs.Prelude.{◌≡◌, IfOk, IfSome, Some};
 ghost use Rattle.std.specs.Option.{option_map};
 ghost use Rattle.std.specs.Result.{result_err};
-ghost use Rattle.trade_base.specs.Page.{is_valid_size};
 ghost use Rattle.own_model.specs.BufferService.{range_refusal};
 ghost use Rattle.own_model.specs.BufferService.BufferRequest.{Make, GiveBack, Put, Get};
 ghost use Rattle.own_model.specs.BufferService.SessionRequest.{OfBuffer};
@@ -10,16 +9,15 @@ ghost use Rattle.dataspace_core.specs.Store.{Exists};
 ghost use Rattle.server_frame.specs.SessionBuffer.{IsEffect, bytes_lent};
 ghost use Rattle.session_proto.specs.FileReply.{model_error};
 ghost use Rattle.session_nodes.specs.SessionHeaps.{StaySoundHeaps};
-ghost use Rattle.session_nodes.specs.SessionBuffer.{buffer_key};
-ghost use Rattle.file_service.specs.Session.{Answers, IsReady, session_served, counted_reply, done_reply, lent_reply, lent_effect, gone_effect};
+ghost use Rattle.session_nodes.specs.SessionBuffer.{buffer_key, lent_effect, gone_effect};
+ghost use Rattle.file_service.specs.Session.{Answers, IsReady, session_served, counted_reply, done_reply, lent_reply};
 
-use crate::file_requests::error_of;
 use crate::session::{FileRange, FileSession};
 use dataspace_core::Memory;
 use region_map::RegionMap;
 use session_nodes::{ContentRange, SessionBuffer, WriteSource};
 use session_proto::FileError;
-use trade_base::{DsId, page_round};
+use trade_base::DsId;
 
 impl FileSession {
     /// Creates the buffer of a session, with this number of bytes in whole pages, all zero, and returns its dataspace.
@@ -41,19 +39,7 @@ impl FileSession {
         ensures stays { StaySoundHeaps self.old.nodes.heaps self.new.nodes.heaps
             memory.old memory.new map.old map.new }
     {
-        if !is_size(bytes) {
-            return Err(FileError::InvalidSize);
-        }
-        if self.buffer.is_some() {
-            return Err(FileError::Exists);
-        }
-        let lent = self
-            .nodes
-            .heaps
-            .take_buffer(memory, map, bytes)
-            .map_err(error_of)?;
-        self.buffer = Some(lent);
-        Ok(lent.space)
+        self.nodes.heaps.lend(memory, map, &mut self.buffer, bytes)
     }
 
     /// Frees the session's buffer and returns its dataspace. Refuses with `NoBuffer` if there is none.
@@ -71,10 +57,7 @@ impl FileSession {
         ensures stays { StaySoundHeaps self.old.nodes.heaps self.new.nodes.heaps
             memory.old memory.new map.old map.new }
     {
-        let lent = self.buffer.ok_or(FileError::NoBuffer)?;
-        self.nodes.heaps.give_buffer(memory, map, lent);
-        self.buffer = None;
-        Ok(lent.space)
+        self.nodes.heaps.take_back(memory, map, &mut self.buffer)
     }
 
     /// Writes the bytes of the buffer from a place on over a range of a file, and returns their number.
@@ -165,11 +148,4 @@ impl FileSession {
         }
         Ok(lent)
     }
-}
-
-/// Returns whether a dataspace can have this number of bytes, in whole pages.
-fn is_size(bytes: u64) -> bool
-    ensures { result ≡ is_valid_size bytes }
-{
-    bytes != 0 && page_round(bytes).is_some()
 }

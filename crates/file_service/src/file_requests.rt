@@ -206,12 +206,8 @@ impl FileSession {
 }
 
 /// Returns the error of a reply for a refusal of a heap.
-pub(crate) fn error_of(refusal: Refusal) -> FileError
+fn error_of(refusal: Refusal) -> FileError
     ensures { model_error result ≡ model.error_of refusal }
 {
-    match refusal {
-        Refusal::TooManyChunks => FileError::TooManyChunks,
-        Refusal::OutOfCaps => FileError::OutOfCaps,
-        _ => FileError::OutOfRam,
-    }
+    session_nodes::error_of(refusal)
 }

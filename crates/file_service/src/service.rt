@@ -13,11 +13,11 @@ ghost use Rattle.sliced_heap.specs.Heap.{payer_of};
 ghost use Rattle.file_service.specs.SeparateBuffer.{lends_aside};
 ghost use Rattle.server_frame.specs.Session.{service_step};
 ghost use Rattle.session_nodes.specs.SessionHeaps.{stock_of, AreSoundHeaps, KeepsHeaps};
-ghost use Rattle.session_nodes.specs.SessionBuffer.{buffer_key};
-ghost use Rattle.file_service.specs.Session.{HasFiles, IsReady, IsAnswered, IsTold, Serves, done_reply, counted_reply, lent_reply, lent_effect, gone_effect, served_in, session_served};
+ghost use Rattle.session_nodes.specs.SessionBuffer.{buffer_key, lent_effect, gone_effect};
+ghost use Rattle.file_service.specs.Session.{HasFiles, IsReady, IsAnswered, IsTold, Serves, done_reply, counted_reply, lent_reply, served_in, session_served};
 
 use crate::session::{FileRange, FileSession};
-use core_calls::{Quotas, Reply};
+use core_calls::Reply;
 use dataspace_core::Memory;
 use region_map::RegionMap;
 use server_frame::{Effect, Service};
@@ -307,16 +307,7 @@ fn answer_stat(heaps: &SessionHeaps, memory: &Memory, reply: &mut Reply)
           (account_in memory.now (payer_of heaps.now.contents)));
     } }
 {
-    let account = heaps.account();
-    let (ram_used, caps_used) = memory.used(account);
-    let (ram_limit, caps_limit) = memory.limits(account);
-    let quotas = Quotas {
-        ram_used,
-        ram_limit,
-        caps_used,
-        caps_limit,
-    };
-    FileReply::Quotas(quotas).write(reply);
+    FileReply::Quotas(heaps.quotas(memory)).write(reply);
 }
 
 /// Writes the reply of a request that is done or refused.

@@ -8,21 +8,31 @@ use Rattle.trade_base.specs.Service.{service_name, services}
 use Rattle.trade_base.specs.declared.service.Service.{Service}
 use Rattle.own_model.specs.Listed.{Listed, ListedEntry, level_of, most_lists}
 use Rattle.own_model.specs.Offer.{offer_of_service}
+use Rattle.own_model.specs.Offer.Offer.{OffersObjects}
 use Rattle.own_model.specs.Routes as model
 use Rattle.own_model.specs.Routes.{Level, provider}
 use Rattle.pd_core.specs.Component.{Place}
 use Rattle.pd_core.specs.Core.{Places}
 use Rattle.init_core.specs.declared.rule.ResolvedTarget.{ResolvedTarget}
-use Rattle.init_core.specs.declared.rule.ResolvedTarget.TheVariants.{To, Nowhere, Outward}
+use Rattle.init_core.specs.declared.rule.ResolvedTarget.TheVariants.{ToBuiltIn, ToDeclared, Nowhere, Outward}
+use Rattle.init_core.specs.declared.rule.RouteStep.{RouteStep}
+use Rattle.init_core.specs.declared.rule.RouteStep.TheVariants as step
 use Rattle.init_core.specs.declared.rule.ServiceTest.{ServiceTest}
 use Rattle.init_core.specs.declared.rule.ServiceTest.TheVariants.{Known, Named, Any}
 
 -- ---- what the code's types denote
 
 abbrev pub model_lead : ResolvedTarget → model.Lead
-model_lead (To server) = model.Lead.To (record { kind = offer_of_service server.kind; place = server.place })
+model_lead (ToBuiltIn service place) = model.Lead.To (record { kind = offer_of_service service; place = place })
+model_lead (ToDeclared service place) = model.Lead.To (record { kind = OffersObjects service.value.kinds; place = place })
 model_lead Nowhere = model.Lead.Nowhere
 model_lead Outward = model.Lead.Outward
+
+-- the step of a route that a lead decides
+abbrev pub step_of : model.Lead → RouteStep
+step_of (model.Lead.To server) = step.Server server.place
+step_of model.Lead.Nowhere = step.Nowhere
+step_of model.Lead.Outward = step.Outward
 
 -- the name that is asked for, if one is
 abbrev pub name_asked : ServiceTest → Option (List ℕ)

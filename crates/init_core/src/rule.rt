@@ -3,28 +3,51 @@ ghost use Rattle.std.specs.Prelude.{◌≡◌, IfOk, Some};
 ghost use Rattle.std.specs.Str.{bytes_eq};
 ghost use Rattle.own_model.specs.Listed.{own_rule};
 ghost use Rattle.own_model.specs.Routes.{as_asked, decided, matches};
-ghost use Rattle.init_core.specs.Rows.{model_lead, name_asked, service_named};
+ghost use Rattle.list_parser.specs.Services.{service_text};
+ghost use Rattle.init_core.specs.Rows.{model_lead, name_asked, service_named, step_of};
 
-use list_parser::{LabelTest, Name, Rule};
+use list_parser::{DeclaredService, LabelTest, ListService, Name, Rule};
 use std::alloc::{AllocError, Global};
 use std::marker::Model;
+use std::rc::Rc;
 use trade_base::{SERVICES, Service};
 
-/// A server: its service, and its place among the components.
-#[derive(Clone, Copy)]
-pub(crate) struct ServerPlace {
-    pub(crate) kind: Service,
-    pub(crate) place: usize,
-}
-
 /// The result of a rule: where it routes a session request.
-#[derive(Clone, Copy)]
+#[derive(Drop)]
 pub(crate) enum ResolvedTarget {
-    /// The request is routed to a server.
-    To(ServerPlace),
+    /// The request is routed to a server of a service that the machine has built in: the service, and the server's place
+    /// among the components.
+    ToBuiltIn(Service, usize),
+    /// The request is routed to a declared server: the service that it declares, and its place.
+    ToDeclared(Rc<DeclaredService>, usize),
     /// The request is routed to no server.
     Nowhere,
     /// The request is routed out of the init, by the rules of the list above.
+    Outward,
+}
+
+impl ResolvedTarget {
+    /// Returns the step of a route that the rule decides.
+    fn step(&self) -> RouteStep
+        ensures { result ≡ step_of (model_lead self.now) }
+    {
+        match self {
+            ResolvedTarget::ToBuiltIn(_, place) => RouteStep::Server(*place),
+            ResolvedTarget::ToDeclared(_, place) => RouteStep::Server(*place),
+            ResolvedTarget::Nowhere => RouteStep::Nowhere,
+            ResolvedTarget::Outward => RouteStep::Outward,
+        }
+    }
+}
+
+/// A step of a route.
+#[derive(Clone, Copy)]
+pub(crate) enum RouteStep {
+    /// To the server at this place among the components.
+    Server(usize),
+    /// To no server.
+    Nowhere,
+    /// Out of the init, by the rules of the list above.
     Outward,
 }
 
@@ -47,6 +70,16 @@ impl ServiceTest {
         match service_named(name.as_bytes()) {
             Some(service) => ServiceTest::Known(service),
             None => ServiceTest::Named(name.copy()),
+        }
+    }
+
+    /// Returns the test that a service of a list passes.
+    pub(crate) fn of_service(service: ListService<'_>) -> ServiceTest
+        ensures { name_asked result ≡ Some (service_text service.entry) }
+    {
+        match service {
+            ListService::BuiltIn(service) => ServiceTest::Known(service),
+            ListService::Declared(name) => ServiceTest::Named(name.copy()),
         }
     }
 
@@ -160,20 +193,27 @@ impl ResolvedRule {
     {
         self.service.holds(service) && self.labels.holds(label)
     }
+
+    /// Returns the step that the rule decides.
+    fn step(&self) -> RouteStep
+        ensures { result ≡ step_of self.now.to }
+    {
+        self.to.step()
+    }
 }
 
-/// Returns the result of the first rule that matches, or `Nowhere` if no rule matches.
+/// Returns the step of the first rule that matches, or `Nowhere` if no rule matches.
 pub(crate) fn resolve_request(
     rules: &[ResolvedRule],
     service: &ServiceName<'_>,
     label: &[u8],
-) -> ResolvedTarget
-    ensures { model_lead result ≡ decided rules.now service.now label.now }
+) -> RouteStep
+    ensures { result ≡ step_of (decided rules.now service.now label.now) }
 {
     for rule in rules {
         if rule.matches(service, label) {
-            return rule.to;
+            return rule.step();
         }
     }
-    ResolvedTarget::Nowhere
+    RouteStep::Nowhere
 }

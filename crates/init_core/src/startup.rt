@@ -3,7 +3,8 @@
 ghost use Rattle.std.specs.Prelude.{◌≡◌, ◌≢◌, ◌+◌, ◌*◌, ◌<◌, ◌≤◌, is_none, is_ok, length, IfOk, IfErr, OnOk, None, Some};
 ghost use Rattle.own_model.specs.Account.{shortage};
 ghost use Rattle.own_model.specs.Listed.{Listed, start_list_of};
-ghost use Rattle.own_model.specs.Listed.Binary.{Script as AScript, Init as AnInit};
+ghost use Rattle.own_model.specs.Listed.Binary.{Script as AScript, Server as AServer, Init as AnInit};
+ghost use Rattle.own_model.specs.Offer.Offer.{OffersObjects};
 ghost use Rattle.own_model.specs.World.{start_world, IsBalancedFor};
 ghost use Rattle.own_model.specs.StartList.{Boots};
 ghost use Rattle.dataspace_core.specs.Store.{IsOpenIn, account_in, room_in};
@@ -15,7 +16,8 @@ ghost use Rattle.list_parser.specs.declared.fault.BootFault.TheVariants.{NoMemor
 use crate::table::RouteTable;
 use cap_space::CapSpace;
 use dataspace_core::Memory;
-use list_parser::{Binary, BootFault, ListEntry, StartList};
+use list_parser::{Binary, BootFault, DeclaredService, ListEntry, StartList};
+use object_kinds::copy_kinds;
 use pd_core::{AnyServer, Component, Core};
 use region_map::RegionMap;
 use std::alloc::Global;
@@ -99,7 +101,11 @@ fn start(
             Ok(())
         }
         Binary::Server(service) => {
-            components.push(server_of(service, entry, account, list, alloc)?)?;
+            components.push(server_of(*service, entry, account, list, alloc)?)?;
+            Ok(())
+        }
+        Binary::Declared(service) => {
+            components.push(declared_server_of(service, entry, account, list, alloc)?)?;
             Ok(())
         }
         Binary::Init => {
@@ -163,6 +169,23 @@ fn server_of(
     ensures fault { IfErr result (λ fault. fault ≡ NoMemory) }
 {
     let host = AnyServer::boot(alloc, service, sessions_of(list), list.pages() as usize)?;
+    Ok(Component::server(entry.label(), account, host))
+}
+
+/// Creates the server of an entry that declares its service on its account, without sessions.
+fn declared_server_of(
+    service: &DeclaredService,
+    entry: &ListEntry,
+    account: AccountId,
+    list: &StartList,
+    alloc: Global,
+) -> Result<Component, BootFault>
+    requires { entry.now.binary ≡ AServer service.now.name (OffersObjects service.now.kinds) }
+    ensures made { IfOk result (IsMade list.now entry.now account.0 None) }
+    ensures fault { IfErr result (λ fault. fault ≡ NoMemory) }
+{
+    let kinds = copy_kinds(alloc, service.kinds())?;
+    let host = AnyServer::boot_declared(alloc, kinds, sessions_of(list), list.pages() as usize)?;
     Ok(Component::server(entry.label(), account, host))
 }
 

@@ -34,30 +34,30 @@ next_pieces line column old new whole text piece more was is finds =
     ∙ ap (λ pieces. old ++ pieces_advice line column pieces) (sym is) ∙ was
 
 -- and so is that on the first line
-pub next_lines : (services : List (List ℕ)) (only : Option (List ℕ)) (number : ℕ) (old new whole : List Advice) (text line : List ℕ) (more : Option (List ℕ))
-    → old ++ scenario_advice services only number (slice_split is_newline text) ≡ whole
-    → slice_split is_newline text ≡ line ∷ lines_after more → new ≡ old ++ advice_on services only number line
-    → new ++ scenario_advice services only (number + 1) (lines_after more) ≡ whole
-next_lines services only number old new whole text line more was is finds =
-    let left : List Advice = scenario_advice services only (number + 1) (lines_after more) in
+pub next_lines : (services kinds : List (List ℕ)) (only : Option (List ℕ)) (number : ℕ) (old new whole : List Advice) (text line : List ℕ) (more : Option (List ℕ))
+    → old ++ scenario_advice services kinds only number (slice_split is_newline text) ≡ whole
+    → slice_split is_newline text ≡ line ∷ lines_after more → new ≡ old ++ advice_on services kinds only number line
+    → new ++ scenario_advice services kinds only (number + 1) (lines_after more) ≡ whole
+next_lines services kinds only number old new whole text line more was is finds =
+    let left : List Advice = scenario_advice services kinds only (number + 1) (lines_after more) in
     ap (λ found. found ++ left) finds
-    ∙ append_assoc old (advice_on services only number line) left
-    ∙ ap (λ lines. old ++ scenario_advice services only number lines) (sym is) ∙ was
+    ∙ append_assoc old (advice_on services kinds only number line) left
+    ∙ ap (λ lines. old ++ scenario_advice services kinds only number lines) (sym is) ∙ was
 
 -- a line of another form has none
-pub no_request : (services : List (List ℕ)) (only : Option (List ℕ)) (number : ℕ) (line : List ℕ) → form_named (form_of line) ≡ None
-    → advice_on services only number line ≡ []
-no_request services only number line none =
+pub no_request : (services kinds : List (List ℕ)) (only : Option (List ℕ)) (number : ℕ) (line : List ℕ) → form_named (form_of line) ≡ None
+    → advice_on services kinds only number line ≡ []
+no_request services kinds only number line none =
     either (is_skipped only line || (not (begins_as_call (content_of line)) || is_meant (content_of line)))
   where
-    nothing : request_advice services number (form_named (form_of line)) (front_of line) ≡ []
-    nothing = ap (λ form. request_advice services number form (front_of line)) none
+    nothing : request_advice services kinds number (form_named (form_of line)) (front_of line) ≡ []
+    nothing = ap (λ form. request_advice services kinds number form (front_of line)) none
 
-    either : (left_out : Bool) → (if left_out then [] else request_advice services number (form_named (form_of line)) (front_of line)) ≡ []
+    either : (left_out : Bool) → (if left_out then [] else request_advice services kinds number (form_named (form_of line)) (front_of line)) ≡ []
     either true = refl
     either false = nothing
 
-pub unadvised : (services : List (List ℕ)) (only : Option (List ℕ)) (number : ℕ) (line : List ℕ) (found : List Advice) → form_named (form_of line) ≡ None
-    → found ≡ found ++ advice_on services only number line
-unadvised services only number line found none =
-    sym (ap (λ more. found ++ more) (no_request services only number line none) ∙ append-nil found)
+pub unadvised : (services kinds : List (List ℕ)) (only : Option (List ℕ)) (number : ℕ) (line : List ℕ) (found : List Advice) → form_named (form_of line) ≡ None
+    → found ≡ found ++ advice_on services kinds only number line
+unadvised services kinds only number line found none =
+    sym (ap (λ more. found ++ more) (no_request services kinds only number line none) ∙ append-nil found)

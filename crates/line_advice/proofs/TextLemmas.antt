@@ -1,12 +1,10 @@
 -- Where a text is cut at its first newline, and texts that aren't UTF-8.
-use Rattle.std.proofs.Common.{◌≡◌, ℕ, ◌+◌, ◌-◌, ◌≤◌, ltb, cond, not, Bool, true, false, nat_eq, List, [], ◌∷◌, length, take, drop, position, Some, None, refl, sym, ap, ◌∙◌, arith}
-use Rattle.std.specs.List.{All, find, position_or_len, slice_split}
+use Rattle.std.proofs.Common.{◌≡◌, ℕ, ◌+◌, ◌-◌, Bool, true, false, nat_eq, List, ◌∷◌, length, take, drop, position, Some, None, refl, sym, ap, ◌∙◌, arith}
+use Rattle.std.specs.List.{find, slice_split}
 use Rattle.std.specs.Str.{IsUtf8, is_utf8}
 use Rattle.std.proofs.lemmas.Bool.Decides.{nat_tests}
-use Rattle.std.proofs.lemmas.Bool.{not-true}
 use Rattle.std.proofs.lemmas.List.{take_rest}
-use Rattle.std.proofs.lemmas.List.Splits.{slice_split_first, slice_split_none}
-use Rattle.std.proofs.lemmas.List.Sums.{prefix_len-le-length, prefix_len_passes}
+use Rattle.std.proofs.lemmas.List.Splits.{slice_split_first}
 use Rattle.std.proofs.lemmas.Str.{IsUtf8-from_is_utf8, is_utf8-from_IsUtf8}
 use Rattle.text_near_words.specs.Near.{is_away, nearest}
 use Rattle.line_advice.specs.Advice.{is_newline, near_by_one, near_in}
@@ -21,18 +19,6 @@ pub split_at : (text : List ℕ) (n : ℕ) → position (λ b. nat_eq b 10) text
     → slice_split is_newline text ≡ take n text ∷ slice_split is_newline (take (length text - (n + 1)) (drop (n + 1) text))
 split_at text n is =
     split_first text n is ∙ ap (λ rest. take n text ∷ slice_split is_newline rest) (sym (take_rest text (n + 1)))
-
-found_none : (n len : ℕ) → cond (ltb n len) (Some n) None ≡ None → len ≤ n
-found_none n len none = grind (arith, nat_tests)
-
-each_plain : (text : List ℕ) → position_or_len (λ b. nat_eq b 10) text ≡ length text → All (λ b. nat_eq b 10 ≡ false) text
-each_plain text whole k d within = grind (arith, nat_tests, not-true, prefix_len_passes)
-
-pub split_nowhere : (text : List ℕ) → position (λ b. nat_eq b 10) text ≡ None → slice_split is_newline text ≡ text ∷ []
-split_nowhere text none =
-    let most : position_or_len (λ b. nat_eq b 10) text ≤ length text = prefix_len-le-length (λ b. not (nat_eq b 10)) text in
-    let least : length text ≤ position_or_len (λ b. nat_eq b 10) text = found_none _ _ none in
-    slice_split_none (λ b. nat_eq b 10) text (each_plain text (omega (arith, most, least)))
 
 -- ---- words
 

@@ -8,6 +8,7 @@ use Rattle.trade_base.specs.declared.service.Service.TheVariants.{Files, Log}
 use Rattle.own_model.specs.SessionArgs.{arguments_of, is_equals, is_space, pieces_of, skip_spaces, trimmed}
 use Rattle.own_model.specs.Text.{is_name}
 use Rattle.session_proto.specs.Forms.{forms, word_of}
+use Rattle.session_proto.specs.ObjectForms as objects
 use Rattle.text_near_words.specs.Near.{is_away, nearest}
 use Rattle.line_friendly.specs.Friendly.{arrow_of, begins_as_call, content_of, end_of, is_meant, trimmed_line}
 use Rattle.line_friendly.specs.Words.{next_word, skip_blanks}
@@ -17,12 +18,13 @@ use Rattle.line_advice.specs.declared.key.ArgumentKey.TheVariants.{RamQuota, Cap
 use Rattle.line_advice.specs.declared.line.AdvisedForm.{AdvisedForm}
 use Rattle.line_advice.specs.declared.line.AdvisedForm.TheVariants.{Open, Upgrade, Call}
 
--- a service that the start list doesn't offer, or a key that session arguments don't have, with the word that may be meant; a word
--- that is no request of a session, with the request that is at one edit; or a text that isn't read as a pair, with the key whose
--- value it doesn't have
+-- a service that the start list doesn't offer, a kind that none of its servers has, or a key that session arguments don't have, with
+-- the word that may be meant; a word that is no request of a session, with the request that is at one edit; or a text that isn't read
+-- as a pair, with the key whose value it doesn't have
 pub data Reason : Type 0 where
   UnknownService : Option (List ℕ) → Reason
   UnknownRequest : List ℕ → Reason
+  UnknownKind : Option (List ℕ) → Reason
   UnknownKey : Option (List ℕ) → Reason
   Unread : Option ArgumentKey → Reason
 
@@ -95,11 +97,11 @@ arguments_advice line column text = if list_all is_space text then [] else piece
 
 -- ---- requests of sessions
 
--- the words of the requests of a service
+-- the words of the requests of a service: one that the machine doesn't have built in is declared
 abbrev pub words_of : List ℕ → List (List ℕ)
 words_of service =
     if bytes_eq service (service_name Files) then map word_of forms
-    else (if bytes_eq service (service_name Log) then codes "WRITE" ∷ [] else [])
+    else (if bytes_eq service (service_name Log) then codes "WRITE" ∷ [] else map objects.word_of objects.forms)
 
 abbrev pub requests_of : List (List ℕ) → List (List ℕ)
 requests_of services = flat_map words_of services
@@ -114,6 +116,11 @@ abbrev pub misspelt_advice : ℕ → ℕ → List ℕ → Option (List ℕ) → 
 misspelt_advice line column word None = []
 misspelt_advice line column word (Some near) =
     record { line = line; column = column; text = word; reason = UnknownRequest near } ∷ []
+
+-- the word is that of a request which begins with a kind
+abbrev pub has_kind : List (List ℕ) → List ℕ → Bool
+has_kind requests word =
+    list_any (bytes_eq word) requests && list_any (bytes_eq word) (codes "MAKE" ∷ codes "COUNT" ∷ [])
 
 -- ---- lines
 
@@ -137,12 +144,26 @@ abbrev pub rest_advice : ℕ → List ℕ → List ℕ → List Advice
 rest_advice line front rest =
     let text = drop 1 (next_word rest).rest in arguments_advice line (column_in front text) text
 
--- the first word of the request after the first token
-abbrev pub word_advice : List (List ℕ) → ℕ → List ℕ → List ℕ → List Advice
-word_advice requests line front rest =
+-- the first token of a text at a column is no kind of the list's servers. What is no name is passed over: one that is to be filled
+-- too
+abbrev pub kind_advice : List (List ℕ) → ℕ → ℕ → List ℕ → List Advice
+kind_advice kinds line column text =
+    let kind = (next_word text).word in
+    if not (is_name kind) || list_any (bytes_eq kind) kinds then []
+    else record { line = line; column = column; text = kind; reason = UnknownKind (near_in kinds kind) } ∷ []
+
+abbrev pub kind_advice_after : List (List ℕ) → List (List ℕ) → ℕ → ℕ → List ℕ → List ℕ → List Advice
+kind_advice_after requests kinds line column word text =
+    if has_kind requests word then kind_advice kinds line column text else []
+
+-- the first word of the request after the first token, and the kind with which the request begins
+abbrev pub word_advice : List (List ℕ) → List (List ℕ) → ℕ → List ℕ → List ℕ → List Advice
+word_advice requests kinds line front rest =
     let text = (next_word rest).rest in
     let word = (next_word text).word in
+    let after = (next_word text).rest in
     misspelt_advice line (column_in front (skip_blanks text)) word (misspelt requests word)
+    ++ kind_advice_after requests kinds line (column_in front (skip_blanks after)) word after
 
 -- a call is read in its tokens: the component, the form, and the rest
 abbrev pub form_of : List ℕ → List ℕ
@@ -158,21 +179,22 @@ form_named name =
     else (if bytes_eq name (codes "upgrade") then Some Upgrade
     else (if bytes_eq name (codes "call") then Some Call else None))
 
--- of `open` the service and the arguments may be misspelt, of `upgrade` the arguments after the selector, and of `call` the request.
+-- of `open` the service and the arguments may be misspelt, of `upgrade` the arguments after the selector, and of `call` the request
+-- and its kind.
 -- A session may be one of any service of the list.
-abbrev pub request_advice : List (List ℕ) → ℕ → Option AdvisedForm → List ℕ → List Advice
-request_advice services line None front = []
-request_advice services line (Some Open) front =
+abbrev pub request_advice : List (List ℕ) → List (List ℕ) → ℕ → Option AdvisedForm → List ℕ → List Advice
+request_advice services kinds line None front = []
+request_advice services kinds line (Some Open) front =
     let rest = after_form front in
     service_advice services line (column_in front (skip_blanks rest)) rest ++ rest_advice line front rest
-request_advice services line (Some Upgrade) front = rest_advice line front (after_form front)
-request_advice services line (Some Call) front = word_advice (requests_of services) line front (after_form front)
+request_advice services kinds line (Some Upgrade) front = rest_advice line front (after_form front)
+request_advice services kinds line (Some Call) front = word_advice (requests_of services) kinds line front (after_form front)
 
 -- a line has advice if it is run, is a call, and its expected reply isn't meant
-abbrev pub advice_on : List (List ℕ) → Option (List ℕ) → ℕ → List ℕ → List Advice
-advice_on services only number line =
+abbrev pub advice_on : List (List ℕ) → List (List ℕ) → Option (List ℕ) → ℕ → List ℕ → List Advice
+advice_on services kinds only number line =
     if is_skipped only line || (not (begins_as_call (content_of line)) || is_meant (content_of line)) then []
-    else request_advice services number (form_named (form_of line)) (front_of line)
+    else request_advice services kinds number (form_named (form_of line)) (front_of line)
 
 abbrev pub is_newline : ℕ → Bool
 is_newline b = b == 10
@@ -183,6 +205,6 @@ lines_after None = []
 lines_after (Some text) = slice_split is_newline text
 
 -- and each line of a scenario has its own, from this number on; if the lines of one component alone are run, others have none
-abbrev pub scenario_advice : List (List ℕ) → Option (List ℕ) → ℕ → List (List ℕ) → List Advice
-scenario_advice services only number [] = []
-scenario_advice services only number (line ∷ lines) = advice_on services only number line ++ scenario_advice services only (number + 1) lines
+abbrev pub scenario_advice : List (List ℕ) → List (List ℕ) → Option (List ℕ) → ℕ → List (List ℕ) → List Advice
+scenario_advice services kinds only number [] = []
+scenario_advice services kinds only number (line ∷ lines) = advice_on services kinds only number line ++ scenario_advice services kinds only (number + 1) lines

@@ -3,7 +3,7 @@ use Rattle.std.specs.Prelude.{ℕ, List, map}
 use Rattle.std.specs.Option.{option_copied}
 use Rattle.std.specs.Borrow.{Bor}
 use Rattle.line_advice.specs.Advice.{Advice, Reason}
-use Rattle.line_advice.specs.Advice.Reason.{UnknownService, UnknownRequest, UnknownKey, Unread}
+use Rattle.line_advice.specs.Advice.Reason.{UnknownService, UnknownRequest, UnknownKind, UnknownKey, Unread}
 use Rattle.line_advice.specs.declared.advice.LineAdvice.{LineAdvice as Told}
 use Rattle.line_advice.specs.declared.advice.AdviceReason.{AdviceReason}
 use Rattle.line_advice.specs.declared.advice.AdviceReason.TheVariants as told
@@ -15,6 +15,7 @@ texts words = map (λ word. word.now) words
 abbrev pub reason_view : AdviceReason → Reason
 reason_view (told.UnknownService near) = UnknownService (option_copied near)
 reason_view (told.UnknownRequest near) = UnknownRequest near.now
+reason_view (told.UnknownKind near) = UnknownKind (option_copied near)
 reason_view (told.UnknownKey near) = UnknownKey (option_copied near)
 reason_view (told.Unread key) = Unread key
 

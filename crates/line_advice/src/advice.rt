@@ -9,6 +9,8 @@ pub enum AdviceReason<'a> {
     UnknownService(Option<&'a str>),
     /// The text is no request of a session. The request at one edit that may be meant.
     UnknownRequest(&'static str),
+    /// The text is no kind of a server of the start list. The one that may be meant, if one is near.
+    UnknownKind(Option<&'a str>),
     /// The text is no key of session arguments, so its pair is ignored. The one that may be meant, if one is near.
     UnknownKey(Option<&'static str>),
     /// The text is no pair of session arguments, or its value is none of this key.
@@ -49,6 +51,7 @@ impl fmt::Display for AdviceMessage<'_> {
             AdviceReason::UnknownRequest(near) => {
                 show_unknown(f, "request", self.text, Some(near))
             }
+            AdviceReason::UnknownKind(near) => show_unknown(f, "kind", self.text, near),
             AdviceReason::UnknownKey(near) => show_unknown(f, "session argument", self.text, near),
             AdviceReason::Unread(key) => {
                 f.write_str("expected ")?;

@@ -1,13 +1,13 @@
 //! Advice on a line.
 ghost use Rattle.std.specs.Prelude.{◌≡◌, ◌+◌, ◌-◌, ◌<◌, ◌≤◌, ◌^◌, ◌++◌, Some, drop, length, take, OnOk};
 ghost use Rattle.std.specs.Option.{option_copied};
-ghost use Rattle.line_advice.specs.Advice.{advice_on, after_form, column_in, form_of, front_of, request_advice, requests_of, rest_advice, service_advice, word_advice};
+ghost use Rattle.line_advice.specs.Advice.{advice_on, after_form, column_in, form_of, front_of, kind_advice, request_advice, requests_of, rest_advice, service_advice, word_advice};
 ghost use Rattle.line_advice.specs.Views.{advices, texts};
 
 use crate::advice::{AdviceReason, LineAdvice};
 use crate::arguments::{TextPlace, advise_arguments};
 use crate::near::near_in;
-use crate::requests::advise_word;
+use crate::requests::{advise_word, has_kind};
 use crate::services::is_listed;
 use line_friendly::{
     arrow_of, end_of, is_call_line, is_meant, next_word, skip_blanks, trimmed_line,
@@ -23,6 +23,8 @@ pub(crate) struct ListWords<'a, 'b> {
     pub(crate) services: &'b [&'a str],
     /// The words of the services' requests.
     pub(crate) requests: &'b [&'static str],
+    /// The names of the servers' kinds.
+    pub(crate) kinds: &'b [&'a str],
 }
 
 /// A form of calls that have advice.
@@ -69,7 +71,7 @@ pub(crate) fn advise_line<'a>(
 ) -> Result<(), AllocError>
     requires { texts words.requests.now ≡ requests_of (texts words.services.now) }
     ensures { OnOk result (advices found.new.items ≡ advices found.old.items
-        ++ advice_on (texts words.entry.services.now) (option_copied only.entry) number line.now) }
+        ++ advice_on (texts words.entry.services.now) (texts words.entry.kinds.now) (option_copied only.entry) number line.now) }
 {
     let (form, _) = split_form(line);
     // Most lines have no such call, so that few are read to their end.
@@ -93,7 +95,7 @@ fn advise_front<'a>(
 ) -> Result<(), AllocError>
     requires { texts words.requests.now ≡ requests_of (texts words.services.now) }
     ensures { OnOk result (advices found.new.items ≡ advices found.old.items
-        ++ request_advice (texts words.entry.services.now) number (Some form) front.now) }
+        ++ request_advice (texts words.entry.services.now) (texts words.entry.kinds.now) number (Some form) front.now) }
 {
     let (_, rest) = split_form(front);
     match form {
@@ -103,14 +105,14 @@ fn advise_front<'a>(
             advise_rest(alloc, number, front, rest, found)
         }
         AdvisedForm::Upgrade => advise_rest(alloc, number, front, rest, found),
-        AdvisedForm::Call => advise_request(alloc, words.requests, number, front, rest, found),
+        AdvisedForm::Call => advise_request(alloc, words, number, front, rest, found),
     }
 }
 
 // Adds the advice on the request after the first token of the last bytes of a line's front.
 fn advise_request<'a>(
     alloc: Global,
-    requests: &[&'static str],
+    words: ListWords<'a, '_>,
     number: usize,
     front: &[u8],
     rest: &'a [u8],
@@ -118,17 +120,43 @@ fn advise_request<'a>(
 ) -> Result<(), AllocError>
     requires { length rest.now ≤ length front.now }
     ensures { OnOk result (advices found.new.items ≡ advices found.old.items
-        ++ word_advice (texts requests.now) number front.now rest.now) }
+        ++ word_advice (texts words.entry.requests.now) (texts words.entry.kinds.now) number front.now rest.now) }
 {
     let (_, text) = next_word(rest);
-    let (word, _) = next_word(text);
-    advise_word(
-        alloc,
-        requests,
-        place_in(number, front, skip_blanks(text)),
-        word,
-        found,
-    )
+    let (word, after) = next_word(text);
+    let at = place_in(number, front, skip_blanks(text));
+    advise_word(alloc, words.requests, at, word, found)?;
+    if has_kind(words.requests, word) {
+        let at = place_in(number, front, skip_blanks(after));
+        advise_kind(alloc, words.kinds, at, after, found)?;
+    }
+    Ok(())
+}
+
+// Adds the advice on a kind at a place: the first token of a text. What is no name is none of a kind, and is passed over.
+#[tactic(auto, using(crate::proofs::AdviceLemmas::pushed))]
+fn advise_kind<'a>(
+    alloc: Global,
+    kinds: &[&'a str],
+    at: TextPlace,
+    text: &'a [u8],
+    found: &mut Vec<LineAdvice<'a>>,
+) -> Result<(), AllocError>
+    ensures { OnOk result (advices found.new.items
+        ≡ advices found.old.items ++ kind_advice (texts kinds.now) at.line at.column text.now) }
+{
+    let (kind, _) = next_word(text);
+    if !is_name(kind) || is_listed(kinds, kind) {
+        return Ok(());
+    }
+    let near = near_in(alloc, kinds, kind)?;
+    found.push(LineAdvice {
+        line: at.line,
+        column: at.column,
+        text: kind,
+        reason: AdviceReason::UnknownKind(near),
+    })?;
+    Ok(())
 }
 
 // Returns the form of the call that a line makes, its second token, and the text after it.

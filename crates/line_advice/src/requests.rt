@@ -1,7 +1,7 @@
 //! Advice on the requests of sessions.
 ghost use Rattle.std.specs.Prelude.{◌≡◌, ◌++◌, IfOk, OnOk};
 ghost use Rattle.std.specs.Option.{option_copied};
-ghost use Rattle.line_advice.specs.Advice.{misspelt, misspelt_advice, requests_of, words_of};
+ghost use Rattle.line_advice.specs.Advice.{has_kind, misspelt, misspelt_advice, requests_of, words_of};
 ghost use Rattle.line_advice.specs.Views.{advices, texts};
 
 use crate::advice::{AdviceReason, LineAdvice};
@@ -19,6 +19,14 @@ const FILE_REQUESTS: &[&str] = &[
     "CREATE", "WRITE", "READ", "SIZE", "CLEAR", "DROP", "NAME", "STAT", "BUFFER", "UNBUFFER",
     "PUT", "GET",
 ];
+
+/// The words of the requests of a session of a declared server.
+const OBJECT_REQUESTS: &[&str] = &[
+    "MAKE", "RESIZE", "DROP", "COUNT", "NAME", "STAT", "BUFFER", "UNBUFFER",
+];
+
+/// The words of the requests that begin with a kind.
+const KIND_REQUESTS: &[&str] = &["MAKE", "COUNT"];
 
 /// Returns the words of the requests of these services, service by service. Fails if the host is out of memory.
 pub(crate) fn requests_of(alloc: Global, services: &[&str]) -> Result<Vec<&'static str>, AllocError>
@@ -40,7 +48,7 @@ fn add_words(words: &mut Vec<&'static str>, service: &str) -> Result<(), AllocEr
     words.extend_from_slice(words_of(service))
 }
 
-// Returns the words of the requests of a service.
+// Returns the words of the requests of a service. A service that the machine doesn't have built in is a declared one.
 fn words_of(service: &str) -> &'static [&'static str]
     ensures { texts result.now ≡ words_of service.now }
 {
@@ -50,7 +58,14 @@ fn words_of(service: &str) -> &'static [&'static str]
     if service == Service::Log.name() {
         return LOG_REQUESTS;
     }
-    &[]
+    OBJECT_REQUESTS
+}
+
+/// Returns whether a word is that of a request of these which begins with a kind.
+pub(crate) fn has_kind(requests: &[&'static str], word: &[u8]) -> bool
+    ensures { result ≡ has_kind (texts requests.now) word.now }
+{
+    is_listed(requests, word) && is_listed(KIND_REQUESTS, word)
 }
 
 /// Adds the advice on the first word of a request at a place: that it is none of these requests, if one of them is at one edit.

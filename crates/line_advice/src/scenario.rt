@@ -2,49 +2,54 @@
 ghost use Rattle.std.specs.Prelude.{◌≡◌, ◌+◌, ◌∷◌, ◌≤◌, IfOk, IfSome, length};
 ghost use Rattle.std.specs.List.{slice_split};
 ghost use Rattle.std.specs.Option.{option_copied};
-ghost use Rattle.line_advice.specs.Advice.{is_newline, lines_after, scenario_advice};
-ghost use Rattle.line_advice.specs.Services.{services_of};
+ghost use Rattle.line_advice.specs.Advice.{is_newline, lines_after, requests_of, scenario_advice};
+ghost use Rattle.line_advice.specs.Services.{kinds_of, services_of};
 ghost use Rattle.line_advice.specs.Views.{advices, texts};
 
 use crate::advice::LineAdvice;
 use crate::line::{ListWords, advise_line};
 use crate::requests::requests_of;
-use crate::services::services_of;
+use crate::services::{kinds_of, services_of};
 use list_parser::StartList;
 use std::alloc::{AllocError, Global};
 use text_codec::find_byte;
 
-/// Returns the advice on the lines of a scenario's text, in their order, by the services of a start list; on those of the component
-/// `only` alone, if it is some. A line in rounds has its advice once. Fails if the host is out of memory.
+/// Returns the advice on the lines of a scenario's text, in their order, by the services of a start list and the kinds of its
+/// servers; on those of the component `only` alone, if it is some. A line in rounds has its advice once. Fails if the host is out of
+/// memory.
 pub fn advise<'a>(
     alloc: Global,
-    list: &StartList,
+    list: &'a StartList,
     only: Option<&[u8]>,
     text: &'a [u8],
 ) -> Result<Vec<LineAdvice<'a>>, AllocError>
     ensures { IfOk result (λ found. advices found.items
-        ≡ scenario_advice (services_of list.now.entries) (option_copied only.entry) 1
-        (slice_split is_newline text.now)) }
+        ≡ scenario_advice (services_of list.now.entries) (kinds_of list.now.entries)
+        (option_copied only.entry) 1 (slice_split is_newline text.now)) }
 {
     let services = services_of(alloc, list)?;
-    advise_lines(alloc, services.as_slice(), only, text)
+    let requests = requests_of(alloc, services.as_slice())?;
+    let kinds = kinds_of(alloc, list)?;
+    let words = ListWords {
+        services: services.as_slice(),
+        requests: requests.as_slice(),
+        kinds: kinds.as_slice(),
+    };
+    advise_lines(alloc, words, only, text)
 }
 
-// Returns the advice on the lines of a text that are run, where a start list offers these services.
+// Returns the advice on the lines of a text that are run, by the words of a start list.
 fn advise_lines<'a>(
     alloc: Global,
-    services: &[&'a str],
+    words: ListWords<'a, '_>,
     only: Option<&[u8]>,
     text: &'a [u8],
 ) -> Result<Vec<LineAdvice<'a>>, AllocError>
+    requires { texts words.requests.now ≡ requests_of (texts words.services.now) }
     ensures { IfOk result (λ found. advices found.items
-        ≡ scenario_advice (texts services.now) (option_copied only.entry) 1 (slice_split is_newline text.now)) }
+        ≡ scenario_advice (texts words.entry.services.now) (texts words.entry.kinds.now)
+        (option_copied only.entry) 1 (slice_split is_newline text.now)) }
 {
-    let requests = requests_of(alloc, services)?;
-    let words = ListWords {
-        services,
-        requests: requests.as_slice(),
-    };
     let mut found = Vec::new(alloc);
     let mut number = 1;
     let mut rest = Some(text);

@@ -5,14 +5,13 @@ use Rattle.std.specs.Option.{option_map_or}
 use Rattle.std.specs.Str.{bytes_eq}
 use Rattle.std.proofs.lemmas.Bool.Decides.{nat_tests}
 use Rattle.std.proofs.lemmas.List.{drop_all}
-use Rattle.own_model.specs.FileText.{FileReply, file_reply}
-use Rattle.own_model.specs.Reply.{Reply, reply_text}
+use Rattle.own_model.specs.FileText.{FileReply}
 use Rattle.own_model.specs.Reply.Reply.{Selected, Attached, Bytes, Done, Quotas, Reserved, Told, Refused}
 use Rattle.trade_base.specs.Refusal.{refusal_name}
 use Rattle.trade_base.specs.declared.refusal.Refusal.{Refusal}
 use Rattle.trade_base.specs.declared.refusal.Refusal.TheVariants.{BadLine, UnknownComponent, NotAScript, Gone, BadArgs, InvalidSize, InvalidCap, OutOfRam, OutOfCaps, RegionConflict, TooManyRegions, PageFault, TooManyChunks, ServiceDenied, InsufficientRamQuota, InsufficientCapQuota, InvalidSession}
-use Rattle.line_friendly.specs.Expectations.{IsExact, RefusalsAreTold, denies, refuses}
-use Rattle.line_friendly.specs.Expected.{bytes_for, is_refusal, meets, meets_both, meets_words, reply_behind, matched_from, written_in}
+use Rattle.line_friendly.specs.Expectations.{CoreShowsRefusals, ExactRepliesAreEqual, FilesShowRefusals, RefusalsAreTold}
+use Rattle.line_friendly.specs.Expected.{bytes_for, is_refusal, meets_both, meets_words, reply_behind, matched_from, written_in}
 use Rattle.line_friendly.specs.Words.{is_blank}
 use Rattle.line_friendly.proofs.QuoteLemmas.{byte_at}
 use Rattle.line_friendly.proofs.WordLemmas.{place_none}
@@ -124,13 +123,13 @@ no_star : (expected : List ℕ) → list_all is_plain expected ≡ true → byte
 no_star [] all = refl
 no_star (b ∷ bs) all = let front = plain_front b bs all in rw front.0 refl
 
-pub exact_meets : (reply expected : List ℕ) → IsExact expected → meets reply expected ≡ bytes_eq reply expected
+pub exact_meets : ExactRepliesAreEqual
 exact_meets reply expected exact =
     rw (exact.not_granted, exact.not_refused, no_star expected exact.no_sign, not_written expected exact.no_sign) (same_behind true expected reply exact.no_sign)
 
 -- ---- refusals
 
-core_told : (reply : Reply) → is_refusal (reply_text reply) ≡ refuses reply
+core_told : CoreShowsRefusals
 core_told (Selected s) = refl
 core_told (Attached a) = refl
 core_told (Bytes bytes) = refl
@@ -159,7 +158,7 @@ core_told (Refused refusal) = names refusal
     names InsufficientCapQuota = refl
     names InvalidSession = refl
 
-files_told : (reply : FileReply) → is_refusal (file_reply reply) ≡ denies reply
+files_told : FilesShowRefusals
 files_told FileReply.Done = refl
 files_told (FileReply.Count n) = refl
 files_told (FileReply.Bytes []) = refl

@@ -16,13 +16,12 @@ use Rattle.own_model.specs.Call.{Call, Form, Spoken, call_in, form_of, forms, na
 use Rattle.own_model.specs.Text.{FirstWord, address_of, bytes_of_hex, first_word, hex_digit_of, hex_number_after, is_name, is_name_byte, is_path}
 use Rattle.own_model.specs.Transcript.{longest_line}
 use Rattle.line_friendly.specs.Friendly.{FriendlyLine, arrow_of, begins_as_call, fault_in, is_meant, is_passed, said_of_both, said_of_call, said_of_signs, said_of_text, trimmed_line, without_comment, without_mark, without_meant, without_return}
-use Rattle.line_friendly.specs.Theorems.{IsPlain, LaterFormsAreMarked, PlainLinesPass, has_suffix, is_suffixed, is_translated}
+use Rattle.line_friendly.specs.Theorems.{ArrowsFollowSpaces, IsPlain, LaterFormsAreMarked, PlainLinesPass, has_suffix, is_suffixed, is_translated}
 use Rattle.line_friendly.specs.CallParts.{CallTail, parts_of, quoted_or, request_tail, request_text, size_text, sizes_behind, sizes_in, spelled, tail_of, tail_text, takes_text, text_written, word_behind, word_text}
 use Rattle.line_friendly.specs.CallParts.CallTail.{Words, Kept, Sized, Request, Quoted}
-use Rattle.line_friendly.specs.Quotes.{first_outside, inside_quotes, is_arrow, is_comment}
+use Rattle.line_friendly.specs.Quotes.{inside_quotes}
 use Rattle.line_friendly.specs.Words.{Word, is_blank, next_word, skip_blanks, spaced, up_to_blank, words_spaced}
 use Rattle.line_friendly.specs.LineText.{added}
-use Rattle.line_friendly.specs.declared.quotes.QuoteState.TheVariants.{Outside}
 use Rattle.line_friendly.proofs.ExpectedLemmas.{exact_meets}
 use Rattle.line_friendly.proofs.WordLemmas.{words_next}
 
@@ -634,8 +633,27 @@ call_said column line plain spelt =
 both_said : (column : ℕ) (line : List ℕ) → IsPlain line → said_of_both column line ≡ said_of_call column line None
 both_said column line plain = rw (plain.closed, plain.arrow) refl
 
-no_comment_stays : (text : List ℕ) → first_outside is_comment Outside text ≡ None → without_comment text ≡ text
-no_comment_stays text none = rw none refl
+-- ---- lines without the later forms
+
+arrow_is : ArrowsFollowSpaces
+arrow_is [] no_tab = refl
+arrow_is (b ∷ bs) no_tab =
+    let same : is_blank b ≡ nat_eq 32 b = grind (arith, nat_tests) in
+    ap (λ t. t && starts_with nat_eq bs (codes "=> ")) same
+
+pub later_forms_are_marked : LaterFormsAreMarked
+later_forms_are_marked = record {
+  mark = λ line none. rw none refl;
+  comment = λ text none. rw none refl;
+  meant = λ text none. rw none refl;
+  arrow = arrow_is;
+  request = λ blank text plain. ap (λ l. 32 ∷ l) (request_passes text plain);
+  peek = λ rest plain.
+      ap (λ w. spaced w ++ words_spaced false (next_word rest).rest) (plain_size (next_word rest).word plain) ∙ sym (words_next rest);
+  reply = exact_meets;
+}
+
+-- ---- a plain line
 
 -- without an arrow no reply is meant
 no_arrow_stays : (text : List ℕ) → arrow_of text ≡ None → without_meant text ≡ text
@@ -647,7 +665,7 @@ no_arrow_stays text none =
     rw unmeant refl
 
 plain_content : (line : List ℕ) → IsPlain line → without_meant (without_comment line) ≡ line
-plain_content line plain = ap without_meant (no_comment_stays line plain.comment) ∙ no_arrow_stays line plain.arrow
+plain_content line plain = ap without_meant (later_forms_are_marked.comment line plain.comment) ∙ no_arrow_stays line plain.arrow
 
 text_said : (column : ℕ) (line : List ℕ) → IsPlain line → BeginsCall line → said_of_text column line ≡ said_of_both column line
 text_said column line plain front = rw (front.text, front.no_log) (ap (said_of_both column) (plain_content line plain))
@@ -686,32 +704,3 @@ plain_lines_pass line plain =
     let column : ℕ = length line - length line + 1 in
     ap (λ s. said_of_signs (length line - length s + 1) s) front.skipped
     ∙ signs_said column line front plain.ending ∙ text_said column line plain front ∙ both_said column line plain ∙ call_said column line plain spelt
-
--- ---- lines without the later forms
-
-no_mark_signs : (line : List ℕ) → starts_with nat_eq line (239 ∷ 187 ∷ 191 ∷ []) ≡ false → trimmed_line line ≡ skip_blanks line
-no_mark_signs line none = rw none refl
-
-no_meant_stays : (text : List ℕ) → nat_eq (slice_index text (length text - 1)) 33 ≡ false → without_meant text ≡ text
-no_meant_stays text none = rw none refl
-
-arrow_is : (text : List ℕ) → nat_eq (slice_index text 0) 9 ≡ false → is_arrow text ≡ starts_with nat_eq text (codes " => ")
-arrow_is [] no_tab = refl
-arrow_is (b ∷ bs) no_tab =
-    let same : is_blank b ≡ nat_eq 32 b = grind (arith, nat_tests) in
-    ap (λ t. t && starts_with nat_eq bs (codes "=> ")) same
-
-peek_passes : (rest : List ℕ) → is_suffixed (next_word rest).word ≡ false → tail_text (Sized rest) ≡ words_spaced false rest
-peek_passes rest plain =
-    ap (λ w. spaced w ++ words_spaced false (next_word rest).rest) (plain_size (next_word rest).word plain) ∙ sym (words_next rest)
-
-pub later_forms_are_marked : LaterFormsAreMarked
-later_forms_are_marked = record {
-  mark = no_mark_signs;
-  comment = no_comment_stays;
-  meant = no_meant_stays;
-  arrow = arrow_is;
-  request = λ blank text plain. ap (λ l. 32 ∷ l) (request_passes text plain);
-  peek = peek_passes;
-  reply = exact_meets;
-}

@@ -1,9 +1,10 @@
 -- Where a text is cut into words.
-use Rattle.std.proofs.Common.{◌≡◌, ℕ, ◌+◌, ◌<◌, ◌≤◌, Bool, true, false, cond, List, [], ◌∷◌, ◌++◌, length, take, drop, position, Option, Some, None, refl, sym, ap, ◌∙◌, arith, subst}
+use Rattle.std.proofs.Common.{◌≡◌, ℕ, suc, ◌+◌, ◌<◌, ◌≤◌, Bool, true, false, cond, List, [], ◌∷◌, ◌++◌, length, take, drop, position, Option, Some, None, refl, sym, ap, ◌∙◌, arith, subst}
 use Rattle.std.specs.Prelude.{not}
-use Rattle.std.specs.List.{position_or_len}
+use Rattle.std.specs.List.{position_or_len, slice_split}
 use Rattle.std.proofs.lemmas.Bool.Decides.{nat_tests}
-use Rattle.std.proofs.lemmas.List.Sums.{prefix_len-le-length}
+use Rattle.std.proofs.lemmas.List.Splits.{slice_split_none}
+use Rattle.std.proofs.lemmas.List.Sums.{fails_before_first, prefix_len-le-length}
 use Rattle.line_friendly.specs.Words.{Word, is_blank, next_word, skip_blanks, spaced, up_to_blank, words_spaced}
 
 -- the first place that passes, or the end
@@ -17,19 +18,21 @@ place_none p xs none =
 
 pub ruleset places = (place_found, place_none)
 
--- what is behind one byte more
-drop_more : (n b : ℕ) (bs : List ℕ) → drop (1 + n) (b ∷ bs) ≡ drop n bs
-drop_more n b bs = grind (arith, nat_tests)
+-- a text is one piece if no place passes
+pub split_nowhere : (p : ℕ → Bool) (text : List ℕ) → position p text ≡ None → slice_split p text ≡ text ∷ []
+split_nowhere p text none =
+    slice_split_none p text (λ k d within. fails_before_first p text k d (omega (arith, within, place_none p text none)))
 
-take_more : (n b : ℕ) (bs : List ℕ) → take (1 + n) (b ∷ bs) ≡ b ∷ take n bs
-take_more n b bs = grind (arith, nat_tests)
+-- one byte more
+one_more : (n : ℕ) → suc n ≡ 1 + n
+one_more n = omega arith
 
 -- the blanks at the front are passed
 pub skipped : (text : List ℕ) → skip_blanks text ≡ drop (position_or_len (λ b. not (is_blank b)) text) text
 skipped [] = refl
 skipped (b ∷ bs) =
     elim (is_blank b) as (λ t. cond t (skip_blanks bs) (b ∷ bs) ≡ drop (cond (not (not t)) (1 + position_or_len (λ b. not (is_blank b)) bs) 0) (b ∷ bs)) [
-      | true ↦ skipped bs ∙ sym (drop_more (position_or_len (λ b. not (is_blank b)) bs) b bs)
+      | true ↦ skipped bs ∙ ap (λ k. drop k (b ∷ bs)) (one_more (position_or_len (λ b. not (is_blank b)) bs))
       | false ↦ refl
     ]
 
@@ -45,10 +48,8 @@ parted (b ∷ bs) =
     ≡ parted_at (cond (not t) (1 + position_or_len is_blank bs) 0) (b ∷ bs)) [
       | true ↦ refl
       | false ↦
-          let n : ℕ = position_or_len is_blank bs in
           ap (λ (w : Word). record { word = b ∷ w.word; rest = w.rest }) (parted bs)
-          ∙ ap (λ l. record { word = l; rest = drop n bs }) (sym (take_more n b bs))
-          ∙ ap (λ l. record { word = take (1 + n) (b ∷ bs); rest = l }) (sym (drop_more n b bs))
+          ∙ ap (λ k. parted_at k (b ∷ bs)) (one_more (position_or_len is_blank bs))
     ]
 
 -- from within a word on, it is told and then the words behind it

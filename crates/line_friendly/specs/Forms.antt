@@ -1,5 +1,5 @@
 -- The kinds of the arguments after the forms of calls, and the form that may be meant.
-use Rattle.std.specs.Prelude.{ℕ, ◌==◌, ◌||◌, Bool, true, false, List, [], ◌∷◌, find, length, if◌then◌else◌, Option}
+use Rattle.std.specs.Prelude.{ℕ, ◌==◌, ◌&&◌, ◌||◌, Bool, true, false, List, [], ◌∷◌, find, length, if◌then◌else◌, Option}
 use Rattle.std.specs.Str.{bytes_eq}
 use Rattle.line_grammar.specs.Forms.{forms, word_of}
 use Rattle.line_grammar.specs.declared.form.CallForm.{CallForm}
@@ -41,13 +41,21 @@ has_text Request = true
 has_text Yield = true
 has_text form = false
 
--- two texts differ by one byte that is left out, put in or replaced
+-- two texts differ by the order of their first two bytes alone
+abbrev pub are_exchanged : List ℕ → List ℕ → Bool
+are_exchanged [] written = false
+are_exchanged (first ∷ []) written = false
+are_exchanged (first ∷ second ∷ xs) [] = false
+are_exchanged (first ∷ second ∷ xs) (other ∷ []) = false
+are_exchanged (first ∷ second ∷ xs) (other ∷ next ∷ ys) = (first == next) && ((second == other) && bytes_eq xs ys)
+
+-- two texts differ by one byte that is left out, put in or replaced, or by the order of two neighbouring bytes
 abbrev pub is_one_edit : List ℕ → List ℕ → Bool
 is_one_edit [] written = length written == 1
 is_one_edit (x ∷ xs) [] = length (x ∷ xs) == 1
 is_one_edit (x ∷ xs) (y ∷ ys) =
     if x == y then is_one_edit xs ys
-    else bytes_eq xs ys || (bytes_eq xs (y ∷ ys) || bytes_eq (x ∷ xs) ys)
+    else bytes_eq xs ys || (bytes_eq xs (y ∷ ys) || (bytes_eq (x ∷ xs) ys || are_exchanged (x ∷ xs) (y ∷ ys)))
 
 -- the first form that may be meant by a token
 abbrev pub form_near : List ℕ → Option CallForm

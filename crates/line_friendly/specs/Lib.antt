@@ -8,6 +8,7 @@ pub mod Expected
 pub mod Expectations
 pub mod Forms
 pub mod CallFault
+pub mod Messages
 pub mod Friendly
 pub mod Says
 pub mod Theorems

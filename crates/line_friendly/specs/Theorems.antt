@@ -1,13 +1,11 @@
 -- Theorems about every line of the friendly form.
 use Rattle.std.specs.Prelude.{◌≡◌, ◌-◌, ◌≤◌, ◌==◌, ◌&&◌, ◌||◌, Bool, true, false, List, [], ◌∷◌, ℕ, length, drop, codes, nat_eq, position, slice_index, is_none, is_some, Option, Some, None, Ok}
 use Rattle.std.specs.List.{starts_with}
-use Rattle.std.specs.Str.{bytes_eq}
 use Rattle.trade_base.specs.Amount.{amount_of, number_of}
 use Rattle.own_model.specs.Call.{parsed_call}
 use Rattle.own_model.specs.Text.{first_word}
 use Rattle.own_model.specs.Transcript.{longest_line}
-use Rattle.line_friendly.specs.Expectations.{IsExact}
-use Rattle.line_friendly.specs.Expected.{meets}
+use Rattle.line_friendly.specs.Expectations.{ExactRepliesAreEqual}
 use Rattle.line_friendly.specs.Friendly.{arrow_of, expects_bad_line, said_of, trimmed_line, without_comment, without_meant, without_return}
 use Rattle.line_friendly.specs.Friendly.FriendlyLine.{Call}
 use Rattle.line_friendly.specs.CallParts.{CallTail, kept_text, parts_of, sizes_in, tail_text}
@@ -65,13 +63,17 @@ pub record IsBare (line : List ℕ) : Type 0 where
 abbrev pub PlainLinesPass : Type 0
 PlainLinesPass = (line : List ℕ) → IsPlain line → said_of line ≡ Ok (Call line None)
 
+-- a text that doesn't begin with a tab begins with an arrow if the arrow is after a space
+abbrev pub ArrowsFollowSpaces : Type 0
+ArrowsFollowSpaces = (text : List ℕ) → nat_eq (slice_index text 0) 9 ≡ false → is_arrow text ≡ starts_with nat_eq text (codes " => ")
+
 -- a line that has none of the later forms says what it said before there were any
 pub record LaterFormsAreMarked : Type 0 where
   pub mark : (line : List ℕ) → starts_with nat_eq line (239 ∷ 187 ∷ 191 ∷ []) ≡ false → trimmed_line line ≡ skip_blanks line
   pub comment : (text : List ℕ) → first_outside is_comment Outside text ≡ None → without_comment text ≡ text
   pub meant : (text : List ℕ) → nat_eq (slice_index text (length text - 1)) 33 ≡ false → without_meant text ≡ text
-  pub arrow : (text : List ℕ) → nat_eq (slice_index text 0) 9 ≡ false → is_arrow text ≡ starts_with nat_eq text (codes " => ")
+  pub arrow : ArrowsFollowSpaces
   pub request : (blank : ℕ) (text : List ℕ) → has_suffix (sizes_in (first_word text).word) (first_word text).rest ≡ false →
       tail_text (Request (blank ∷ text)) ≡ kept_text (blank ∷ text)
   pub peek : (rest : List ℕ) → is_suffixed (next_word rest).word ≡ false → tail_text (Sized rest) ≡ words_spaced false rest
-  pub reply : (reply expected : List ℕ) → IsExact expected → meets reply expected ≡ bytes_eq reply expected
+  pub reply : ExactRepliesAreEqual

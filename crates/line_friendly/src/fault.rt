@@ -1,4 +1,6 @@
 //! The faults of lines.
+ghost use Rattle.std.specs.Prelude.{◌≡◌, Some};
+ghost use Rattle.line_friendly.specs.Messages.{first_words, form_words, line_message, shows_text, text_if, token_text};
 
 use line_grammar::CallForm;
 use std::fmt;
@@ -42,12 +44,17 @@ pub enum LineReason {
 
 impl LineReason {
     /// Returns the message about this text of the line, which begins at the fault's column and may be empty.
-    pub fn about(self, text: &str) -> LineMessage<'_> {
+    pub fn about(self, text: &str) -> LineMessage<'_>
+        ensures reason { result.reason ≡ self }
+        ensures text { result.text.now ≡ text.now }
+    {
         LineMessage { reason: self, text }
     }
 
     // Returns the first words of the message.
-    fn first_words(self) -> &'static str {
+    fn first_words(self) -> &'static str
+        ensures { result.now ≡ first_words self }
+    {
         match self {
             LineReason::OpenQuote => "unclosed quote",
             LineReason::BadEscape => "unknown escape; expected \\n, \\t, \\\", \\\\ or \\xNN",
@@ -70,7 +77,9 @@ impl LineReason {
     }
 
     // Returns whether the text of the line follows the first words.
-    fn shows_text(self) -> bool {
+    fn shows_text(self) -> bool
+        ensures { result ≡ shows_text self }
+    {
         match self {
             LineReason::OpenQuote
             | LineReason::BadEscape
@@ -90,12 +99,52 @@ pub struct LineMessage<'a> {
 }
 
 impl fmt::Display for LineMessage<'_> {
+    ghost output = { λ message. Some (line_message message.reason message.text.now) };
+
     fn fmt<W: fmt::Write>(&self, f: &mut fmt::Formatter<W>) -> fmt::Result {
         f.write_str(self.reason.first_words())?;
-        if self.reason.shows_text() {
-            show_text(f, self.text)?;
+        write!(
+            f,
+            "{}",
+            LineToken {
+                text: self.text,
+                is_shown: self.reason.shows_text(),
+            }
+        )?;
+        write!(f, "{}", FormWords(self.reason))
+    }
+}
+
+// A text of the line in backquotes, or that there is none; nothing if it isn't shown.
+#[derive(Clone, Copy)]
+struct LineToken<'a> {
+    text: &'a str,
+    is_shown: bool,
+}
+
+impl fmt::Display for LineToken<'_> {
+    ghost output = { λ token. Some (text_if token.is_shown token.text.now) };
+
+    fn fmt<W: fmt::Write>(&self, f: &mut fmt::Formatter<W>) -> fmt::Result {
+        if !self.is_shown {
+            Ok(())
+        } else if self.text.is_empty() {
+            f.write_str(" nothing")
+        } else {
+            write!(f, " `{}`", self.text)
         }
-        match self.reason {
+    }
+}
+
+// The form that is expected, or that may be meant.
+#[derive(Clone, Copy)]
+struct FormWords(LineReason);
+
+impl fmt::Display for FormWords {
+    ghost output = { λ words. Some (form_words words.0) };
+
+    fn fmt<W: fmt::Write>(&self, f: &mut fmt::Formatter<W>) -> fmt::Result {
+        match self.0 {
             LineReason::Misspelt(form) => write!(f, "; did you mean `{form}`?"),
             LineReason::Missing(form) | LineReason::TooMany(form) => write!(
                 f,
@@ -103,15 +152,6 @@ impl fmt::Display for LineMessage<'_> {
             ),
             _ => Ok(()),
         }
-    }
-}
-
-// A text of the line in backquotes, or that there is none.
-fn show_text<W: fmt::Write>(f: &mut fmt::Formatter<W>, text: &str) -> fmt::Result {
-    if text.is_empty() {
-        f.write_str(" nothing")
-    } else {
-        write!(f, " `{text}`")
     }
 }
 

@@ -1,6 +1,6 @@
 //! The arguments that the forms of calls need.
 ghost use Rattle.std.specs.Prelude.{◌≡◌};
-ghost use Rattle.line_friendly.specs.Forms.{form_near, has_text, is_one_edit, kinds_of};
+ghost use Rattle.line_friendly.specs.Forms.{are_exchanged, form_near, has_text, is_one_edit, kinds_of};
 
 use line_grammar::CallForm;
 
@@ -65,7 +65,7 @@ pub(crate) fn form_near(word: &[u8]) -> Option<CallForm>
         .find(|form| is_one_edit(form.word(), word))
 }
 
-/// Returns whether two texts differ by one byte that is left out, put in or replaced.
+/// Returns whether two texts differ by one byte that is left out, put in or replaced, or by the order of two neighbouring bytes.
 pub fn is_one_edit(meant: &[u8], written: &[u8]) -> bool
     ensures { result ≡ is_one_edit meant.now written.now }
 {
@@ -78,5 +78,18 @@ pub fn is_one_edit(meant: &[u8], written: &[u8]) -> bool
     if x == y {
         return is_one_edit(xs, ys);
     }
-    xs == ys || xs == written || meant == ys
+    xs == ys || xs == written || meant == ys || are_exchanged(meant, written)
+}
+
+// Returns whether two texts differ by the order of their first two bytes alone.
+fn are_exchanged(meant: &[u8], written: &[u8]) -> bool
+    ensures { result ≡ are_exchanged meant.now written.now }
+{
+    let [first, second, xs @ ..] = meant else {
+        return false;
+    };
+    let [other, next, ys @ ..] = written else {
+        return false;
+    };
+    first == next && second == other && xs == ys
 }

@@ -54,6 +54,31 @@ word_of Reserve = codes "reserve"
 word_of Request = codes "request"
 word_of Yield = codes "yield"
 
+-- a form as it is printed: its token and its arguments
+abbrev pub form_text : CallForm → List ℕ
+form_text Alloc = codes "alloc N"
+form_text Free = codes "free S"
+form_text Attach = codes "attach S"
+form_text AttachAt = codes "attach_at S A"
+form_text Detach = codes "detach A"
+form_text Peek = codes "peek A LEN"
+form_text Poke = codes "poke A HEX"
+form_text Capalloc = codes "capalloc"
+form_text Capfree = codes "capfree S"
+form_text New = codes "new N"
+form_text Del = codes "del A"
+form_text Snew = codes "snew N"
+form_text Sdel = codes "sdel A"
+form_text Open = codes "open SERVICE ARGS"
+form_text Upgrade = codes "upgrade S ARGS"
+form_text Call = codes "call S REQUEST"
+form_text Close = codes "close S"
+form_text Exit = codes "exit"
+form_text Quota = codes "quota"
+form_text Reserve = codes "reserve"
+form_text Request = codes "request ARGS"
+form_text Yield = codes "yield ARGS"
+
 -- the form of a token
 abbrev pub form_named : List ℕ → Option CallForm
 form_named word = find (λ form. bytes_eq word (word_of form)) forms

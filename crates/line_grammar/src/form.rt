@@ -1,6 +1,6 @@
 //! The forms of calls, each by the token that names it in a line.
-ghost use Rattle.std.specs.Prelude.{◌≡◌};
-ghost use Rattle.line_grammar.specs.Forms.{form_named, forms, word_of};
+ghost use Rattle.std.specs.Prelude.{◌≡◌, Some};
+ghost use Rattle.line_grammar.specs.Forms.{form_named, form_text, forms, word_of};
 
 use std::fmt;
 
@@ -54,31 +54,10 @@ pub enum CallForm {
 }
 
 impl fmt::Display for CallForm {
+    ghost output = { λ form. Some (form_text form) };
+
     fn fmt<W: fmt::Write>(&self, f: &mut fmt::Formatter<W>) -> fmt::Result {
-        f.write_str(match self {
-            CallForm::Alloc => "alloc N",
-            CallForm::Free => "free S",
-            CallForm::Attach => "attach S",
-            CallForm::AttachAt => "attach_at S A",
-            CallForm::Detach => "detach A",
-            CallForm::Peek => "peek A LEN",
-            CallForm::Poke => "poke A HEX",
-            CallForm::Capalloc => "capalloc",
-            CallForm::Capfree => "capfree S",
-            CallForm::New => "new N",
-            CallForm::Del => "del A",
-            CallForm::Snew => "snew N",
-            CallForm::Sdel => "sdel A",
-            CallForm::Open => "open SERVICE ARGS",
-            CallForm::Upgrade => "upgrade S ARGS",
-            CallForm::Call => "call S REQUEST",
-            CallForm::Close => "close S",
-            CallForm::Exit => "exit",
-            CallForm::Quota => "quota",
-            CallForm::Reserve => "reserve",
-            CallForm::Request => "request ARGS",
-            CallForm::Yield => "yield ARGS",
-        })
+        f.write_str(self.text())
     }
 }
 
@@ -151,5 +130,35 @@ impl CallForm {
             .iter()
             .copied()
             .find(|form| word == form.word())
+    }
+
+    // Returns the token of the form and its arguments.
+    fn text(self) -> &'static str
+        ensures { result.now ≡ form_text self }
+    {
+        match self {
+            CallForm::Alloc => "alloc N",
+            CallForm::Free => "free S",
+            CallForm::Attach => "attach S",
+            CallForm::AttachAt => "attach_at S A",
+            CallForm::Detach => "detach A",
+            CallForm::Peek => "peek A LEN",
+            CallForm::Poke => "poke A HEX",
+            CallForm::Capalloc => "capalloc",
+            CallForm::Capfree => "capfree S",
+            CallForm::New => "new N",
+            CallForm::Del => "del A",
+            CallForm::Snew => "snew N",
+            CallForm::Sdel => "sdel A",
+            CallForm::Open => "open SERVICE ARGS",
+            CallForm::Upgrade => "upgrade S ARGS",
+            CallForm::Call => "call S REQUEST",
+            CallForm::Close => "close S",
+            CallForm::Exit => "exit",
+            CallForm::Quota => "quota",
+            CallForm::Reserve => "reserve",
+            CallForm::Request => "request ARGS",
+            CallForm::Yield => "yield ARGS",
+        }
     }
 }

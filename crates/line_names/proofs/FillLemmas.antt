@@ -1,16 +1,11 @@
 -- A line that is filled piece by piece.
-use Rattle.std.proofs.Common.{◌≡◌, ℕ, ◌+◌, ◌-◌, ◌<◌, ◌≤◌, Bool, true, false, cond, nat_lt, zero, suc, List, [], ◌∷◌, length, drop, get_or, Result, Ok, Err, refl, sym, ap, ◌∙◌, arith, add-one}
-use Rattle.std.proofs.Math.Seq.{drop-cons}
-use Rattle.std.proofs.lemmas.List.{drop-drop, drop_all, length-drop}
+use Rattle.std.proofs.Common.{◌≡◌, ℕ, ◌+◌, ◌-◌, ◌<◌, ◌≤◌, Bool, true, false, cond, nat_lt, zero, suc, List, [], ◌∷◌, length, drop, get_or, Result, Ok, Err, refl, sym, ap, ◌∙◌, arith}
+use Rattle.std.proofs.lemmas.List.{drop-drop, drop_all, drop_more, length-drop}
 use Rattle.line_names.specs.Filling.{Made, Piece, BindingZone, filled_from, is_dollar, piece_at, source_from, step_of, told_at}
 use Rattle.line_names.specs.NameTable.{NameTable}
 use Rattle.line_names.specs.Sums.{and_then}
 use Rattle.line_names.specs.declared.fault.NameFault.{NameFault}
 use Rattle.line_names.specs.declared.fault.NameReason.{NameReason}
-
--- what is behind the first byte
-at_front : (text : List ℕ) (at : ℕ) → at < length text → drop at text ≡ get_or text at 0 ∷ drop (at + 1) text
-at_front text at within = rw add-one (drop-cons text at 0 within)
 
 behind_piece : (text : List ℕ) (at size : ℕ) → 1 ≤ size → drop (size - 1) (drop (at + 1) text) ≡ drop (at + size) text
 behind_piece text at size some =
@@ -42,7 +37,7 @@ module _ (known : NameTable) (zone : BindingZone) (place : ℕ) (made : Made) (t
       ≡ and_then (told_at (place + at) (step_of known zone (place + at) made (drop at text)))
       (λ more. filled_from known zone ((piece_at known (drop at text)).size - 1) (place + at + 1) more (drop (at + 1) text))
   filled_here =
-      let cut : drop at text ≡ get_or text at 0 ∷ drop (at + 1) text = at_front text at within in
+      let cut : drop at text ≡ get_or text at 0 ∷ drop (at + 1) text = drop_more text at 0 within in
       ap (filled_from known zone 0 (place + at) made) cut
       ∙ ap (λ l. and_then (told_at (place + at) (step_of known zone (place + at) made l)) (λ more. filled_from known zone ((piece_at known l).size - 1) (place + at + 1) more (drop (at + 1) text))) (sym cut)
 
@@ -81,7 +76,7 @@ module _ (known : NameTable) (left : ℕ) (text : List ℕ) (at : ℕ) (within :
       ≡ (cond (nat_lt left (length (piece_at known (drop at text)).text)) (cond (is_dollar (get_or text at 0)) 0 left)
       (1 + source_from known ((piece_at known (drop at text)).size - 1) (left - length (piece_at known (drop at text)).text) (drop (at + 1) text)))
   source_at =
-      let cut : drop at text ≡ get_or text at 0 ∷ drop (at + 1) text = at_front text at within in
+      let cut : drop at text ≡ get_or text at 0 ∷ drop (at + 1) text = drop_more text at 0 within in
       ap (source_from known 0 left) cut
       ∙ ap (λ l. cond (nat_lt left (length (piece_at known l).text)) (cond (is_dollar (get_or text at 0)) 0 left)
       (1 + source_from known ((piece_at known l).size - 1) (left - length (piece_at known l).text) (drop (at + 1) text))) (sym cut)

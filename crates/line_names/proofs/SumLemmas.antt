@@ -1,7 +1,6 @@
 -- Sums, one after another.
-use Rattle.std.proofs.Common.{◌≡◌, ℕ, ◌+◌, ◌-◌, ◌<◌, ◌≤◌, Bool, true, false, cond, zero, suc, List, [], ◌∷◌, length, take, drop, get_or, Option, Result, Ok, Err, refl, sym, ap, ◌∙◌, arith, add-one}
-use Rattle.std.proofs.Math.Seq.{drop-cons}
-use Rattle.std.proofs.lemmas.List.{drop-drop, length-drop}
+use Rattle.std.proofs.Common.{◌≡◌, ℕ, ◌+◌, ◌-◌, ◌<◌, ◌≤◌, Bool, true, false, cond, zero, suc, List, [], ◌∷◌, length, take, drop, get_or, Option, Result, Ok, Err, refl, sym, ap, ◌∙◌, arith}
+use Rattle.std.proofs.lemmas.List.{drop-drop, drop_more, length-drop}
 use Rattle.line_names.specs.Sums.{and_then, begins_sum, count_length, count_of, sum_of, sums_from, total_from}
 use Rattle.line_names.specs.declared.fault.NameReason.{NameReason}
 
@@ -15,10 +14,6 @@ sums_skip : (skip : ℕ) (text : List ℕ) → skip ≤ length text → sums_fro
 sums_skip zero text within = omega arith
 sums_skip (suc skip) [] within = absurd (omega (arith, within))
 sums_skip (suc skip) (b ∷ bs) within = omega (arith, sums_skip skip bs (omega (arith, within)))
-
--- what is behind the first byte
-at_front : (text : List ℕ) (at : ℕ) → at < length text → drop at text ≡ get_or text at 0 ∷ drop (at + 1) text
-at_front text at within = rw add-one (drop-cons text at 0 within)
 
 behind_both : (text : List ℕ) (at n : ℕ) → drop n (drop (at + 1) text) ≡ drop (at + (1 + n)) text
 behind_both text at n = let e : (at + 1) + n ≡ at + (1 + n) = omega arith in drop-drop n (at + 1) text ∙ ap (λ k. drop k text) e
@@ -36,7 +31,7 @@ module _ (text behind : List ℕ) (total at n : ℕ) (count : Option ℕ) (withi
     (is : behind ≡ drop (at + 1) text) (ends : n ≡ count_length behind) (counts : count ≡ count_of (take n behind)) where
   total_here : total_from 0 total (drop at text) ≡ and_then (sum_of total count) (λ t. total_from n t behind)
   total_here =
-      let cut : drop at text ≡ get_or text at 0 ∷ behind = at_front text at within ∙ ap (λ l. get_or text at 0 ∷ l) (sym is) in
+      let cut : drop at text ≡ get_or text at 0 ∷ behind = drop_more text at 0 within ∙ ap (λ l. get_or text at 0 ∷ l) (sym is) in
       let starts : begins_sum (get_or text at 0 ∷ behind) ≡ true = ap begins_sum (sym cut) ∙ begins in
       let word : count_of (take (count_length behind) behind) ≡ count = ap (λ k. count_of (take k behind)) (sym ends) ∙ sym counts in
       ap (total_from 0 total) cut ∙ total_front total (get_or text at 0) behind starts
@@ -53,7 +48,7 @@ module _ (text behind : List ℕ) (total at n : ℕ) (count : Option ℕ) (withi
 
   pub sums_step : n ≤ length behind → at + sums_from 0 (drop at text) ≡ (at + (1 + n)) + sums_from 0 (drop (at + (1 + n)) text)
   sums_step fits =
-      let cut : drop at text ≡ get_or text at 0 ∷ behind = at_front text at within ∙ ap (λ l. get_or text at 0 ∷ l) (sym is) in
+      let cut : drop at text ≡ get_or text at 0 ∷ behind = drop_more text at 0 within ∙ ap (λ l. get_or text at 0 ∷ l) (sym is) in
       let starts : begins_sum (get_or text at 0 ∷ behind) ≡ true = ap begins_sum (sym cut) ∙ begins in
       let here : sums_from 0 (drop at text) ≡ 1 + (n + sums_from 0 (drop n behind)) =
       ap (sums_from 0) cut ∙ sums_front (get_or text at 0) behind starts ∙ ap (λ k. 1 + sums_from k behind) (sym ends)

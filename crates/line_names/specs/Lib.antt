@@ -12,3 +12,4 @@ pub mod RoundMarks
 pub mod Tokens
 pub mod Lists
 pub mod ListViews
+pub mod Messages

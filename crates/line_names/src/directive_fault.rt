@@ -1,6 +1,7 @@
 //! Directives that can't be followed in a run line by line.
-ghost use Rattle.std.specs.Prelude.{◌≡◌, IfNone, IfSome, false, true};
-ghost use Rattle.line_names.specs.DirectiveFault.{is_misplaced};
+ghost use Rattle.std.specs.Prelude.{◌≡◌, Some};
+ghost use Rattle.line_names.specs.DirectiveFault.{why_misplaced};
+ghost use Rattle.line_names.specs.Messages.{directive_message};
 ghost use Rattle.line_names.specs.Views.{directive_view};
 
 use crate::directives::Directive;
@@ -19,7 +20,9 @@ pub enum DirectiveFault {
 
 impl DirectiveFault {
     /// Returns the message about the directive, without a final stop.
-    pub fn words(self) -> &'static str {
+    pub fn words(self) -> &'static str
+        ensures { result.now ≡ directive_message self }
+    {
         match self {
             DirectiveFault::Repeat => "`@repeat` needs a scenario that is a file",
             DirectiveFault::End => "`@end` needs a scenario that is a file",
@@ -30,6 +33,8 @@ impl DirectiveFault {
 }
 
 impl fmt::Display for DirectiveFault {
+    ghost output = { λ fault. Some (directive_message fault) };
+
     fn fmt<W: fmt::Write>(&self, f: &mut fmt::Formatter<W>) -> fmt::Result {
         f.write_str(self.words())
     }
@@ -38,8 +43,7 @@ impl fmt::Display for DirectiveFault {
 impl Directive<'_> {
     /// Returns why the directive can't be followed, or nothing if it can.
     pub fn misplaced(self) -> Option<DirectiveFault>
-        ensures none { IfNone result (is_misplaced (directive_view self.entry) ≡ false) }
-        ensures some { IfSome result (λ _. is_misplaced (directive_view self.entry) ≡ true) }
+        ensures { result ≡ why_misplaced (directive_view self.entry) }
     {
         match self {
             Directive::Repeat => Some(DirectiveFault::Repeat),

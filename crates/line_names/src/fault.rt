@@ -1,4 +1,6 @@
 //! The faults of names in lines.
+ghost use Rattle.std.specs.Prelude.{◌≡◌, Some};
+ghost use Rattle.line_names.specs.Messages.{first_words, name_message};
 
 use std::fmt;
 
@@ -25,12 +27,17 @@ pub enum NameReason {
 
 impl NameReason {
     /// Returns the message about this text of the line, which begins with the name's `$`.
-    pub fn about(self, text: &str) -> NameMessage<'_> {
+    pub fn about(self, text: &str) -> NameMessage<'_>
+        ensures reason { result.reason ≡ self }
+        ensures text { result.text.now ≡ text.now }
+    {
         NameMessage { reason: self, text }
     }
 
     // Returns the words before the text.
-    fn first_words(self) -> &'static str {
+    fn first_words(self) -> &'static str
+        ensures { result.now ≡ first_words self }
+    {
         match self {
             NameReason::UnknownName => "unknown name",
             NameReason::OpenBrace => "expected a name in braces, found",
@@ -52,6 +59,8 @@ pub struct NameMessage<'a> {
 }
 
 impl fmt::Display for NameMessage<'_> {
+    ghost output = { λ message. Some (name_message message.reason message.text.now) };
+
     fn fmt<W: fmt::Write>(&self, f: &mut fmt::Formatter<W>) -> fmt::Result {
         write!(f, "{} `{}`", self.reason.first_words(), self.text)
     }

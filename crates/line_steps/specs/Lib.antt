@@ -1,3 +1,4 @@
 pub mod RunPosition
 pub mod ResolvedLines
 pub mod ResolvedViews
+pub mod Messages

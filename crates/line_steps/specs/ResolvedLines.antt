@@ -7,10 +7,11 @@ use Rattle.line_friendly.specs.Friendly.{FriendlyLine, said_of, trimmed_line}
 use Rattle.line_friendly.specs.Friendly.FriendlyLine.{Nothing as NoContent, Log as LogContent, Call as CallContent}
 use Rattle.line_friendly.specs.Words.{next_word}
 use Rattle.line_friendly.specs.declared.fault.FriendlyFault.{FriendlyFault}
-use Rattle.line_names.specs.DirectiveFault.{is_misplaced}
+use Rattle.line_names.specs.DirectiveFault.{why_misplaced}
 use Rattle.line_names.specs.Directives.{Directive, directive_of}
 use Rattle.line_names.specs.Filling.{FilledLine, filled, source_column}
 use Rattle.line_names.specs.NameTable.{NameTable}
+use Rattle.line_names.specs.declared.directive_fault.DirectiveFault.{DirectiveFault}
 use Rattle.line_names.specs.declared.fault.NameFault.{NameFault}
 
 -- a line is too long to be read; or it is another component's, and is skipped; or it can't be filled with the values of names; or
@@ -21,7 +22,7 @@ pub data ResolvedLine : Type 0 where
   Skipped : ResolvedLine
   BadName : NameFault → ResolvedLine
   Follow : Directive → ResolvedLine
-  Misplaced : ℕ → ResolvedLine
+  Misplaced : ℕ → DirectiveFault → ResolvedLine
   Nothing : ResolvedLine
   Log : List ℕ → ResolvedLine
   Call : FilledLine → List ℕ → Option (List ℕ) → ResolvedLine
@@ -48,8 +49,13 @@ is_skipped (Some name) line = is_other_path (first_token line) name
 abbrev pub start_column : List ℕ → ℕ
 start_column line = length line - length (trimmed_line line) + 1
 
+-- a directive is followed, unless there is a reason why it can't be
+abbrev pub resolved_unless : ℕ → Directive → Option DirectiveFault → ResolvedLine
+resolved_unless column directive None = Follow directive
+resolved_unless column directive (Some why) = Misplaced column why
+
 abbrev pub resolved_directive : List ℕ → Directive → ResolvedLine
-resolved_directive line directive = if is_misplaced directive then Misplaced (start_column line) else Follow directive
+resolved_directive line directive = resolved_unless (start_column line) directive (why_misplaced directive)
 
 -- a line that was filled with the values of names, by what it says
 abbrev pub resolved_content : NameTable → List ℕ → FilledLine → Result FriendlyLine FriendlyFault → ResolvedLine
@@ -79,7 +85,7 @@ resolved_line only known line =
 abbrev pub is_unread : ResolvedLine → Bool
 is_unread TooLong = true
 is_unread (BadName fault) = true
-is_unread (Misplaced column) = true
+is_unread (Misplaced column why) = true
 is_unread (BadLine fault) = true
 is_unread Skipped = false
 is_unread (Follow directive) = false

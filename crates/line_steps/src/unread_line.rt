@@ -1,5 +1,6 @@
 //! Lines that can't be parsed.
-ghost use Rattle.std.specs.Prelude.{◌≡◌, is_some};
+ghost use Rattle.std.specs.Prelude.{◌≡◌, Some, is_some};
+ghost use Rattle.line_steps.specs.Messages.{unread_message};
 ghost use Rattle.line_steps.specs.ResolvedLines.{is_unread};
 ghost use Rattle.line_steps.specs.ResolvedViews.{resolved_view};
 
@@ -39,7 +40,10 @@ impl UnreadReason {
     }
 
     /// Returns the message about this text of the line, which begins at the column.
-    pub fn about(self, text: &str) -> UnreadMessage<'_> {
+    pub fn about(self, text: &str) -> UnreadMessage<'_>
+        ensures why { result.why ≡ self }
+        ensures text { result.text.now ≡ text.now }
+    {
         UnreadMessage { why: self, text }
     }
 }
@@ -52,6 +56,8 @@ pub struct UnreadMessage<'a> {
 }
 
 impl fmt::Display for UnreadMessage<'_> {
+    ghost output = { λ message. Some (unread_message message.why message.text.now) };
+
     fn fmt<W: fmt::Write>(&self, f: &mut fmt::Formatter<W>) -> fmt::Result {
         match self.why {
             UnreadReason::TooLong => f.write_str("line of more than 8192 bytes"),

@@ -1,4 +1,7 @@
+mod BinaryLemmas
 mod AccessLemmas
+mod BreachLemmas
+mod NewBreachLemmas
 mod PairLemmas
 mod ReachLemmas
 mod ReplyLemmas

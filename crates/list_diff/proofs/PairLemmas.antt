@@ -28,10 +28,11 @@ contains_at f (z ∷ xs) zero x y within is there = Contains-append_left (f z) (
 contains_at f (z ∷ xs) (suc k) x y within is there =
     Contains-append_right (f z) (flat_map f xs) y (contains_at f xs k x y (omega (arith, within)) is there)
 
-contains_found : {X Y : Type 0} (f : X → List Y) (xs : List X) (x : X) (y : Y) → Contains xs x → Contains (f x) y → Contains (flat_map f xs) y
+pub contains_found : {X Y : Type 0} (f : X → List Y) (xs : List X) (x : X) (y : Y) → Contains xs x → Contains (f x) y → Contains (flat_map f xs) y
 contains_found f xs x y at there = contains_at f xs at.0 x y at.1 at.2 there
 
-contains_one : {X : Type 0} (x : X) → Contains (x ∷ []) x
+-- the only element
+pub contains_one : {X : Type 0} (x : X) → Contains (x ∷ []) x
 contains_one x = (0, omega arith, refl)
 
 -- what a search finds is there, and passes

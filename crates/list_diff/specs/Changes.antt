@@ -1,18 +1,39 @@
 -- The differences between the entries of two start lists.
-use Rattle.std.specs.Prelude.{ℕ, ◌==◌, ◌&&◌, Bool, true, false, List, [], ◌∷◌, ◌++◌, codes, position, if◌then◌else◌, Option, Some, None}
-use Rattle.std.specs.List.{enumerate_from, flat_map, slice_index_or}
+use Rattle.std.specs.Prelude.{ℕ, ◌==◌, ◌&&◌, Bool, true, false, List, [], ◌∷◌, ◌++◌, length, position, if◌then◌else◌, Option, Some, None}
+use Rattle.std.specs.List.{enumerate_from, flat_map, list_all, list_any, slice_index_or}
 use Rattle.std.specs.Str.{bytes_eq}
 use Rattle.own_model.specs.Amounts.{Amounts}
 use Rattle.own_model.specs.Listed.{Binary, Listed, ListedEntry}
 use Rattle.own_model.specs.Listed.Binary.{Script, Server, Init}
+use Rattle.own_model.specs.ObjectKinds.{ObjectKind}
+use Rattle.own_model.specs.Offer.{Offer}
+use Rattle.own_model.specs.Offer.Offer.{OffersLog, OffersFiles, OffersObjects}
 use Rattle.list_diff.specs.declared.entry_changes.EntryChange.{EntryChange}
 use Rattle.list_diff.specs.declared.entry_changes.EntryChange.TheVariants.{Gone, Changed, Came}
 
--- the name of a binary
-abbrev pub binary_name : Binary → List ℕ
-binary_name Script = codes "script"
-binary_name (Server service offer) = service
-binary_name Init = codes "init"
+-- two kinds have one name and the same sizes
+abbrev pub same_kind : ObjectKind → ObjectKind → Bool
+same_kind one other = bytes_eq one.name other.name && (one.block == other.block && one.bytes == other.bytes)
+
+abbrev pub has_kind : List ObjectKind → ObjectKind → Bool
+has_kind kinds kind = list_any (λ other. same_kind other kind) kinds
+
+-- the same kinds in any order: no list has two kinds of one name
+abbrev pub same_kinds : List ObjectKind → List ObjectKind → Bool
+same_kinds one other = length one == length other && list_all (has_kind other) one
+
+abbrev pub same_offer : Offer → Offer → Bool
+same_offer OffersLog OffersLog = true
+same_offer OffersFiles OffersFiles = true
+same_offer (OffersObjects one) (OffersObjects other) = same_kinds one other
+same_offer _ _ = false
+
+-- servers are the same if they are of one service and offer the same
+abbrev pub same_binary : Binary → Binary → Bool
+same_binary Script Script = true
+same_binary (Server service one) (Server server other) = bytes_eq service server && same_offer one other
+same_binary Init Init = true
+same_binary _ _ = false
 
 abbrev pub same_flag : Bool → Bool → Bool
 same_flag true other = other
@@ -27,7 +48,7 @@ same_reserves _ _ = false
 -- two entries run the same binary, with the same budget
 unfoldable pub same_means : ListedEntry → ListedEntry → Bool
 same_means one other =
-    bytes_eq (binary_name one.binary) (binary_name other.binary)
+    same_binary one.binary other.binary
     && (one.ram == other.ram && (one.caps == other.caps
     && (same_flag one.provides other.provides && same_reserves one.reserve other.reserve)))
 

@@ -12,8 +12,9 @@ abbrev pub is_bare : {A : Type 0} → List A → Bool
 is_bare [] = true
 is_bare (one ∷ more) = false
 
--- no part differs: the machine, the entries, the routes, the budgets that suffice, the replies
+-- no part differs: the machine, the entries, the routes, the breaches of a policy, the budgets that suffice, the replies
 abbrev pub nothing_differs : ListDifferences → Bool
 nothing_differs told =
     same_machine told.before.now told.after.now
-    && (is_bare told.changes.now && (is_bare told.leads.now && (is_bare told.lacks.now && is_bare told.replies.now)))
+    && (is_bare told.changes.now && (is_bare told.leads.now && (is_bare told.breaches.now
+    && (is_bare told.lacks.now && is_bare told.replies.now))))

@@ -1,9 +1,12 @@
+pub mod Breaches
 pub mod Changes
 pub mod Differences
 pub mod LineResults
 pub mod Moves
 pub mod Needs
 pub mod NewAccess
+pub mod NewBreaches
+pub mod PlacedBreaches
 pub mod Reaches
 pub mod Replies
 pub mod Routes

@@ -2,8 +2,8 @@
 use Rattle.std.specs.Prelude.{ℕ, List, if◌then◌else◌, Option, Some, None}
 use Rattle.std.specs.List.{slice_get}
 use Rattle.own_model.specs.Listed.{Listed, ListedEntry}
+use Rattle.list_parser.specs.Depth.{runs_script}
 use Rattle.list_labels.specs.GivenLabels.{leads_to}
-use Rattle.list_reach.specs.Paths.{runs_script}
 use Rattle.list_diff.specs.Changes.{place_of}
 
 -- a script, and a server of a service

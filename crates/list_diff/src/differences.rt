@@ -4,9 +4,11 @@ ghost use Rattle.list_diff.specs.Differences.{nothing_differs, same_machine};
 
 use crate::entry_changes::EntryChange;
 use crate::need_changes::NeedChange;
+use crate::policy_breaches::BreachChange;
 use crate::reach_changes::ReachChange;
 use crate::reply_changes::ReplyChange;
-use list_parser::{ListEntry, StartList};
+use list_parser::{Binary, ListEntry, StartList};
+use object_kinds::ObjectKind;
 use std::alloc::{AllocError, Global};
 use std::fmt::{self, Display};
 
@@ -21,6 +23,8 @@ pub struct ListDifferences<'a> {
     pub changes: &'a [EntryChange],
     /// The labels that are routed to a server on one list alone.
     pub leads: &'a [ReachChange<'a>],
+    /// The breaches of a policy that one list alone has.
+    pub breaches: &'a [BreachChange<'a>],
     /// The components whose budgets suffice for the scenario before and not after.
     pub lacks: &'a [NeedChange<'a>],
     /// The lines of the scenario whose replies differ.
@@ -35,6 +39,7 @@ impl ListDifferences<'_> {
         self.has_same_machine()
             && self.changes.is_empty()
             && self.leads.is_empty()
+            && self.breaches.is_empty()
             && self.lacks.is_empty()
             && self.replies.is_empty()
     }
@@ -75,6 +80,9 @@ impl fmt::Display for ListDifferences<'_> {
         }
         for lead in self.leads {
             lead.fmt(f)?;
+        }
+        for breach in self.breaches {
+            breach.fmt(f)?;
         }
         Ok(())
     }
@@ -119,7 +127,7 @@ fn show_entry<W: fmt::Write>(
     }
 }
 
-// The binary of an entry, its budget, its reserve, and whether it provides its service.
+// The binary of an entry, its budget, its reserve, whether it provides its service, and the kinds that it declares.
 fn show_means<W: fmt::Write>(f: &mut fmt::Formatter<W>, entry: &ListEntry) -> fmt::Result {
     let binary = entry.binary();
     write!(
@@ -137,8 +145,31 @@ fn show_means<W: fmt::Write>(f: &mut fmt::Formatter<W>, entry: &ListEntry) -> fm
         )?;
     }
     match binary.service() {
-        Some(service) if entry.provides() => write!(f, ", provides {}", service.name()),
-        Some(_) => f.write_str(", provides nothing"),
-        None => Ok(()),
+        Some(service) if entry.provides() => write!(f, ", provides {service}")?,
+        Some(_) => f.write_str(", provides nothing")?,
+        None => (),
     }
+    match binary {
+        Binary::Declared(service) => show_kinds(f, service.kinds()),
+        Binary::Script | Binary::Server(_) | Binary::Init => Ok(()),
+    }
+}
+
+// The kinds of a server, each with the bytes of a block and of a unit.
+fn show_kinds<W: fmt::Write>(f: &mut fmt::Formatter<W>, kinds: &[ObjectKind]) -> fmt::Result {
+    if kinds.is_empty() {
+        return f.write_str(", no kinds");
+    }
+    let mut parted = ", kinds ";
+    for kind in kinds {
+        write!(
+            f,
+            "{parted}{} ({} bytes, {} a unit)",
+            kind.name(),
+            kind.block(),
+            kind.bytes()
+        )?;
+        parted = ", ";
+    }
+    Ok(())
 }

@@ -1,27 +1,30 @@
 //! Differences as documents for programs.
 use crate::differences::ListDifferences;
 use crate::entry_changes::EntryChange;
-use list_parser::{ListEntry, StartList};
+use list_parser::{Binary, ListEntry, StartList};
+use object_kinds::ObjectKind;
 use std::alloc::{AllocError, Global};
-use view_json::{JsonField, JsonMember, Listing};
+use view_json::{JsonField, JsonMember, Listing, ObjectList, ObjectListBuilder};
 
-/// The members for an entry's binary, budget, reserve and service: of an entry after, and of an entry before.
-static MEANS: [&str; 6] = [
+/// The members for an entry's binary, budget, reserve, service and kinds: of an entry after, and of an entry before.
+static MEANS: [&str; 7] = [
     "binary",
     "ram",
     "caps",
     "reserve_ram",
     "reserve_caps",
     "provides",
+    "kinds",
 ];
 
-static WERE: [&str; 6] = [
+static WERE: [&str; 7] = [
     "was_binary",
     "was_ram",
     "was_caps",
     "was_reserve_ram",
     "was_reserve_caps",
     "was_provides",
+    "was_kinds",
 ];
 
 impl ListDifferences<'_> {
@@ -36,6 +39,9 @@ impl ListDifferences<'_> {
         }
         for lead in self.leads {
             lead.list(alloc, &mut listing)?;
+        }
+        for breach in self.breaches {
+            breach.list(&mut listing)?;
         }
         for lack in self.lacks {
             lack.list(&mut listing)?;
@@ -54,19 +60,65 @@ impl ListDifferences<'_> {
         change: EntryChange,
     ) -> Result<(), AllocError> {
         let (before, after) = (self.before.entries(), self.after.entries());
-        let (sign, was, now) = match change {
-            EntryChange::Gone(number) => ("-", before.get(number), None),
-            EntryChange::Came(number) => ("+", None, after.get(number)),
-            EntryChange::Changed(was, now) => ("~", before.get(was), after.get(now)),
-        };
-        let members = vec![in alloc;
-            ("kind", JsonField::Word("entry")),
-            ("change", JsonField::Word(sign)),
-        ]?;
-        let members = with_entry(members, &WERE, was)?;
-        let members = with_entry(members, &MEANS, now)?;
-        listing.add(members.as_slice())
+        match change {
+            EntryChange::Gone(number) => match before.get(number) {
+                Some(entry) => {
+                    let kinds = kinds_of(alloc, entry)?;
+                    add_entry(alloc, listing, "-", &WERE, entry, &kinds)
+                }
+                None => Ok(()),
+            },
+            EntryChange::Came(number) => match after.get(number) {
+                Some(entry) => {
+                    let kinds = kinds_of(alloc, entry)?;
+                    add_entry(alloc, listing, "+", &MEANS, entry, &kinds)
+                }
+                None => Ok(()),
+            },
+            EntryChange::Changed(was, now) => match (before.get(was), after.get(now)) {
+                (Some(was), Some(now)) => {
+                    let (kinds_before, kinds) = (kinds_of(alloc, was)?, kinds_of(alloc, now)?);
+                    add_changed(alloc, listing, was, &kinds_before, now, &kinds)
+                }
+                _ => Ok(()),
+            },
+        }
     }
+}
+
+// Adds an entry that one list alone has, by the sign of the change, with its members under these names.
+fn add_entry<'a>(
+    alloc: Global,
+    listing: &mut Listing,
+    sign: &'static str,
+    names: &'static [&'static str; 7],
+    entry: &'a ListEntry,
+    kinds: &'a Option<ObjectList>,
+) -> Result<(), AllocError> {
+    let members = vec![in alloc;
+        ("kind", JsonField::Word("entry")),
+        ("change", JsonField::Word(sign)),
+    ]?;
+    let members = with_entry(members, names, entry, kinds)?;
+    listing.add(members.as_slice())
+}
+
+// Adds an entry that both lists have, as it was and as it is.
+fn add_changed<'a>(
+    alloc: Global,
+    listing: &mut Listing,
+    was: &'a ListEntry,
+    kinds_before: &'a Option<ObjectList>,
+    now: &'a ListEntry,
+    kinds: &'a Option<ObjectList>,
+) -> Result<(), AllocError> {
+    let members = vec![in alloc;
+        ("kind", JsonField::Word("entry")),
+        ("change", JsonField::Word("~")),
+    ]?;
+    let members = with_entry(members, &WERE, was, kinds_before)?;
+    let members = with_entry(members, &MEANS, now, kinds)?;
+    listing.add(members.as_slice())
 }
 
 // Adds the machine of the list after, and that of the list before.
@@ -81,15 +133,13 @@ fn add_machine(listing: &mut Listing, was: &StartList, now: &StartList) -> Resul
     ])
 }
 
-// The members followed by the name of an entry, if there is one, and by its budget, under these names.
+// The members followed by the name of an entry, by its budget and by its kinds, under these names.
 fn with_entry<'a>(
     mut members: Vec<JsonMember<'a>>,
-    names: &'static [&'static str; 6],
-    entry: Option<&'a ListEntry>,
+    names: &'static [&'static str; 7],
+    entry: &'a ListEntry,
+    kinds: &'a Option<ObjectList>,
 ) -> Result<Vec<JsonMember<'a>>, AllocError> {
-    let Some(entry) = entry else {
-        return Ok(members);
-    };
     let binary = entry.binary();
     members.extend_from_slice(&[
         ("name", JsonField::Text(entry.path())),
@@ -103,11 +153,35 @@ fn with_entry<'a>(
     }
     if let Some(service) = binary.service() {
         let provided = if entry.provides() {
-            JsonField::Word(service.name())
+            JsonField::Text(service.as_bytes())
         } else {
             JsonField::Nothing
         };
         members.push((names[5], provided))?;
     }
+    if let Some(kinds) = kinds {
+        members.push((names[6], JsonField::List(kinds)))?;
+    }
     Ok(members)
+}
+
+// An object for each kind that an entry declares, or none if it declares no service.
+fn kinds_of(alloc: Global, entry: &ListEntry) -> Result<Option<ObjectList>, AllocError> {
+    match entry.binary() {
+        Binary::Declared(service) => Ok(Some(kind_documents(alloc, service.kinds())?)),
+        Binary::Script | Binary::Server(_) | Binary::Init => Ok(None),
+    }
+}
+
+// An object for each of these kinds.
+fn kind_documents(alloc: Global, kinds: &[ObjectKind]) -> Result<ObjectList, AllocError> {
+    let mut list = ObjectListBuilder::new(alloc);
+    for kind in kinds {
+        list.add(&[
+            ("kind", JsonField::Text(kind.name().as_bytes())),
+            ("block", JsonField::Number(u64::from(kind.block()))),
+            ("bytes", JsonField::Number(u64::from(kind.bytes()))),
+        ])?;
+    }
+    Ok(list.into_list())
 }

@@ -1,13 +1,14 @@
 //! Entries that were added, were removed or have another budget.
 ghost use Rattle.std.specs.Prelude.{◌≡◌, ◌++◌, IfOk, OnOk};
-ghost use Rattle.std.specs.List.{enumerate_from, flat_map};
-ghost use Rattle.list_diff.specs.Changes.{arrival, binary_name, changes_of, fate, same_flag, same_means, same_reserves};
+ghost use Rattle.std.specs.List.{enumerate_from, flat_map, list_all};
+ghost use Rattle.list_diff.specs.Changes.{arrival, changes_of, fate, has_kind, same_binary, same_flag, same_kind, same_kinds, same_means, same_reserves};
 ghost use Rattle.std.specs.Option.{option_map};
 ghost use Rattle.list_parser.specs.View.{model_binary};
 ghost use Rattle.core_calls.specs.Quotas.{reserve_amounts};
 
 use core_calls::Reserve;
 use list_parser::{Binary, ListEntry, StartList};
+use object_kinds::ObjectKind;
 use std::alloc::{AllocError, Global};
 
 /// A change of an entry. Numbers are those of the start lists, in which each init is directly before its own entries.
@@ -15,7 +16,7 @@ use std::alloc::{AllocError, Global};
 pub enum EntryChange {
     /// Removed: the entry of this number before has no entry of its path after.
     Gone(usize),
-    /// Changed: the entry of the first number before has another binary or budget than the entry of the second number after, of
+    /// Changed: the entry of the first number before has another binary, other kinds or another budget than the entry of the second number after, of
     /// the same path.
     Changed(usize, usize),
     /// Added: the entry of this number after had no entry of its path before.
@@ -109,22 +110,59 @@ fn add_arrival(
 fn has_same_means(one: &ListEntry, other: &ListEntry) -> bool
     ensures { result ≡ same_means one.now other.now }
 {
-    name_of(one.binary()).as_bytes() == name_of(other.binary()).as_bytes()
+    has_same_binary(one.binary(), other.binary())
         && one.ram() == other.ram()
         && one.caps() == other.caps()
         && same_flag(one.provides(), other.provides())
         && are_same(one.reserve(), other.reserve())
 }
 
-// The name of a binary.
-fn name_of(binary: Binary) -> &'static str
-    ensures { result.now ≡ binary_name (model_binary binary) }
+// Whether two binaries are the same: servers are, if they are of one service and offer the same.
+#[tactic(auto, using(crate::proofs::BinaryLemmas::same_built_in, crate::proofs::BinaryLemmas::built_in_differs, crate::proofs::BinaryLemmas::declared_differs))]
+fn has_same_binary(one: &Binary, other: &Binary) -> bool
+    ensures { result ≡ same_binary (model_binary one.now) (model_binary other.now) }
 {
-    match binary {
-        Binary::Script => "script",
-        Binary::Server(service) => service.name(),
-        Binary::Init => "init",
+    match (one, other) {
+        (Binary::Script, Binary::Script) | (Binary::Init, Binary::Init) => true,
+        (Binary::Server(service), Binary::Server(server)) => {
+            service.name().as_bytes() == server.name().as_bytes()
+        }
+        (Binary::Declared(service), Binary::Declared(server)) => {
+            service.name().as_bytes() == server.name().as_bytes()
+                && has_same_kinds(service.kinds(), server.kinds())
+        }
+        _ => false,
     }
+}
+
+// Whether two servers have the same kinds, in any order.
+fn has_same_kinds(one: &[ObjectKind], other: &[ObjectKind]) -> bool
+    ensures { result ≡ same_kinds one.now other.now }
+{
+    one.len() == other.len() && are_among(other, one)
+}
+
+// Whether each of some kinds is one of these.
+fn are_among(kinds: &[ObjectKind], some: &[ObjectKind]) -> bool
+    ensures { result ≡ list_all (has_kind kinds.now) some.now }
+{
+    some.iter().all(|kind| has_kind(kinds, kind))
+}
+
+// Whether a kind is one of these.
+fn has_kind(kinds: &[ObjectKind], kind: &ObjectKind) -> bool
+    ensures { result ≡ has_kind kinds.now kind.now }
+{
+    kinds.iter().any(|other| is_same_kind(other, kind))
+}
+
+// Whether two kinds have one name and the same sizes.
+fn is_same_kind(one: &ObjectKind, other: &ObjectKind) -> bool
+    ensures { result ≡ same_kind one.now other.now }
+{
+    one.name().as_bytes() == other.name().as_bytes()
+        && one.block() == other.block()
+        && one.bytes() == other.bytes()
 }
 
 // Whether both flags are equal.

@@ -10,9 +10,9 @@ use run_exchanges::Exchange;
 use std::alloc::{AllocError, Global};
 use std::marker::Model;
 
-/// The fault for which a line makes no call.
+/// The fault for which a line isn't resolved into a call.
 #[derive(Clone, Copy)]
-pub enum LineFault {
+pub enum ResolutionFault {
     /// The line has more than 8192 bytes.
     TooLong,
     /// A name in the line has a fault, such as no value.
@@ -29,7 +29,7 @@ pub enum LineOutcome<'a> {
     /// The line makes a call, which was answered.
     Answered(&'a Exchange),
     /// The line has a fault, and makes no call.
-    Faulty(LineFault),
+    Faulty(ResolutionFault),
     /// The line makes no call: it is blank, a comment, an expected log line or a directive.
     Silent,
 }
@@ -127,12 +127,12 @@ impl<'a> FollowedRun<'_, 'a> {
                 self.position.follow(directive)?;
                 Ok(LineOutcome::Silent)
             }
-            ResolvedLine::TooLong => Ok(LineOutcome::Faulty(LineFault::TooLong)),
-            ResolvedLine::BadName(fault) => Ok(LineOutcome::Faulty(LineFault::Name(fault))),
+            ResolvedLine::TooLong => Ok(LineOutcome::Faulty(ResolutionFault::TooLong)),
+            ResolvedLine::BadName(fault) => Ok(LineOutcome::Faulty(ResolutionFault::Name(fault))),
             ResolvedLine::Misplaced(_, why) => {
-                Ok(LineOutcome::Faulty(LineFault::Misplaced(why)))
+                Ok(LineOutcome::Faulty(ResolutionFault::Misplaced(why)))
             }
-            ResolvedLine::BadLine(fault) => Ok(LineOutcome::Faulty(LineFault::Line(fault))),
+            ResolvedLine::BadLine(fault) => Ok(LineOutcome::Faulty(ResolutionFault::Line(fault))),
             ResolvedLine::Skipped | ResolvedLine::Nothing | ResolvedLine::Log(_) => {
                 Ok(LineOutcome::Silent)
             }

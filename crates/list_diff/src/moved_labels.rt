@@ -8,7 +8,7 @@ ghost use Rattle.list_diff.specs.Routes.{routes};
 
 use crate::reach_changes::CellPair;
 use list_labels::{ClientLabel, SessionRequests};
-use list_parser::{Binary, ListEntry, StartList};
+use list_parser::{ListEntry, StartList};
 use list_reach::{RoutePath, WitnessedSet};
 use std::alloc::{AllocError, Global};
 
@@ -66,7 +66,7 @@ fn route_of<'a>(
 pub(crate) fn requests_of<'a>(
     list: &'a StartList,
     client: &ListEntry,
-    service: &'static str,
+    service: &'a str,
 ) -> Option<SessionRequests<'a>>
     ensures there { IfSome result (λ requests. requests.client < length requests.list.now.entries) }
     ensures list { IfSome result (λ requests. requests.list.now ≡ list.now) }
@@ -77,7 +77,7 @@ pub(crate) fn requests_of<'a>(
         → routed_on result label ≡ routes list.now client.now.path service.now label }
 {
     let client = list.find(client.path())?;
-    if list.entries()[client].binary() != Binary::Script {
+    if !list.entries()[client].is_script() {
         return None;
     }
     Some(SessionRequests {

@@ -19,7 +19,7 @@ pub struct ReachSide<'a> {
     /// The start list.
     pub list: &'a StartList,
     /// The cells of its table.
-    pub cells: &'a [ReachCell],
+    pub cells: &'a [ReachCell<'a>],
 }
 
 /// The labels of a client's requests for a service that are routed to a server on one of two start lists alone.
@@ -28,7 +28,7 @@ pub struct ReachChange<'a> {
     /// The client.
     pub client: &'a ListEntry,
     /// The service.
-    pub service: &'static str,
+    pub service: &'a str,
     /// The server.
     pub server: &'a ListEntry,
     /// With which labels the client reached the server before, if both were there.
@@ -59,7 +59,7 @@ pub fn leads<'a>(
 #[derive(Drop)]
 pub(crate) struct CellPair<'a> {
     pub(crate) client: &'a ListEntry,
-    pub(crate) service: &'static str,
+    pub(crate) service: &'a str,
     pub(crate) server: &'a ListEntry,
 }
 
@@ -119,7 +119,7 @@ fn add_new<'a>(
 fn add_old_pair<'a>(
     pairs: &mut Vec<CellPair<'a>>,
     before: ReachSide<'a>,
-    cell: &ReachCell,
+    cell: &ReachCell<'a>,
 ) -> Result<(), AllocError>
     ensures { OnOk result
         (pairs.new.items ≡ pairs.old.items ++ old_pairs before.entry cell.now) }
@@ -135,7 +135,7 @@ fn add_new_pair<'a>(
     pairs: &mut Vec<CellPair<'a>>,
     before: ReachSide<'a>,
     after: ReachSide<'a>,
-    cell: &ReachCell,
+    cell: &ReachCell<'a>,
 ) -> Result<(), AllocError>
     ensures { OnOk result
         (pairs.new.items ≡ pairs.old.items ++ new_pairs before.entry after.entry cell.now) }
@@ -149,7 +149,7 @@ fn add_new_pair<'a>(
 }
 
 // The script and the server of a cell.
-fn pair_at<'a>(side: ReachSide<'a>, cell: &ReachCell) -> Option<CellPair<'a>>
+fn pair_at<'a>(side: ReachSide<'a>, cell: &ReachCell<'a>) -> Option<CellPair<'a>>
     ensures { result ≡ pair_at side.entry cell.now }
 {
     let client = side.list.entries().get(cell.client)?;
@@ -188,7 +188,7 @@ fn server_in(list: &StartList, pair: &CellPair<'_>) -> Option<usize>
 }
 
 // With which labels the script of a cell reaches the server.
-fn reach_in(cell: Option<&ReachCell>) -> Option<&Reach>
+fn reach_in<'a>(cell: Option<&'a ReachCell<'_>>) -> Option<&'a Reach>
     ensures { option_copied result ≡ option_map (λ cell. cell.reach) (option_copied cell.entry) }
 {
     match cell {
@@ -199,11 +199,11 @@ fn reach_in(cell: Option<&ReachCell>) -> Option<&Reach>
 
 // The cell of a script and a server, by their numbers, if both are there.
 fn cell_at<'a>(
-    cells: &'a [ReachCell],
+    cells: &'a [ReachCell<'a>],
     pair: &CellPair<'_>,
     client: Option<usize>,
     server: Option<usize>,
-) -> Option<&'a ReachCell>
+) -> Option<&'a ReachCell<'a>>
     ensures { option_copied result ≡ cell_at cells.now pair.now.service client server }
 {
     match (client, server) {
@@ -214,11 +214,11 @@ fn cell_at<'a>(
 
 // The cell of this script, service and server.
 fn cell_with<'a>(
-    cells: &'a [ReachCell],
+    cells: &'a [ReachCell<'a>],
     client: usize,
     service: &str,
     server: usize,
-) -> Option<&'a ReachCell>
+) -> Option<&'a ReachCell<'a>>
     ensures { option_copied result ≡ find (is_cell client service.now server) cells.now }
 {
     for cell in cells {
@@ -230,7 +230,7 @@ fn cell_with<'a>(
 }
 
 // Whether a cell is of this script, service and server.
-fn is_cell(cell: &ReachCell, client: usize, service: &str, server: usize) -> bool
+fn is_cell(cell: &ReachCell<'_>, client: usize, service: &str, server: usize) -> bool
     ensures { result ≡ is_cell client service.now server cell.now }
 {
     cell.client == client && cell.server == server && cell.service == service
@@ -240,7 +240,7 @@ fn is_cell(cell: &ReachCell, client: usize, service: &str, server: usize) -> boo
 #[derive(Drop)]
 pub(crate) struct ServiceComparison<'a> {
     pub(crate) client: &'a ListEntry,
-    pub(crate) service: &'static str,
+    pub(crate) service: &'a str,
     pub(crate) compared: RouteComparison,
 }
 
@@ -275,7 +275,7 @@ fn compared(
     before: &StartList,
     after: &StartList,
     client: &ListEntry,
-    service: &'static str,
+    service: &str,
 ) -> Result<RouteComparison, AllocError>
     ensures { IfOk result (IsComparison (routes before.now client.now.path service.now)
         (routes after.now client.now.path service.now)) }

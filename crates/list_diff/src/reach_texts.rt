@@ -132,7 +132,7 @@ fn add_document<'a>(
         ("kind", JsonField::Word("reach")),
         ("change", JsonField::Word("~")),
         ("name", JsonField::Text(change.client.path())),
-        ("service", JsonField::Word(change.service)),
+        ("service", JsonField::Text(change.service.as_bytes())),
         ("to", JsonField::Text(change.server.path())),
         ("reach", word_of(change.now)),
         ("label", label_of(change.now)),

@@ -1,5 +1,5 @@
 //! Replies that differ, as lines and as documents for programs.
-use crate::line_outcomes::{LineFault, LineOutcome, LineResult};
+use crate::line_outcomes::{LineOutcome, LineResult, ResolutionFault};
 use crate::reply_changes::ReplyChange;
 use line_names::token_at;
 use run_exchanges::Exchange;
@@ -146,11 +146,11 @@ fn reason_of(alloc: Global, line: Option<LineResult<'_>>) -> Result<Vec<u8>, All
 }
 
 // Returns the message about the fault of a line.
-fn message_of(alloc: Global, line: &[u8], fault: LineFault) -> Result<Vec<u8>, AllocError> {
+fn message_of(alloc: Global, line: &[u8], fault: ResolutionFault) -> Result<Vec<u8>, AllocError> {
     match fault {
-        LineFault::TooLong => Vec::from_slice(alloc, b"line of more than 8192 bytes"),
-        LineFault::Misplaced(why) => Vec::from_slice(alloc, why.words().as_bytes()),
-        LineFault::Name(fault) => {
+        ResolutionFault::TooLong => Vec::from_slice(alloc, b"line of more than 8192 bytes"),
+        ResolutionFault::Misplaced(why) => Vec::from_slice(alloc, why.words().as_bytes()),
+        ResolutionFault::Name(fault) => {
             let token = String::from_utf8_lossy(alloc, token_at(line, fault.column))?;
             Ok(
                 fault
@@ -160,7 +160,7 @@ fn message_of(alloc: Global, line: &[u8], fault: LineFault) -> Result<Vec<u8>, A
                     .into_bytes(),
             )
         }
-        LineFault::Line(fault) => {
+        ResolutionFault::Line(fault) => {
             let token = String::from_utf8_lossy(alloc, token_at(line, fault.column))?;
             Ok(
                 fault

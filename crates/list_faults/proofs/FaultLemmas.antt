@@ -14,7 +14,8 @@ use Rattle.list_parser.specs.declared.fault.BootFault.{BootFault}
 use Rattle.list_parser.specs.declared.fault.BootFault.TheVariants.{BadConfig, BadJson, DuplicateName, NoMemory, QuotaExceeded, UnknownBinary}
 use Rattle.list_parser.specs.declared.fault.ConfigField.{ConfigField}
 use Rattle.list_parser.specs.declared.fault.ConfigField.TheVariants as field
-use Rattle.list_parser.specs.Entries.{◌>>=◌, ListConfig, ListPlace, SoFar, binary_of, binary_of_entry, config_of, default_route, head_of, if_script, is_taken, new_name, no_binary, object_of, own_of, own_route, list_of_entry, provided, reserve_of_entry, starts_in, value_or}
+use Rattle.list_parser.specs.Entries.{◌>>=◌, ListConfig, ListPlace, SoFar, BinaryWord, config_of, default_route, head_of, if_script, is_taken, list_of_entry, new_name, no_binary, object_of, own_of, own_route, provider_of, reserve_of_entry, starts_in, value_or, with_kinds, word_of, word_of_entry}
+use Rattle.list_parser.specs.Entries.BinaryWord.{Known, Declares}
 use Rattle.list_parser.specs.Members.{amount_at, amount_in, is_object, name_at, name_in, whole_at, whole_in}
 
 -- ---- one step after another
@@ -66,19 +67,21 @@ no_binary_fault : (name : Option (List ℕ)) → OfEntry (no_binary name)
 no_binary_fault None = refl
 no_binary_fault (Some name) = tt
 
-unless : (b : Bool) (binary : Binary) (r : Result Binary BootFault) → Fails OfEntry r → let all : Result Binary BootFault = if b then Ok binary else r in Fails OfEntry all
-unless true binary r is = done
-unless false binary r is = is
+unless : (b : Bool) (word : BinaryWord) (r : Result BinaryWord BootFault) → Fails OfEntry r → let all : Result BinaryWord BootFault = if b then Ok word else r in Fails OfEntry all
+unless true word r is = done
+unless false word r is = is
 
-binary_of_fault : (text : List ℕ) → Fails OfEntry (binary_of text)
-binary_of_fault text = unless (bytes_eq text (codes "script")) Script _ (unless (bytes_eq text (codes "init")) Init _ (by_service (served_by_binary text))) where
-  by_service : (found : Option Service) → Fails OfEntry (value_or (no_binary (name_in text)) (option_map built_in found))
-  by_service (Some service) = done
-  by_service None = record { fault = no_binary_fault (name_in text) }
+word_of_fault : (text : List ℕ) → Fails OfEntry (word_of text)
+word_of_fault text =
+    unless (bytes_eq text (codes "script")) (Known Script) _
+    (unless (bytes_eq text (codes "init")) (Known Init) _ (unless (bytes_eq text (codes "server")) Declares _ (by_service (served_by_binary text)))) where
+      by_service : (found : Option Service) → Fails OfEntry (value_or (no_binary (name_in text)) (option_map (λ service. Known (built_in service)) found))
+      by_service (Some service) = done
+      by_service None = record { fault = no_binary_fault (name_in text) }
 
-binary_fault : (name : List ℕ) (told : Option Data) → Fails OfEntry (binary_of_entry name told)
-binary_fault name None = binary_of_fault name
-binary_fault name (Some d) = bound (value_fault (BadConfig field.Binary) (as_str d) refl) binary_of_fault
+word_fault : (name : List ℕ) (told : Option Data) → Fails OfEntry (word_of_entry name told)
+word_fault name None = word_of_fault name
+word_fault name (Some d) = bound (value_fault (BadConfig field.Binary) (as_str d) refl) word_of_fault
 
 reserve_fault : (binary : Binary) (entry : Data) → Fails OfEntry (reserve_of_entry binary entry)
 reserve_fault binary entry =
@@ -109,10 +112,11 @@ head_fault place deeper so_far d =
     bound (object_fault d) (λ entry.
     bound (value_fault (BadConfig field.Name) (name_at (codes "name") entry) refl) (λ told_name.
     bound (new_fault so_far.entries place.init told_name) (λ name.
-    bound (binary_fault name (get (codes "binary") entry)) (λ binary.
+    bound (word_fault name (get (codes "binary") entry)) (λ word.
     bound (value_fault (BadConfig field.Quantum) (amount_at (codes "quantum") entry) refl) (λ ram.
     bound (value_fault (BadConfig field.Caps) (whole_at (codes "caps") 0 4294967295 entry) refl) (λ caps.
-    bound (value_fault (BadConfig field.Provides) (provided binary (get (codes "provides") entry)) refl) (λ provides.
+    bound (value_fault (BadConfig field.Provides) (provider_of word (get (codes "provides") entry)) refl) (λ provider.
     bound (value_fault (BadConfig field.Route) (own_route (get (codes "route") entry)) refl) (λ route.
-    bound (reserve_fault binary entry) (λ reserve.
-    bound (own_told_fault binary deeper so_far.met (get (codes "config") entry)) (λ own. done))))))))))
+    bound (reserve_fault provider.binary entry) (λ reserve.
+    bound (own_told_fault provider.binary deeper so_far.met (get (codes "config") entry)) (λ own.
+    bound (value_fault (BadConfig field.Kinds) (with_kinds provider.binary (get (codes "kinds") entry)) refl) (λ binary. done)))))))))))

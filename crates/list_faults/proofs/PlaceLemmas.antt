@@ -118,6 +118,7 @@ member_there number field.Route (Some found) some is = refl
 member_there number field.Reserve (Some found) some is = refl
 member_there number field.ReserveCaps (Some found) some is = refl
 member_there number field.Config (Some found) some is = refl
+member_there number field.Kinds (Some found) some is = refl
 
 entry_there : (list : Data) (number : ℕ) (fault : BootFault) → number < length (found_in list) → OfEntry fault → HasPlace list (Some number) fault
 entry_there list number (BadConfig bad) inside of = member_there number bad (slice_get (found_in list) number) (something (found_in list) number inside) of

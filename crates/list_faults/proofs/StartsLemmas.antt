@@ -10,14 +10,17 @@ use Rattle.serde_json.specs.Data.{Data, Items}
 use Rattle.serde_json.specs.Find.{as_array, as_str, get}
 use Rattle.own_model.specs.Listed.{Binary, ListedRule}
 use Rattle.own_model.specs.Listed.Binary.{Script, Server, Init}
+use Rattle.own_model.specs.Offer.Offer.{OffersObjects}
 use Rattle.trade_base.specs.Service.{served_by_binary}
 use Rattle.trade_base.specs.declared.service.Service.{Service}
 use Rattle.list_parser.specs.BuiltIn.{built_in}
 use Rattle.list_parser.specs.declared.fault.BootFault.{BootFault}
 use Rattle.list_parser.specs.declared.fault.BootFault.TheVariants.{BadConfig}
 use Rattle.list_parser.specs.declared.fault.ConfigField.TheVariants as field
+use Rattle.list_parser.specs.DeclaredServers.{service_declared}
 use Rattle.list_parser.specs.Depth.{runs_init}
-use Rattle.list_parser.specs.Entries.{◌>>=◌, EntryHead, ListConfig, ListPlace, SoFar, binary_of, binary_of_entry, config_of, default_route, head_of, new_name, no_binary, nothing_own, object_of, own_of, own_route, list_of_entry, provided, reserve_of_entry, value_or}
+use Rattle.list_parser.specs.Entries.{◌>>=◌, EntryHead, ListConfig, ListPlace, SoFar, BinaryWord, Provider, config_of, default_route, head_of, list_of_entry, new_name, no_binary, nothing_own, object_of, own_of, own_route, provided, provider_of, reserve_of_entry, value_or, with_kinds, word_of, word_of_entry}
+use Rattle.list_parser.specs.Entries.BinaryWord.{Known, Declares}
 use Rattle.list_parser.specs.Entries as engine
 use Rattle.list_parser.proofs.HeadLemmas.{Gives, gave, new_is, value_ok}
 use Rattle.list_parser.specs.Members.{amount_at, at_most_32, elements, is_object, name_at, name_in, name_of, whole_at}
@@ -35,10 +38,15 @@ object_is d entry is = by_object (is_object d) is where
 
 -- ---- which binary it is
 
+-- whether it is that of an init
+abbrev word_inits : BinaryWord → Bool
+word_inits (Known binary) = runs_init binary
+word_inits Declares = false
+
 -- the text of an init's binary is its name
-binary_is : (text : List ℕ) (binary : Binary) → binary_of text ≡ Ok binary → bytes_eq (codes "init") text ≡ runs_init binary
-binary_is text binary is =
-    go (bytes_eq text (codes "script")) (bytes_eq text (codes "init")) (served_by_binary text) refl refl is
+word_is : (text : List ℕ) (word : BinaryWord) → word_of text ≡ Ok word → bytes_eq (codes "init") text ≡ word_inits word
+word_is text word is =
+    go (bytes_eq text (codes "script")) (bytes_eq text (codes "init")) (bytes_eq text (codes "server")) (served_by_binary text) refl refl is
   where
     same_text : (word : List ℕ) → bytes_eq text word ≡ true → bytes_eq (codes "init") text ≡ bytes_eq (codes "init") word
     same_text word eq = ap (bytes_eq (codes "init")) ((bytes_eq-Decides text word).0 eq)
@@ -48,13 +56,14 @@ binary_is text binary is =
         false_from_ne_true (bytes_eq (codes "init") text) (λ same.
         true≢false (sym ((bytes_eq-Decides text (codes "init")).1 (sym ((bytes_eq-Decides (codes "init") text).0 same))) ∙ other))
 
-    go : (a b : Bool) (found : Option Service) → bytes_eq text (codes "script") ≡ a → bytes_eq text (codes "init") ≡ b
-        → let r : Result Binary BootFault = if a then Ok Script else (if b then Ok Init else value_or (no_binary (name_in text)) (option_map built_in found)) in
-        r ≡ Ok binary → bytes_eq (codes "init") text ≡ runs_init binary
-    go true b found is_a is_b given = let same : Script ≡ binary = cc in same_text (codes "script") is_a ∙ ap runs_init same
-    go false true found is_a is_b given = let same : Init ≡ binary = cc in same_text (codes "init") is_b ∙ ap runs_init same
-    go false false (Some service) is_a is_b given = let same : built_in service ≡ binary = cc in not_init is_b ∙ ap runs_init same
-    go false false None is_a is_b given = cc
+    go : (a b s : Bool) (found : Option Service) → bytes_eq text (codes "script") ≡ a → bytes_eq text (codes "init") ≡ b
+        → let r : Result BinaryWord BootFault = if a then Ok (Known Script) else (if b then Ok (Known Init) else (if s then Ok Declares else value_or (no_binary (name_in text)) (option_map (λ service. Known (built_in service)) found))) in
+        r ≡ Ok word → bytes_eq (codes "init") text ≡ word_inits word
+    go true b s found is_a is_b given = let same : Known Script ≡ word = cc in same_text (codes "script") is_a ∙ ap word_inits same
+    go false true s found is_a is_b given = let same : Known Init ≡ word = cc in same_text (codes "init") is_b ∙ ap word_inits same
+    go false false true found is_a is_b given = let same : Declares ≡ word = cc in not_init is_b ∙ ap word_inits same
+    go false false false (Some service) is_a is_b given = let same : Known (built_in service) ≡ word = cc in not_init is_b ∙ ap word_inits same
+    go false false false None is_a is_b given = cc
 
 name_text : (given : Option Data) (name : List ℕ) → option_and_then name_of given ≡ Some name → option_and_then as_str given ≡ Some name
 name_text None name is = cc
@@ -67,13 +76,25 @@ name_text (Some d) name is = by_text (as_str d) is where
   by_text None given = cc
   by_text (Some text) given = ap Some (by_name (is_name text) text given)
 
-runs_by : (told given : Option Data) (name : List ℕ) (binary : Binary) → option_and_then name_of given ≡ Some name → binary_of_entry name told ≡ Ok binary
-    → has (bytes_eq (codes "init")) (option_and_then as_str (option_or told given)) ≡ runs_init binary
-runs_by None given name binary named is = ap (has (bytes_eq (codes "init"))) (name_text given name named) ∙ binary_is name binary is
-runs_by (Some d) given name binary named is = by_text (as_str d) is where
-  by_text : (o : Option (List ℕ)) → (value_or (BadConfig field.Binary) o >>= binary_of) ≡ Ok binary → has (bytes_eq (codes "init")) o ≡ runs_init binary
+runs_by : (told given : Option Data) (name : List ℕ) (word : BinaryWord) → option_and_then name_of given ≡ Some name → word_of_entry name told ≡ Ok word
+    → has (bytes_eq (codes "init")) (option_and_then as_str (option_or told given)) ≡ word_inits word
+runs_by None given name word named is = ap (has (bytes_eq (codes "init"))) (name_text given name named) ∙ word_is name word is
+runs_by (Some d) given name word named is = by_text (as_str d) is where
+  by_text : (o : Option (List ℕ)) → (value_or (BadConfig field.Binary) o >>= word_of) ≡ Ok word → has (bytes_eq (codes "init")) o ≡ word_inits word
   by_text None told = cc
-  by_text (Some text) told = binary_is text binary told
+  by_text (Some text) told = word_is text word told
+
+-- with its service it is one exactly if its word says so
+provides_as_word : (word : BinaryWord) (member : Option Data) (provider : Provider) → provider_of word member ≡ Some provider → runs_init provider.binary ≡ word_inits word
+provides_as_word (Known binary) member provider is = by_flag (provided binary member) is where
+  by_flag : (o : Option Bool) → let made : Option Provider = option_map (λ provides. record { binary = binary; provides = provides }) o in made ≡ Some provider → runs_init provider.binary ≡ runs_init binary
+  by_flag None given = cc
+  by_flag (Some flag) given = let same : ◌≡◌ {A = Provider} (record { binary = binary; provides = flag }) provider = cc in ap (λ (p : Provider). runs_init p.binary) (sym same)
+provides_as_word Declares member provider is = by_service (service_declared member) is where
+  by_service : (o : Option (List ℕ)) → let made : Option Provider = option_map (λ service. record { binary = Server service (OffersObjects []); provides = true }) o in made ≡ Some provider → runs_init provider.binary ≡ false
+  by_service None given = cc
+  by_service (Some service) given =
+      let same : ◌≡◌ {A = Provider} (record { binary = Server service (OffersObjects []); provides = true }) provider = cc in ap (λ (p : Provider). runs_init p.binary) (sym same)
 
 -- ---- what it starts
 
@@ -126,20 +147,22 @@ head_gives place deeper so_far d =
     gave (object_of d) (λ entry object.
     gave (value_or (BadConfig field.Name) (name_at (codes "name") entry)) (λ told_name told.
     gave (new_name so_far.entries place.init told_name) (λ name new.
-    gave (binary_of_entry name (get (codes "binary") entry)) (λ binary is.
+    gave (word_of_entry name (get (codes "binary") entry)) (λ word is.
     gave (value_or (BadConfig field.Quantum) (amount_at (codes "quantum") entry)) (λ ram _.
     gave (value_or (BadConfig field.Caps) (whole_at (codes "caps") 0 4294967295 entry)) (λ caps _.
-    gave (value_or (BadConfig field.Provides) (provided binary (get (codes "provides") entry))) (λ provides _.
+    gave (value_or (BadConfig field.Provides) (provider_of word (get (codes "provides") entry))) (λ provider provides.
     gave (value_or (BadConfig field.Route) (own_route (get (codes "route") entry))) (λ route _.
-    gave (reserve_of_entry binary entry) (λ reserve _.
-    gave (list_of_entry binary deeper so_far.met (get (codes "config") entry)) (λ own own_is. record {
+    gave (reserve_of_entry provider.binary entry) (λ reserve _.
+    gave (list_of_entry provider.binary deeper so_far.met (get (codes "config") entry)) (λ own own_is.
+    gave (value_or (BadConfig field.Kinds) (with_kinds provider.binary (get (codes "kinds") entry))) (λ binary _. record {
       given =
-          told_starts binary deeper so_far.met (get (codes "config") entry) own own_is
+          told_starts provider.binary deeper so_far.met (get (codes "config") entry) own own_is
           ∙ ap (λ init. own_values init (get (codes "config") entry))
-          (sym (runs_by (get (codes "binary") entry) (get (codes "name") entry) name binary
+          (provides_as_word word (get (codes "provides") entry) provider (value_ok (BadConfig field.Provides) (provider_of word (get (codes "provides") entry)) provider provides)
+          ∙ sym (runs_by (get (codes "binary") entry) (get (codes "name") entry) name word
           (value_ok (BadConfig field.Name) (name_at (codes "name") entry) told_name told ∙ ap Some (new_is so_far.entries place.init told_name name new).0) is))
           ∙ ap (λ e. own_values (runs (codes "init") e) (get (codes "config") e)) (object_is d entry object);
-    }))))))))))
+    })))))))))))
 
 pub head_starts : (place : ListPlace) (deeper : Bool) (so_far : SoFar) (d : Data) (head : EntryHead) → head_of place deeper so_far d ≡ Ok head
     → head.starts ≡ own_values (runs (codes "init") d) (get (codes "config") d)

@@ -16,7 +16,7 @@ pub elements_there : (d : Option Data) (values : List Value) → Some (items_vie
 elements_there d values is = rw (← is, elements_of_items (map view values)) refl
 
 -- what is left from a place on, of values as they are seen
-left_from : {X A : Type 0} (v : X → A) (xs : List X) (i : ℕ) (x : X) → i < length xs → x ≡ get_or xs i x
+pub left_from : {X A : Type 0} (v : X → A) (xs : List X) (i : ℕ) (x : X) → i < length xs → x ≡ get_or xs i x
     → drop i (map v xs) ≡ v x ∷ drop (i + 1) (map v xs)
 left_from v xs i x inside is =
     let seen_inside : i < length (map v xs) = omega (arith, length-map xs v) in

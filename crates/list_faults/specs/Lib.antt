@@ -1,3 +1,5 @@
 pub mod Places
 pub mod RuleFaults
+pub mod KindFaults
 pub mod Values
+pub mod JsonAdvice

@@ -16,6 +16,7 @@ use Rattle.list_parser.specs.declared.fault.ConfigField.{ConfigField}
 use Rattle.list_parser.specs.declared.fault.ConfigField.TheVariants as field
 use Rattle.own_model.specs.Listed.{Listed}
 use Rattle.list_parts.specs.Left.{first_shortfall}
+use Rattle.list_faults.specs.KindFaults.{BadAt, bad_kind}
 use Rattle.list_faults.specs.RuleFaults.{rule_fault}
 use Rattle.list_parts.specs.Steps.{rule_at}
 use Rattle.list_faults.specs.Values.{EntryValue, found_in}
@@ -58,6 +59,7 @@ member_of field.Route = codes "route"
 member_of field.Reserve = codes "reserve"
 member_of field.ReserveCaps = codes "reserve-caps"
 member_of field.Config = codes "config"
+member_of field.Kinds = codes "kinds"
 
 -- the first value of a list that is no rule, by its place, if the list has at most 32 elements
 abbrev pub bad_rule : Option Data → Option (ℕ × Data)
@@ -91,6 +93,14 @@ own_rules_spot number found =
     rules_spot (owner.Entry number) found.steps (parts.Entry number found.steps) (codes "route")
     (bad_rule (get (codes "route") found.value))
 
+-- of the kinds that an entry declares: the first value that is no kind, or else the member
+abbrev pub kind_spot : ℕ → EntryValue → Option BadAt → Spot
+kind_spot number found None = member_in (parts.Entry number found.steps) (codes "kinds")
+kind_spot number found (Some bad) = record { part = parts.Kind number found.steps bad.0; member = bad.1 }
+
+abbrev pub kinds_spot : ℕ → EntryValue → Spot
+kinds_spot number found = kind_spot number found (bad_kind (get (codes "kinds") found.value))
+
 -- an entry that is no object is a fault of `start`, and so is a list of what an init starts that is none
 abbrev pub start_spot : ℕ → EntryValue → Spot
 start_spot number found =
@@ -105,6 +115,7 @@ spot_in number field.Pages found = None
 spot_in number field.Start found = Some (start_spot number found)
 spot_in number field.DefaultRoute found = Some (inner_rules_spot number found.steps (get (codes "config") found.value))
 spot_in number field.Route found = Some (own_rules_spot number found)
+spot_in number field.Kinds found = Some (kinds_spot number found)
 spot_in number other found = Some (member_in (parts.Entry number found.steps) (member_of other))
 
 -- of the engine's entry, or before the entries

@@ -6,12 +6,19 @@
 //! ```
 #![tactic(auto)]
 
+mod expected_value;
+mod json_advice;
+mod kind_flaw;
 mod list_fault;
 mod rule_flaw;
 mod value_flaw;
+mod value_kind;
 mod values;
 
+pub use expected_value::ExpectedValue;
+pub use kind_flaw::faults_of_kinds_are_the_engines;
 pub use list_fault::{FaultPlace, JsonReason, ListFault};
 pub use rule_flaw::faults_of_rules_are_the_engines;
-pub use value_flaw::{ExpectedValue, ValueFlaw, ValueKind, faults_have_places};
+pub use value_flaw::{ValueFlaw, faults_have_places};
+pub use value_kind::ValueKind;
 pub use values::{EntryValue, elements, find_entries, member, runs};

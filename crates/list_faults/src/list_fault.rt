@@ -2,6 +2,7 @@
 ghost use Rattle.std.specs.Prelude.{◌≡◌};
 ghost use Rattle.list_parser.specs.declared.fault.BootFault.TheVariants.{NoMemory};
 
+use crate::json_advice::JsonAdvice;
 use crate::value_flaw::ValueFlaw;
 use arrayvec::ArrayString;
 use list_parser::BootFault;
@@ -14,28 +15,36 @@ use std::fmt::Write;
 /// The maximum number of bytes of the JSON parser's message: its reason, the line and the column.
 const MOST_TOLD: usize = 80;
 
-/// The reason why a text is no JSON, as its parser reports it.
+/// The reason why a text is no JSON, as its parser reports it, and what the text has that other formats allow.
 #[derive(Clone, Copy)]
 pub struct JsonReason {
     told: ArrayString<MOST_TOLD>,
+    advice: Option<JsonAdvice>,
 }
 
 impl JsonReason {
-    /// Returns the reason of an error of the JSON parser.
-    pub fn of(error: &Error) -> JsonReason {
+    /// Returns the reason of an error of the JSON parser for a text.
+    pub fn of(error: &Error, text: &[u8]) -> JsonReason {
         let mut told = ArrayString::new();
         let _ = write!(told, "{error}");
-        JsonReason { told }
+        JsonReason {
+            told,
+            advice: JsonAdvice::find(text, error.line(), error.column()),
+        }
     }
 }
 
-/// Writes the reason alone, without the line and the column, which are printed before it.
+/// Writes the reason without the line and the column, which are printed before it, and advice if there is any.
 impl fmt::Display for JsonReason {
     fn fmt<W: fmt::Write>(&self, f: &mut fmt::Formatter<W>) -> fmt::Result {
         let told = self.told.as_str();
         match told.split_once(" at line ") {
-            Some((reason, _)) => f.write_str(reason),
-            None => f.write_str(told),
+            Some((reason, _)) => f.write_str(reason)?,
+            None => f.write_str(told)?,
+        }
+        match self.advice {
+            Some(advice) => write!(f, "; {advice}"),
+            None => Ok(()),
         }
     }
 }

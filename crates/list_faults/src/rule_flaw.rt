@@ -9,7 +9,7 @@ ghost use Rattle.list_parser.specs.Rules.{rule_of};
 ghost use Rattle.list_faults.specs.Places.{bad_rule};
 ghost use Rattle.list_faults.specs.RuleFaults.{FaultsAreTheEngines, name_fault, rule_fault, service_fault, target_fault, text_fault, true_fault};
 
-use crate::value_flaw::ExpectedValue;
+use crate::expected_value::ExpectedValue;
 use list_parser::Name;
 use serde_json::Value;
 

@@ -5,161 +5,20 @@ ghost use Rattle.serde_json.specs.Find.{get};
 ghost use Rattle.serde_json.specs.View.{view};
 ghost use Rattle.list_parser.specs.FaultPlace.{entry_at_fault};
 ghost use Rattle.list_parser.specs.declared.fault.BootFault.TheVariants.{NoMemory};
-ghost use Rattle.list_faults.specs.Places.{FaultsHavePlaces, bad_rule, field_of, inner_rules_spot, member_in, member_of, own_rules_spot, rules_spot, spot_at, spot_before, spot_in, spot_of, spot_of_flaw, start_spot, whole};
+ghost use Rattle.list_faults.specs.Places.{FaultsHavePlaces, bad_rule, field_of, inner_rules_spot, kinds_spot, member_in, member_of, own_rules_spot, rules_spot, spot_at, spot_before, spot_in, spot_of, spot_of_flaw, start_spot, whole};
 ghost use Rattle.list_faults.specs.RuleFaults.{rule_fault};
 ghost use Rattle.list_faults.specs.Values.{seen};
 
+use crate::expected_value::ExpectedValue;
+use crate::kind_flaw::bad_kind;
 use crate::rule_flaw::{bad_rule, rule_flaw};
+use crate::value_kind::ValueKind;
 use crate::values::{EntryValue, find_entries, member, runs};
-use arrayvec::ArrayString;
 use list_parser::{BootFault, ConfigField, entry_at_fault};
-use list_parts::{EntrySteps, ListPart, RuleOwner, rule_at, show_quoted, show_within};
-use serde_json::{Number, Value};
+use list_parts::{EntrySteps, ListPart, RuleOwner, rule_at, show_within};
+use serde_json::Value;
 use std::alloc::{AllocError, Global};
 use std::fmt;
-
-/// The maximum number of bytes of a text that is printed whole.
-const MOST_TOLD: usize = 40;
-
-/// The kind of a value, as far as diagnostics print it.
-#[derive(Clone, Copy)]
-pub enum ValueKind {
-    /// No value.
-    Missing,
-    /// `null`.
-    Null,
-    /// `true`, or `false`.
-    Boolean(bool),
-    /// A whole number.
-    Whole(u64),
-    /// A whole number below 0.
-    Negative(i64),
-    /// Another number.
-    Number,
-    /// A text.
-    Text(ArrayString<MOST_TOLD>),
-    /// A longer text, of so many bytes.
-    LongText(usize),
-    /// A list of so many elements.
-    List(usize),
-    /// An object.
-    Object,
-}
-
-impl ValueKind {
-    /// Returns the kind of a value that may be missing.
-    fn of(value: Option<&Value>) -> ValueKind {
-        match value {
-            None => ValueKind::Missing,
-            Some(Value::Null) => ValueKind::Null,
-            Some(Value::Bool(value)) => ValueKind::Boolean(*value),
-            Some(Value::Number(number)) => ValueKind::of_number(number),
-            Some(Value::String(text)) => ValueKind::of_text(text.as_str()),
-            Some(Value::Array(list)) => ValueKind::List(list.len()),
-            Some(Value::Object(_)) => ValueKind::Object,
-        }
-    }
-
-    // The kind of a number.
-    fn of_number(number: &Number) -> ValueKind {
-        match (number.as_u64(), number.as_i64()) {
-            (Some(whole), _) => ValueKind::Whole(whole),
-            (None, Some(below)) => ValueKind::Negative(below),
-            (None, None) => ValueKind::Number,
-        }
-    }
-
-    // The kind of a text.
-    fn of_text(text: &str) -> ValueKind {
-        match ArrayString::from(text) {
-            Ok(short) => ValueKind::Text(short),
-            Err(_) => ValueKind::LongText(text.len()),
-        }
-    }
-}
-
-impl fmt::Display for ValueKind {
-    fn fmt<W: fmt::Write>(&self, f: &mut fmt::Formatter<W>) -> fmt::Result {
-        match self {
-            ValueKind::Missing => f.write_str("missing"),
-            ValueKind::Null => f.write_str("null"),
-            ValueKind::Boolean(value) => show_within(f, "", value, ""),
-            ValueKind::Whole(number) => show_within(f, "", number, ""),
-            ValueKind::Negative(number) => show_within(f, "", number, ""),
-            ValueKind::Number => f.write_str("a number that isn't whole"),
-            ValueKind::Text(text) => show_quoted(f, text.as_str()),
-            ValueKind::LongText(length) => show_within(f, "a text of ", length, " bytes"),
-            ValueKind::List(count) => show_within(f, "a list of ", count, ""),
-            ValueKind::Object => f.write_str("an object"),
-        }
-    }
-}
-
-/// The value that is expected of a member, or of a whole rule or entry.
-#[derive(Clone, Copy)]
-pub enum ExpectedValue {
-    /// An object.
-    Object,
-    /// A machine's pages or capabilities.
-    MachineSize,
-    /// A list of rules.
-    Rules,
-    /// A list of entries.
-    Entries,
-    /// A list of an init's entries.
-    InnerEntries,
-    /// No init, since inits nest at most 3 deep.
-    NoInit,
-    /// A name.
-    Name,
-    /// A name that no earlier entry has.
-    NewName,
-    /// A binary.
-    Binary,
-    /// An amount.
-    Amount,
-    /// A number of capabilities.
-    Caps,
-    /// No reserve, since the entry isn't a script's.
-    NoReserve,
-    /// The service of the entry's binary.
-    Provides,
-    /// `true`.
-    True,
-    /// A text.
-    Text,
-    /// One of the two members that name the service of a rule.
-    OneService,
-    /// One of the three members that name the target of a rule.
-    OneTarget,
-}
-
-impl fmt::Display for ExpectedValue {
-    fn fmt<W: fmt::Write>(&self, f: &mut fmt::Formatter<W>) -> fmt::Result {
-        f.write_str(match self {
-            ExpectedValue::Object => "an object",
-            ExpectedValue::MachineSize => "a whole number from 16 to 4096",
-            ExpectedValue::Rules => "a list of at most 32 rules",
-            ExpectedValue::Entries => "a list of at most 32 entries",
-            ExpectedValue::InnerEntries =>
-                "a list of entries, at most 32 with those of all other lists",
-            ExpectedValue::NoInit => "no init, since inits nest at most 3 deep",
-            ExpectedValue::Name => "a name as text: 1 to 32 letters, digits, `_`, `-` and `.`",
-            ExpectedValue::NewName => "a name that no earlier entry has",
-            ExpectedValue::Binary => "`script`, `log`, `files` or `init`",
-            ExpectedValue::Amount => "an amount as text",
-            ExpectedValue::Caps => "a whole number from 0 to 4294967295",
-            ExpectedValue::NoReserve => "no reserve, since only a script has one",
-            ExpectedValue::Provides => {
-                "a list of at most the binary's service: `LOG` of `log`, `File_system` of `files`"
-            }
-            ExpectedValue::True => "true",
-            ExpectedValue::Text => "a text",
-            ExpectedValue::OneService => "one of `service` and `any-service`",
-            ExpectedValue::OneTarget => "one of `child`, `any-child` and `parent`",
-        })
-    }
-}
 
 /// A flaw of a value: the part of the list, the member, if one has the flaw, the value there, and the expected value.
 #[derive(Drop)]
@@ -347,6 +206,7 @@ fn flaw_in(
         ConfigField::Start => Some(flaw_of_start(alloc, found, number)?),
         ConfigField::DefaultRoute => Some(in_inner_route(alloc, value, number, &found.steps)?),
         ConfigField::Route => Some(in_route(alloc, value, number, &found.steps)?),
+        ConfigField::Kinds => Some(in_kinds(alloc, value, number, &found.steps)?),
         _ => {
             let part = ListPart::Entry(number, found.steps.copy(alloc)?);
             let expected = expected_of(value, field, taken);
@@ -374,6 +234,7 @@ fn member_of(field: ConfigField) -> &'static str
         ConfigField::Reserve => "reserve",
         ConfigField::ReserveCaps => "reserve-caps",
         ConfigField::Config => "config",
+        ConfigField::Kinds => "kinds",
     }
 }
 
@@ -382,10 +243,10 @@ fn expected_of(entry: &Value, field: ConfigField, taken: bool) -> ExpectedValue 
     match field {
         ConfigField::Name if taken => ExpectedValue::NewName,
         ConfigField::Name => ExpectedValue::Name,
-        ConfigField::Binary => ExpectedValue::Binary,
+        ConfigField::Binary => binary_expected(entry),
         ConfigField::Quantum => ExpectedValue::Amount,
         ConfigField::Caps => ExpectedValue::Caps,
-        ConfigField::Provides => ExpectedValue::Provides,
+        ConfigField::Provides => provides_expected(entry),
         ConfigField::Reserve => if_script(entry, ExpectedValue::Amount),
         ConfigField::ReserveCaps => if_script(entry, ExpectedValue::Caps),
         _ => config_expected(entry),
@@ -455,6 +316,50 @@ fn in_inner_route(
         config,
         "default-route",
     )
+}
+
+// The flaw of the kinds that an entry declares. It is the flaw of the first value that is no kind, or of the list itself.
+fn in_kinds(
+    alloc: Global,
+    value: &Value,
+    number: usize,
+    steps: &EntrySteps,
+) -> Result<ValueFlaw, AllocError>
+    ensures { IfOk result (λ flaw. spot_of_flaw flaw
+        ≡ kinds_spot number (record { steps = steps.now; value = view value.now })) }
+{
+    let steps = steps.copy(alloc)?;
+    Ok(match bad_kind(value.get("kinds")) {
+        Some(bad) => {
+            let part = ListPart::Kind(number, steps, bad.place);
+            match bad.member {
+                Some(member) => at(part, Some(bad.value), member, bad.expected),
+                None => whole(part, bad.value, bad.expected),
+            }
+        }
+        None => {
+            let part = ListPart::Entry(number, steps);
+            at(part, Some(value), "kinds", ExpectedValue::Kinds)
+        }
+    })
+}
+
+// The value that is expected of `binary`. An entry that has kinds may be meant to declare its service.
+fn binary_expected(entry: &Value) -> ExpectedValue {
+    if entry.get("kinds").is_some() {
+        ExpectedValue::BinaryWithKinds
+    } else {
+        ExpectedValue::Binary
+    }
+}
+
+// The value that is expected of `provides`: a server that declares its service names it.
+fn provides_expected(entry: &Value) -> ExpectedValue {
+    if runs(entry, "server") {
+        ExpectedValue::DeclaredService
+    } else {
+        ExpectedValue::Provides
+    }
 }
 
 // What is expected of a member that only a script's entry has.

@@ -73,7 +73,7 @@ fn find<'v>(
     let mut steps = above.copy(alloc)?;
     steps.push(EntryStep {
         place,
-        name: name_of(entry),
+        name: name_at(entry, "name"),
     })?;
     found.push(EntryValue {
         steps: steps.copy(alloc)?,
@@ -126,11 +126,11 @@ fn text_of(value: Option<&Value>) -> Option<&str>
     value?.as_str()
 }
 
-// The name of an entry, if it has one.
-fn name_of(entry: &Value) -> Option<Name>
-    ensures { result ≡ name_at (codes "name") (view entry.now) }
+/// Returns the name in a member of an object, if the member is the text of one.
+pub(crate) fn name_at(object: &Value, key: &str) -> Option<Name>
+    ensures { result ≡ name_at key.now (view object.now) }
 {
-    Name::read(entry.get("name")?.as_str()?)
+    Name::read(object.get(key)?.as_str()?)
 }
 
 /// Returns the member of a value that has a key, or none if the value or the member is missing.

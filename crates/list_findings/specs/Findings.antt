@@ -3,9 +3,7 @@ use Rattle.std.specs.Prelude.{ℕ, ◌+◌, ◌%◌, ◌==◌, ◌&&◌, Bool, n
 use Rattle.std.specs.List.{enumerate_from, list_any}
 use Rattle.std.specs.Option.{option_map}
 use Rattle.std.specs.Str.{bytes_eq, str_eq_ignore_ascii_case}
-use Rattle.trade_base.specs.Service.{service_name, services}
-use Rattle.trade_base.specs.declared.service.Service.{Service}
-use Rattle.own_model.specs.Listed.{Binary, Listed, ListedEntry, ListedRule, Target, reserve_of}
+use Rattle.own_model.specs.Listed.{Binary, Listed, ListedEntry, ListedRule, Target, reserve_of, services_of}
 use Rattle.own_model.specs.Listed.Binary.{Script, Server, Init}
 use Rattle.own_model.specs.Listed.Target.{Child, AnyChild, Parent}
 use Rattle.list_findings.specs.UnreachableRules.{decides_some, hides}
@@ -40,13 +38,11 @@ hidden before rule = option_map Hidden (position (λ earlier. hides earlier rule
 abbrev pub is_in_case : List ℕ → List ℕ → Bool
 is_in_case written service = str_eq_ignore_ascii_case written service && not (bytes_eq written service)
 
-abbrev pub case_of : List ℕ → Service → Bool
-case_of written service = is_in_case written (service_name service)
-
--- a rule asks for a service in another case
-abbrev pub other_case : Option (List ℕ) → Option Remark
-other_case None = None
-other_case (Some service) = option_map (λ meant. OtherCase service (service_name meant)) (find (case_of service) services)
+-- a rule asks for a name that is none of these services, and differs from one in case alone
+abbrev pub other_case : List (List ℕ) → Option (List ℕ) → Option Remark
+other_case services None = None
+other_case services (Some name) =
+    if list_any (bytes_eq name) services then None else option_map (OtherCase name) (find (is_in_case name) services)
 
 -- an entry of an init's list has a name
 abbrev pub has_name : List ListedEntry → ℕ → List ℕ → Bool
@@ -78,14 +74,14 @@ strays_if_provided entries init before rule service =
     if is_provided entries init service then strays entries init before rule service else None
 
 -- the findings for one of all services
-abbrev pub strays_of : List ListedEntry → ℕ → ListPart → List ListedRule → ListedRule → Service → List Finding
-strays_of entries init part before rule service = finding_on part (strays_if_provided entries init before rule (service_name service))
+abbrev pub strays_of : List ListedEntry → ℕ → ListPart → List ListedRule → ListedRule → List ℕ → List Finding
+strays_of entries init part before rule service = finding_on part (strays_if_provided entries init before rule service)
 
 -- the findings for the service that a rule asks for, or for each
 abbrev pub stray_findings : List ListedEntry → ℕ → ListPart → List ListedRule → ListedRule → Option (List ℕ) → List Finding
 stray_findings entries init part before rule (Some service) = finding_on part (strays entries init before rule service)
 stray_findings entries init part before rule None =
-    flat_map (strays_of entries init part before rule) services
+    flat_map (strays_of entries init part before rule) (services_of entries)
 
 -- the finding that its child isn't there, or else the findings for which services it routes to no child
 abbrev pub target_findings : List ListedEntry → ℕ → ListPart → List ListedRule → ListedRule → Option Remark → List Finding
@@ -95,7 +91,7 @@ target_findings entries init part before rule None = stray_findings entries init
 -- the findings on the service and the target of a rule of an init's list, which is this part, after the earlier rules
 abbrev pub rule_findings : List ListedEntry → ℕ → ListPart → List ListedRule → ListedRule → List Finding
 rule_findings entries init part before rule =
-    finding_on part (other_case rule.service) ++ target_findings entries init part before rule (no_child entries init rule.target)
+    finding_on part (other_case (services_of entries) rule.service) ++ target_findings entries init part before rule (no_child entries init rule.target)
 
 -- the first of two that there is
 abbrev pub or_else : Option Remark → Option Remark → Option Remark

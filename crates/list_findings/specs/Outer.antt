@@ -1,11 +1,10 @@
 -- Texts that rules ask of labels, and rules of outer lists, which see names before the label that a client gives.
-use Rattle.std.specs.Prelude.{ℕ, ◌+◌, ◌&&◌, ◌||◌, Bool, true, false, not, List, codes, drop, find, length, nat_eq, nat_lt, if◌then◌else◌, Option, Some, None}
+use Rattle.std.specs.Prelude.{ℕ, ◌+◌, ◌&&◌, ◌||◌, Bool, not, List, codes, drop, find, length, nat_eq, nat_lt, if◌then◌else◌, Option, Some, None}
 use Rattle.std.specs.List.{enumerate_from, ends_with, list_all, list_any, starts_with}
 use Rattle.std.specs.Option.{option_map}
 use Rattle.std.specs.Str.{bytes_eq}
-use Rattle.list_parser.specs.Depth.{is_init}
-use Rattle.own_model.specs.Listed.{Binary, Listed, ListedEntry, ListedRule}
-use Rattle.own_model.specs.Listed.Binary.{Script, Server, Init}
+use Rattle.list_parser.specs.Depth.{is_init, runs_server}
+use Rattle.own_model.specs.Listed.{Listed, ListedEntry, ListedRule}
 use Rattle.own_model.specs.SessionArgs.{is_quotable}
 use Rattle.list_parts.specs.Texts.{has}
 use Rattle.list_findings.specs.Idle.{is_of}
@@ -56,15 +55,10 @@ idle_remark outer rule = idle_by (no_label_in outer rule) (has_arrow outer rule)
 
 -- ---- fronts that are names
 
-abbrev pub is_server : Binary → Bool
-is_server Script = false
-is_server (Server service offer) = true
-is_server Init = false
-
 -- an entry that makes requests, or whose own entries do, is below an init
 abbrev pub is_below : ListedEntry → ListedEntry → Bool
 is_below init entry =
-    not (is_server entry.binary)
+    not (runs_server entry.binary)
     && (starts_with nat_eq entry.label init.label && starts_with nat_eq (drop (length init.label) entry.label) (codes " -> "))
 
 -- what an init's rules see of the names of an entry below it

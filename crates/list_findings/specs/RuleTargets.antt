@@ -1,8 +1,7 @@
--- The targets of rules, and the entries whose requests are decided.
-use Rattle.std.specs.Prelude.{ℕ, Bool, true, false, List, Option, Some, None}
+-- The targets of rules.
+use Rattle.std.specs.Prelude.{ℕ, Bool, false, List, Option, Some, None}
 use Rattle.std.specs.List.{list_any}
-use Rattle.own_model.specs.Listed.{Binary, ListedEntry, Target, end_of, offers, way_to}
-use Rattle.own_model.specs.Listed.Binary.{Script, Server, Init}
+use Rattle.own_model.specs.Listed.{ListedEntry, Target, end_of, offers, way_to}
 
 -- some entry of an init's list provides a service
 abbrev pub is_provided : List ListedEntry → ℕ → List ℕ → Bool
@@ -16,8 +15,3 @@ child_at entries init target service = end_of (way_to entries init target servic
 abbrev pub of_init : (ListedEntry → Bool) → Option ListedEntry → Bool
 of_init holds None = false
 of_init holds (Some init) = holds init
-
-abbrev pub is_script : Binary → Bool
-is_script Script = true
-is_script (Server service offer) = false
-is_script Init = false

@@ -1,13 +1,13 @@
 -- Servers' budgets that nothing uses: no call changes what a server's account has.
 use Rattle.std.specs.Prelude.{◌&&◌, ◌||◌, List, [], ◌∷◌, flat_map, nat_lt, if◌then◌else◌, Option, Some, None}
 use Rattle.own_model.specs.Listed.{Listed, ListedEntry}
-use Rattle.list_findings.specs.Outer.{is_server}
+use Rattle.list_parser.specs.Depth.{runs_server}
 use Rattle.list_findings.specs.declared.unused_budget.UnusedBudget.{UnusedBudget}
 
 -- the budget of an entry, if it is a server's and has RAM or capabilities
 abbrev pub spare_in : ListedEntry → List UnusedBudget
 spare_in entry =
-    if is_server entry.binary && (nat_lt 0 entry.ram || nat_lt 0 entry.caps)
+    if runs_server entry.binary && (nat_lt 0 entry.ram || nat_lt 0 entry.caps)
     then record { path = entry.path; ram = entry.ram; caps = entry.caps } ∷ [] else []
 
 -- the budgets of all servers

@@ -22,7 +22,7 @@ use Rattle.list_parts.specs.declared.list_part.EntryStep.{EntryStep}
 
 -- ---- of an object
 
--- the members that are read of an entry, except an init's `config`
+-- the members that are read of an entry, except an init's `config` and a server's `kinds`
 abbrev pub entry_members : List (List ℕ)
 entry_members =
     codes "name" ∷ codes "binary" ∷ codes "quantum" ∷ codes "caps" ∷ codes "provides" ∷ codes "route"
@@ -38,9 +38,11 @@ abbrev pub members_read : ObjectKind → List (List ℕ)
 members_read table.List = codes "machine" ∷ codes "default-route" ∷ codes "start" ∷ codes "$schema" ∷ []
 members_read table.Machine = codes "pages" ∷ codes "caps" ∷ []
 members_read table.Entry = entry_members
+members_read table.Server = entry_members ++ codes "kinds" ∷ []
 members_read table.Init = entry_members ++ codes "config" ∷ []
 members_read table.Config = codes "default-route" ∷ codes "start" ∷ []
 members_read table.Rule = rule_members
+members_read table.Kind = codes "kind" ∷ codes "block" ∷ codes "bytes" ∷ []
 
 -- a comment's name begins with `_`
 abbrev pub is_comment : List ℕ → Bool
@@ -78,13 +80,29 @@ unread_in_config number steps config =
     unread_in table.Config (parts.Config number steps) config
     ++ unread_in_rules (owner.Inner number) steps (option_and_then (get (codes "default-route")) config)
 
--- the findings on an entry, by its number, on its own route, and on what it starts if it is an init
+-- the findings on the kinds of objects that a server declares
+abbrev pub unread_in_kinds : ℕ → List EntryStep → Option Data → List Finding
+unread_in_kinds number steps d =
+    flat_map (λ kind. unread_in table.Kind (parts.Kind number steps kind.0) (Some kind.1)) (enumerate_from 0 (elements_in d))
+
+-- which object an entry is, by its binary
+abbrev pub entry_kind : Data → ObjectKind
+entry_kind entry =
+    if runs (codes "init") entry then table.Init else (if runs (codes "server") entry then table.Server else table.Entry)
+
+-- the findings on what an init starts, or on a server's kinds
+abbrev pub unread_within : ℕ × EntryValue → List Finding
+unread_within entry =
+    if runs (codes "init") entry.1.value then unread_in_config entry.0 entry.1.steps (get (codes "config") entry.1.value)
+    else (if runs (codes "server") entry.1.value then unread_in_kinds entry.0 entry.1.steps (get (codes "kinds") entry.1.value)
+    else [])
+
+-- the findings on an entry, by its number, on its own route, and on what it starts or declares
 abbrev pub unread_in_entry : ℕ × EntryValue → List Finding
 unread_in_entry entry =
-    let is_init = runs (codes "init") entry.1.value in
-    unread_in (if is_init then table.Init else table.Entry) (parts.Entry entry.0 entry.1.steps) (Some entry.1.value)
+    unread_in (entry_kind entry.1.value) (parts.Entry entry.0 entry.1.steps) (Some entry.1.value)
     ++ unread_in_rules (owner.Entry entry.0) entry.1.steps (get (codes "route") entry.1.value)
-    ++ (if is_init then unread_in_config entry.0 entry.1.steps (get (codes "config") entry.1.value) else [])
+    ++ unread_within entry
 
 -- the findings on all lists: on the machine's list, its machine, its default route, and then each entry
 abbrev pub unread_of : Data → List Finding

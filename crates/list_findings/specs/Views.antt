@@ -1,26 +1,17 @@
 -- The route decisions on the requests of all scripts, for each service, for each name that a rule asks for, and for any other
 -- name.
 use Rattle.std.specs.Prelude.{◌≡◌, ℕ, List, [], ◌∷◌, ◌++◌, flat_map, map, if◌then◌else◌, Option, Some, None, All}
-use Rattle.std.specs.List.{enumerate_from, list_any}
-use Rattle.std.specs.Str.{bytes_eq}
-use Rattle.trade_base.specs.Service.{service_name, services}
-use Rattle.own_model.specs.Listed.{Listed, ListedEntry, ListedRule}
+use Rattle.std.specs.List.{enumerate_from}
+use Rattle.own_model.specs.Listed.{Listed, ListedEntry, ListedRule, services_of, with_name}
+use Rattle.list_parser.specs.Depth.{runs_script}
 use Rattle.list_reach.specs.Deciding.{AreDecisions, DecisionAt}
-use Rattle.list_findings.specs.RuleTargets.{is_script}
 
 -- ---- services
 
-abbrev pub with_service : List (List ℕ) → List ℕ → List (List ℕ)
-with_service services service = if list_any (bytes_eq service) services then services else services ++ service ∷ []
-
--- with the one that a rule asks for, if it asks for one
-abbrev pub with_asked : List (List ℕ) → Option (List ℕ) → List (List ℕ)
-with_asked services None = services
-with_asked services (Some service) = with_service services service
-
+-- with those that rules ask for
 abbrev pub with_rules : List (List ℕ) → List ListedRule → List (List ℕ)
 with_rules services [] = services
-with_rules services (rule ∷ rules) = with_rules (with_asked services rule.service) rules
+with_rules services (rule ∷ rules) = with_rules (with_name services rule.service) rules
 
 abbrev pub with_route : List (List ℕ) → Option (List ListedRule) → List (List ℕ)
 with_route services None = services
@@ -33,13 +24,9 @@ abbrev pub with_entries : List (List ℕ) → List ListedEntry → List (List �
 with_entries services [] = services
 with_entries services (entry ∷ entries) = with_entries (with_entry services entry) entries
 
--- those that there are
-abbrev pub served : List (List ℕ)
-served = map service_name services
-
--- an empty name, which no rule asks for, those that there are, and those that some rule asks for
-abbrev pub services_of : Listed → List (List ℕ)
-services_of list = with_entries (with_rules ([] ∷ served) list.default_route) list.entries
+-- an empty name, which no rule asks for, the services of the list, and those that some rule asks for
+abbrev pub names_asked : Listed → List (List ℕ)
+names_asked list = with_entries (with_rules ([] ∷ services_of list.entries) list.default_route) list.entries
 
 -- ---- scripts that ask for them
 
@@ -49,13 +36,13 @@ pub record Asking : Type 0 where
 
 -- an entry, by its number, if it is a script's
 abbrev pub asking_by : List ℕ → ℕ × ListedEntry → List Asking
-asking_by service entry = if is_script entry.1.binary then record { client = entry.0; service = service } ∷ [] else []
+asking_by service entry = if runs_script entry.1.binary then record { client = entry.0; service = service } ∷ [] else []
 
 abbrev pub askings_for : Listed → List ℕ → List Asking
 askings_for list service = flat_map (asking_by service) (enumerate_from 0 list.entries)
 
 abbrev pub askings : Listed → List Asking
-askings list = flat_map (askings_for list) (services_of list)
+askings list = flat_map (askings_for list) (names_asked list)
 
 -- ---- how their requests are decided
 

@@ -1,19 +1,18 @@
 //! The route decisions on the requests of all scripts, for each service, for each name that a rule asks for, and for any other
 //! name.
-ghost use Rattle.std.specs.Prelude.{◌≡◌, ◌<◌, [], ◌∷◌, ◌++◌, length, All, IfOk, OnOk};
+ghost use Rattle.std.specs.Prelude.{◌≡◌, ◌<◌, [], ◌∷◌, ◌++◌, length, All, IfOk, OnOk, Some};
 ghost use Rattle.std.specs.List.{list_any};
 ghost use Rattle.std.specs.Option.{option_copied};
 ghost use Rattle.std.specs.Str.{bytes_eq};
-ghost use Rattle.list_findings.specs.Views.{IsShown, ShowAll, Shows, asking_by, askings_for, served, services_of, with_asked, with_entry, with_rules, with_service};
+ghost use Rattle.own_model.specs.Listed.{services_of, with_name};
+ghost use Rattle.list_findings.specs.Views.{IsShown, ShowAll, Shows, asking_by, askings_for, names_asked, with_entry, with_rules};
 
 use crate::finding::FindingText;
-use crate::rule_targets::is_script;
 use list_labels::SessionRequests;
 use list_parser::{ListEntry, Name, Rule, StartList};
-use list_reach::RouteDecisions;
+use list_reach::{RouteDecisions, service_name};
 use std::alloc::{AllocError, Global};
 use std::marker::Model;
-use trade_base::SERVICES;
 
 /// The route decisions on the requests of a script for a service.
 #[derive(Drop)]
@@ -51,7 +50,7 @@ pub(crate) struct DecidedList<'a> {
 pub(crate) fn views_of(alloc: Global, list: &StartList) -> Result<Vec<DecisionView>, AllocError>
     ensures { IfOk result (λ views. ShowAll list.now views.items) }
 {
-    let services = services_of(alloc, list)?;
+    let services = names_asked(alloc, list)?;
     let mut views = Vec::new(alloc);
     for place in 0..services.len() {
         add_service(alloc, &mut views, list, &services[place])?;
@@ -93,7 +92,7 @@ fn add_script(
     ensures { OnOk result (Shows list.now views.old.items
         (asking_by service.now (client, entry.now)) views.new.items) }
 {
-    if is_script(entry.binary()) {
+    if entry.is_script() {
         add_view(alloc, views, list, client, service)
     } else {
         Ok(())
@@ -129,13 +128,13 @@ fn add_view(
     Ok(())
 }
 
-// An empty name, which no rule asks for, the services that there are, and those that some rule asks for.
-fn services_of(alloc: Global, list: &StartList) -> Result<Vec<FindingText>, AllocError>
-    ensures { IfOk result (λ services. services.items ≡ services_of list.now) }
+// An empty name, which no rule asks for, the services of the list, and those that some rule asks for.
+fn names_asked(alloc: Global, list: &StartList) -> Result<Vec<FindingText>, AllocError>
+    ensures { IfOk result (λ services. services.items ≡ names_asked list.now) }
 {
     let mut services = Vec::new(alloc);
-    services.push(FindingText::copy_of(alloc, "")?)?;
-    add_served(alloc, &mut services)?;
+    add_text(alloc, &mut services, "")?;
+    add_services(alloc, &mut services, list)?;
     add_rules(alloc, &mut services, list.default_route())?;
     for entry in list.entries() {
         add_entry(alloc, &mut services, entry)?;
@@ -143,14 +142,27 @@ fn services_of(alloc: Global, list: &StartList) -> Result<Vec<FindingText>, Allo
     Ok(services)
 }
 
-// With those that there are.
-fn add_served(alloc: Global, found: &mut Vec<FindingText>) -> Result<(), AllocError>
-    ensures { OnOk result (found.new.items ≡ found.old.items ++ served) }
+// With those of the list.
+fn add_services(
+    alloc: Global,
+    found: &mut Vec<FindingText>,
+    list: &StartList,
+) -> Result<(), AllocError>
+    ensures { OnOk result
+        (found.new.items ≡ found.old.items ++ services_of list.now.entries) }
 {
-    let services = SERVICES.as_slice();
-    for place in 0..services.len() {
-        found.push(FindingText::copy_of(alloc, services[place].name())?)?;
+    for number in 0..list.service_count() {
+        let service = service_name(list, number);
+        add_text(alloc, found, service)?;
     }
+    Ok(())
+}
+
+// With a text.
+fn add_text(alloc: Global, found: &mut Vec<FindingText>, text: &str) -> Result<(), AllocError>
+    ensures { OnOk result (found.new.items ≡ found.old.items ++ text.now ∷ []) }
+{
+    found.push(FindingText::copy_of(alloc, text)?)?;
     Ok(())
 }
 
@@ -189,7 +201,7 @@ fn add_asked(
     asked: Option<&Name>,
 ) -> Result<(), AllocError>
     ensures { OnOk result
-        (services.new.items ≡ with_asked services.old.items (option_copied asked.entry)) }
+        (services.new.items ≡ with_name services.old.items (option_copied asked.entry)) }
 {
     match asked {
         Some(service) => add_name(alloc, services, service),
@@ -203,10 +215,11 @@ fn add_name(
     services: &mut Vec<FindingText>,
     service: &Name,
 ) -> Result<(), AllocError>
-    ensures { OnOk result (services.new.items ≡ with_service services.old.items service.now) }
+    ensures { OnOk result
+        (services.new.items ≡ with_name services.old.items (Some service.now)) }
 {
     if !is_there(services, service) {
-        services.push(FindingText::copy_of(alloc, service.as_str())?)?;
+        add_text(alloc, services, service.as_str())?;
     }
     Ok(())
 }

@@ -56,7 +56,7 @@ impl FindingText {
     }
 }
 
-/// A name that a start list can have, such as that of a member that is read or that of a service.
+/// The name of a member that is read of a start list.
 #[derive(Drop)]
 pub struct StaticName(pub(crate) &'static str);
 
@@ -95,7 +95,7 @@ pub enum Remark {
     /// An earlier rule of the same list, at this place, matches all requests that the rule matches.
     Hidden(usize),
     /// A rule asks for a service that no server has. The second name is the service that differs in case alone.
-    OtherCase(Name, StaticName),
+    OtherCase(Name, Name),
     /// A rule decides nothing.
     Idle,
     /// A rule decides nothing, since this member asks for a text that no label has.
@@ -107,7 +107,7 @@ pub enum Remark {
     /// A rule of an outer list asks how a label ends.
     ChosenEnd,
     /// A server doesn't provide its service.
-    NotProviding(StaticName),
+    NotProviding(Name),
     /// No script's session request is routed to the server.
     Unreached,
     /// A request is routed to a server, but the RAM of the account and the reserve together is insufficient for a session.
@@ -176,14 +176,13 @@ impl Remark {
             Remark::NoChild(name, _)
             | Remark::NoProvider(name)
             | Remark::SeveralProviders(name)
-            | Remark::OtherCase(name, _) => RemarkValue::Name(name.as_str()),
+            | Remark::OtherCase(name, _)
+            | Remark::NotProviding(name) => RemarkValue::Name(name.as_str()),
             Remark::NotProvided(child, service) => {
                 RemarkValue::Service(child.as_str(), service.as_str())
             }
             Remark::LetsIn(front, name) => RemarkValue::Prefix(front.as_str(), name.as_str()),
-            Remark::NoLabel(known) | Remark::NotProviding(known) => {
-                RemarkValue::Name(known.as_str())
-            }
+            Remark::NoLabel(member) => RemarkValue::Name(member.as_str()),
             Remark::Hidden(rule) => RemarkValue::Number(*rule as u64),
             Remark::LowRam(own, kept) => RemarkValue::Ram(*own, *kept),
             Remark::LowCaps(own, kept) => RemarkValue::Caps(*own, *kept),
@@ -227,8 +226,8 @@ impl Remark {
         ensures { option_copied result ≡ (phrase_of self.now).near }
     {
         match self {
-            Remark::Unread(_, Some(known)) | Remark::OtherCase(_, known) => Some(known.as_str()),
-            Remark::NoChild(_, Some(name)) => Some(name.as_str()),
+            Remark::Unread(_, Some(known)) => Some(known.as_str()),
+            Remark::NoChild(_, Some(name)) | Remark::OtherCase(_, name) => Some(name.as_str()),
             _ => None,
         }
     }

@@ -2,7 +2,6 @@
 //! entry follows with its own route and the default route of what it starts.
 ghost use Rattle.std.specs.Prelude.{◌≡◌, ◌<◌, ◌++◌, is_some, OnOk};
 ghost use Rattle.std.specs.Option.{option_copied};
-ghost use Rattle.trade_base.specs.Service.{service_name};
 ghost use Rattle.list_findings.specs.Findings.{entry_findings, finding_on, findings_of, hidden, label_findings, low_caps, low_ram, missed, pages_findings, part_pages, part_reserve, route_findings, rule_findings, rules_findings, unreached, use_findings, useless};
 ghost use Rattle.list_findings.specs.Outer.{chosen_end, outer_init, wide_front};
 ghost use Rattle.list_parts.specs.Steps.{part_of};
@@ -10,7 +9,7 @@ ghost use Rattle.list_findings.specs.Views.{ShowAll};
 ghost use Rattle.list_parts.specs.declared.list_part.PartId.TheVariants as about;
 
 use crate::decision_views::{DecidedList, views_of};
-use crate::finding::{Finding, Remark, StaticName};
+use crate::finding::{Finding, Remark};
 use crate::idle_rules::is_idle;
 use crate::missing_targets::add_target_findings;
 use crate::near::other_case;
@@ -18,11 +17,11 @@ use crate::outer_lists::{chosen_end, idle_remark, outer_init, wide_front};
 use crate::placed_rule::PlacedRule;
 use crate::reached::{is_routed_at_all, is_routed_to};
 use crate::rule_targets::before;
+use crate::service_names::built_in_name;
 use crate::unreachable_rules::hidden_by;
-use list_parser::{Binary, ListEntry, Rule, StartList};
+use list_parser::{Binary, ListEntry, Name, Rule, StartList};
 use list_parts::{PartId, RuleOwner};
 use std::alloc::{AllocError, Global};
-use trade_base::Service;
 
 /// The minimum RAM in bytes that suffices for a session.
 const SESSION_RAM: u64 = 4096;
@@ -139,12 +138,34 @@ fn add_use_findings(
             add_remark(found, alloc, list, about, low_ram(decided, number, entry))?;
             add_remark(found, alloc, list, about, low_caps(decided, number, entry))
         }
-        Binary::Server(service) => {
-            let remark = missed(decided, service, number, entry);
-            add_remark(found, alloc, list, about, remark)
+        Binary::Server(service) => match built_in_name(*service) {
+            Some(name) => add_missed(found, alloc, decided, number, entry, name),
+            None => Ok(()),
+        },
+        Binary::Declared(service) => {
+            let name = service.name().copy();
+            add_missed(found, alloc, decided, number, entry, name)
         }
         Binary::Init => Ok(()),
     }
+}
+
+// Adds the finding that a server of a service doesn't provide it, or isn't reached.
+fn add_missed(
+    found: &mut Vec<Finding>,
+    alloc: Global,
+    decided: DecidedList<'_>,
+    number: usize,
+    entry: &ListEntry,
+    service: Name,
+) -> Result<(), AllocError>
+    requires views { ShowAll decided.list.now decided.views.now }
+    ensures { OnOk result (found.new.items ≡ found.old.items
+        ++ finding_on (part_of decided.entry.list.now.entries (about.Entry number))
+        (missed decided.entry.list.now service (number, entry.now))) }
+{
+    let remark = missed(decided, service, number, entry);
+    add_remark(found, alloc, decided.list, PartId::Entry(number), remark)
 }
 
 // Whether an entry's RAM isn't whole pages.
@@ -200,18 +221,18 @@ fn low_caps(decided: DecidedList<'_>, number: usize, entry: &ListEntry) -> Optio
 // Whether a server doesn't provide its service, or isn't reached.
 fn missed(
     decided: DecidedList<'_>,
-    service: Service,
+    service: Name,
     number: usize,
     entry: &ListEntry,
 ) -> Option<Remark>
     requires views { ShowAll decided.list.now decided.views.now }
     ensures { result
-        ≡ missed decided.entry.list.now (service_name service) (number, entry.now) }
+        ≡ missed decided.entry.list.now service (number, entry.now) }
 {
     if entry.provides() {
         unreached(decided, number)
     } else {
-        Some(Remark::NotProviding(StaticName(service.name())))
+        Some(Remark::NotProviding(service))
     }
 }
 
@@ -331,7 +352,7 @@ fn add_rule_findings(
         (part_of list.now.entries (about.Rule placed.entry.owner placed.entry.place))
         placed.entry.earlier.now placed.entry.rule.now) }
 {
-    let remark = other_case(placed.rule.service());
+    let remark = other_case(list, placed.rule.service());
     add_remark(found, alloc, list, placed.part(), remark)?;
     add_target_findings(found, alloc, list, placed)
 }

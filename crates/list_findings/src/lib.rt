@@ -18,6 +18,7 @@ mod outer_lists;
 mod placed_rule;
 mod reached;
 mod rule_targets;
+mod service_names;
 mod unreachable_rules;
 mod unread_members;
 mod unused_budget;

@@ -15,14 +15,18 @@ pub(crate) enum ObjectKind {
     List,
     /// Its machine.
     Machine,
-    /// An entry of another binary than an init's.
+    /// An entry of another binary than these two.
     Entry,
+    /// The entry of a server that declares its service.
+    Server,
     /// An init's entry.
     Init,
     /// What an init starts.
     Config,
     /// A rule.
     Rule,
+    /// A kind of objects that a server declares.
+    Kind,
 }
 
 impl ObjectKind {
@@ -42,6 +46,17 @@ impl ObjectKind {
                 "route",
                 "reserve",
                 "reserve-caps",
+            ],
+            ObjectKind::Server => &[
+                "name",
+                "binary",
+                "quantum",
+                "caps",
+                "provides",
+                "route",
+                "reserve",
+                "reserve-caps",
+                "kinds",
             ],
             ObjectKind::Init => &[
                 "name",
@@ -65,6 +80,7 @@ impl ObjectKind {
                 "any-child",
                 "parent",
             ],
+            ObjectKind::Kind => &["kind", "block", "bytes"],
         }
     }
 

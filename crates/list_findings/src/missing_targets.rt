@@ -1,8 +1,8 @@
 //! Rules that route to no child: the child isn't there, or doesn't provide the service that it is asked for.
 ghost use Rattle.std.specs.Prelude.{◌≡◌, ◌++◌, IfOk, OnOk, None};
-ghost use Rattle.trade_base.specs.Service.{service_name};
+ghost use Rattle.list_parser.specs.Services.{service_text};
 ghost use Rattle.list_parser.specs.View.{model_target};
-ghost use Rattle.list_findings.specs.Findings.{has_name, misled, no_child, stray_findings, strays, strays_if_provided, target_findings};
+ghost use Rattle.list_findings.specs.Findings.{has_name, misled, no_child, stray_findings, strays, strays_if_provided, strays_of, target_findings};
 ghost use Rattle.list_parts.specs.Steps.{part_of};
 ghost use Rattle.list_parts.specs.declared.list_part.PartId.TheVariants as about;
 
@@ -11,11 +11,11 @@ use crate::findings::add_remark;
 use crate::near::near_name;
 use crate::placed_rule::PlacedRule;
 use crate::rule_targets::is_provided;
+use crate::service_names::name_of;
 use crate::unreachable_rules::decides_some;
-use list_parser::{ListEntry, Name, StartList, Target};
+use list_parser::{ListEntry, ListService, Name, StartList, Target};
 use list_routes::target_child;
 use std::alloc::{AllocError, Global};
-use trade_base::{SERVICES, Service};
 
 /// Adds the finding that the child of a rule of an init's list isn't there. If it is there, adds the findings for which services
 /// the rule routes to no child. Fails if the host is out of memory.
@@ -100,21 +100,40 @@ fn add_all_stray_findings(
         (part_of list.now.entries (about.Rule placed.entry.owner placed.entry.place))
         placed.entry.earlier.now placed.entry.rule.now None) }
 {
-    let services = SERVICES.as_slice();
-    for place in 0..services.len() {
-        let remark = strays_if_provided(list, placed, services[place]);
-        add_remark(found, alloc, list, placed.part(), remark)?;
+    for number in 0..list.service_count() {
+        let service = list.service(number);
+        add_stray_finding(found, alloc, list, placed, service)?;
     }
     Ok(())
 }
 
-// The remark that a rule of any service routes to no child for a service that some entry of its list provides.
-#[tactic(auto, using(crate::proofs::ServiceNames::service_is_named))]
-fn strays_if_provided(list: &StartList, placed: PlacedRule<'_>, service: Service) -> Option<Remark>
-    ensures { result ≡ strays_if_provided list.now.entries placed.entry.init
-        placed.entry.earlier.now placed.entry.rule.now (service_name service) }
+// Adds the finding that a rule of any service routes to no child for one service.
+fn add_stray_finding(
+    found: &mut Vec<Finding>,
+    alloc: Global,
+    list: &StartList,
+    placed: PlacedRule<'_>,
+    service: ListService<'_>,
+) -> Result<(), AllocError>
+    ensures { OnOk result (found.new.items
+        ≡ found.old.items ++ strays_of list.now.entries placed.entry.init
+        (part_of list.now.entries (about.Rule placed.entry.owner placed.entry.place))
+        placed.entry.earlier.now placed.entry.rule.now (service_text service.entry)) }
 {
-    match Name::read(service.name()) {
+    let remark = strays_if_provided(list, placed, service);
+    add_remark(found, alloc, list, placed.part(), remark)
+}
+
+// The remark that a rule of any service routes to no child for a service that some entry of its list provides.
+fn strays_if_provided(
+    list: &StartList,
+    placed: PlacedRule<'_>,
+    service: ListService<'_>,
+) -> Option<Remark>
+    ensures { result ≡ strays_if_provided list.now.entries placed.entry.init
+        placed.entry.earlier.now placed.entry.rule.now (service_text service.entry) }
+{
+    match name_of(service) {
         Some(name) if is_provided(list, placed.init, name.as_bytes()) => {
             strays(list, placed, &name)
         }

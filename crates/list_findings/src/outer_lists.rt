@@ -3,13 +3,12 @@ ghost use Rattle.std.specs.Prelude.{◌≡◌, ◌+◌, drop, find, length, nat_
 ghost use Rattle.std.specs.List.{ends_with, list_all, list_any, starts_with};
 ghost use Rattle.std.specs.Option.{option_copied, option_map};
 ghost use Rattle.own_model.specs.SessionArgs.{is_quotable};
-ghost use Rattle.list_parser.specs.View.{model_binary};
 ghost use Rattle.list_parts.specs.Texts.{has};
-ghost use Rattle.list_findings.specs.Outer.{chosen_end, has_arrow, is_asked_by, is_below, is_let_in, is_named, is_no_label, is_server, let_in_by, most_seen, names_from, no_label_in, outer_init, idle_remark, wide_front};
+ghost use Rattle.list_findings.specs.Outer.{chosen_end, has_arrow, is_asked_by, is_below, is_let_in, is_named, is_no_label, let_in_by, most_seen, names_from, no_label_in, outer_init, idle_remark, wide_front};
 
 use crate::finding::{FindingText, Remark, StaticName};
 use crate::idle_rules::is_of;
-use list_parser::{Binary, ListEntry, Rule, StartList};
+use list_parser::{ListEntry, Rule, StartList};
 use list_parts::RuleOwner;
 use std::alloc::{AllocError, Global};
 use text_codec::is_quotable;
@@ -173,19 +172,9 @@ fn is_below(init: &ListEntry, entry: &ListEntry) -> bool
 {
     let above = init.label();
     let label = entry.label();
-    !is_server(entry.binary())
+    !entry.is_server()
         && label.starts_with(above)
         && behind(label, above.len()).starts_with(b" -> ")
-}
-
-/// Returns whether a binary is that of a server.
-pub(crate) fn is_server(binary: Binary) -> bool
-    ensures { result ≡ is_server (model_binary binary) }
-{
-    match binary {
-        Binary::Server(_) => true,
-        Binary::Script | Binary::Init => false,
-    }
 }
 
 // What an init's rules see of the names of an entry below it.

@@ -1,9 +1,8 @@
-//! The targets of rules, and the components whose requests are decided.
+//! The targets of rules.
 ghost use Rattle.std.specs.Prelude.{◌≡◌, take};
-ghost use Rattle.list_parser.specs.View.{model_binary};
-ghost use Rattle.list_findings.specs.RuleTargets.{is_provided, is_script};
+ghost use Rattle.list_findings.specs.RuleTargets.{is_provided};
 
-use list_parser::{Binary, Rule, StartList};
+use list_parser::{Rule, StartList};
 
 /// Returns whether some entry of an init's list provides a service.
 pub(crate) fn is_provided(list: &StartList, init: usize, service: &[u8]) -> bool
@@ -19,14 +18,4 @@ pub(crate) fn before(rules: &[Rule], place: usize) -> &[Rule]
     ensures { result.now ≡ take place rules.now }
 {
     &rules[..place.min(rules.len())]
-}
-
-/// Returns whether a binary is that of a script.
-pub(crate) fn is_script(binary: Binary) -> bool
-    ensures { result ≡ is_script (model_binary binary) }
-{
-    match binary {
-        Binary::Script => true,
-        Binary::Server(_) | Binary::Init => false,
-    }
 }

@@ -4,7 +4,7 @@ ghost use Rattle.std.specs.Option.{option_and_then, option_map};
 ghost use Rattle.serde_json.specs.Find.{as_object};
 ghost use Rattle.serde_json.specs.View.{members_view, view};
 ghost use Rattle.list_findings.specs.Findings.{finding_on};
-ghost use Rattle.list_findings.specs.Unread.{unread_in, unread_in_config, unread_in_entry, unread_in_rules, unread_of};
+ghost use Rattle.list_findings.specs.Unread.{entry_kind, unread_in, unread_in_config, unread_in_entry, unread_in_kinds, unread_in_rules, unread_of, unread_within};
 ghost use Rattle.list_faults.specs.Values.{seen};
 
 use crate::finding::{Finding, Remark};
@@ -43,7 +43,7 @@ pub fn add_unread(found: &mut Vec<Finding>, alloc: Global, list: &Value) -> Resu
     Ok(())
 }
 
-// Adds the findings of an entry, of its own route, and of what it starts if it is an init.
+// Adds the findings of an entry, of its own route, and of what it starts or declares.
 fn add_entry(
     found: &mut Vec<Finding>,
     alloc: Global,
@@ -53,25 +53,44 @@ fn add_entry(
     ensures { OnOk result
         (found.new.items ≡ found.old.items ++ unread_in_entry (number, seen entry.now)) }
 {
-    let is_init = runs(entry.value, "init");
-    let table = if is_init {
-        ObjectKind::Init
-    } else {
-        ObjectKind::Entry
-    };
+    let value = entry.value;
+    let table = entry_kind(value);
     add_own(found, alloc, number, entry, table)?;
-    let rules = entry.value.get("route");
+    let rules = value.get("route");
     add_rules(found, alloc, RuleOwner::Entry(number), &entry.steps, rules)?;
-    if is_init {
-        add_config(
-            found,
-            alloc,
-            number,
-            &entry.steps,
-            entry.value.get("config"),
-        )
+    add_within(found, alloc, number, entry)
+}
+
+// Adds the findings of what an entry starts if it is an init, or of its kinds if it is a server that declares them.
+fn add_within(
+    found: &mut Vec<Finding>,
+    alloc: Global,
+    number: usize,
+    entry: &EntryValue<'_>,
+) -> Result<(), AllocError>
+    ensures { OnOk result
+        (found.new.items ≡ found.old.items ++ unread_within (number, seen entry.now)) }
+{
+    let value = entry.value;
+    if runs(value, "init") {
+        add_config(found, alloc, number, &entry.steps, value.get("config"))
+    } else if runs(value, "server") {
+        add_kinds(found, alloc, number, &entry.steps, value.get("kinds"))
     } else {
         Ok(())
+    }
+}
+
+// Which object an entry is, by its binary.
+fn entry_kind(entry: &Value) -> ObjectKind
+    ensures { result ≡ entry_kind (view entry.now) }
+{
+    if runs(entry, "init") {
+        ObjectKind::Init
+    } else if runs(entry, "server") {
+        ObjectKind::Server
+    } else {
+        ObjectKind::Entry
     }
 }
 
@@ -105,6 +124,24 @@ fn add_config(
     add_members(found, alloc, ObjectKind::Config, &part, config)?;
     let rules = member(config, "default-route");
     add_rules(found, alloc, RuleOwner::Inner(number), steps, rules)
+}
+
+// Adds the findings of the kinds of objects that a server declares, with the steps to the server's entry.
+fn add_kinds(
+    found: &mut Vec<Finding>,
+    alloc: Global,
+    number: usize,
+    steps: &EntrySteps,
+    kinds: Option<&Value>,
+) -> Result<(), AllocError>
+    ensures { OnOk result (found.new.items ≡ found.old.items
+        ++ unread_in_kinds number steps.now (option_map (λ value. view value.now) kinds.entry)) }
+{
+    for (place, kind) in elements(kinds).iter().enumerate() {
+        let part = ListPart::Kind(number, steps.copy(alloc)?, place);
+        add_members(found, alloc, ObjectKind::Kind, &part, Some(kind))?;
+    }
+    Ok(())
 }
 
 // Adds the findings of an owner's rules, with the steps to the owner's entry.

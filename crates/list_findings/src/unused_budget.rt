@@ -2,7 +2,6 @@
 ghost use Rattle.std.specs.Prelude.{◌≡◌, ◌++◌, IfOk, OnOk};
 ghost use Rattle.list_findings.specs.Spare.{spare_in, spare_of};
 
-use crate::outer_lists::is_server;
 use list_parser::{ListEntry, Path, StartList};
 use list_parts::{Amount, show_within};
 use std::alloc::{AllocError, Global};
@@ -63,7 +62,7 @@ pub fn spare_of(alloc: Global, list: &StartList) -> Result<Vec<UnusedBudget>, Al
 fn add(spare: &mut Vec<UnusedBudget>, entry: &ListEntry) -> Result<(), AllocError>
     ensures { OnOk result (spare.new.items ≡ spare.old.items ++ spare_in entry.now) }
 {
-    if is_server(entry.binary()) && (entry.ram() > 0 || entry.caps() > 0) {
+    if entry.is_server() && (entry.ram() > 0 || entry.caps() > 0) {
         spare.push(UnusedBudget {
             path: entry.to_path(),
             ram: entry.ram(),

@@ -26,18 +26,15 @@ added holds some one any =
 pub is_there : (holds : AskedLabel → Bool) (some : List AskedLabel) → list_any holds some ≡ true → Any (λ other. holds other ≡ true) some
 is_there holds some any = Any-from_list_any holds some any
 
-same_text : (text : List ℕ) → bytes_eq text text ≡ true
-same_text text = (bytes_eq-Decides text text).1 refl
-
 pub first_itself : (some : List AskedLabel) (one : AskedLabel) → Any (λ other. is_first_for one other ≡ true) (some ++ one ∷ [])
 first_itself some one =
     Any-push (λ (other : AskedLabel). is_first_for one other ≡ true) some one
-    (and_from _ _ (same_text one.front) (ends_from one.end [] one.end refl))
+    (and_from _ _ ((bytes_eq-Decides one.front one.front).1 refl) (ends_from one.end [] one.end refl))
 
 pub last_itself : (some : List AskedLabel) (one : AskedLabel) → Any (λ other. is_last_for one other ≡ true) (some ++ one ∷ [])
 last_itself some one =
     Any-push (λ (other : AskedLabel). is_last_for one other ≡ true) some one
-    (and_from _ _ (same_text one.end) (begins_from one.front one.front [] (sym (append-nil one.front))))
+    (and_from _ _ ((bytes_eq-Decides one.end one.end).1 refl) (begins_from one.front one.front [] (sym (append-nil one.front))))
 
 -- those before a place are served
 abbrev pub ServedTo : (AskedLabel → AskedLabel → Bool) → List AskedLabel → ℕ → List AskedLabel → Type 0

@@ -7,3 +7,4 @@ pub mod Closure
 pub mod Representatives
 pub mod Asked
 pub mod LabelSets
+pub mod Searches

@@ -2,8 +2,8 @@
 //! themselves. Others begin as one rule asks and end as another rule asks, with nothing or one byte between.
 ghost use Rattle.std.specs.Prelude.{◌≡◌, ◌+◌, ◌≤◌, ◌<◌, ◌++◌, ◌∷◌, true, List, ℕ, length, All, IfOk, IfSome};
 ghost use Rattle.list_labels.specs.LabelRanges.{IsInRange};
-ghost use Rattle.list_labels.specs.Representatives.{RepresentRange};
-ghost use Rattle.list_labels.specs.Asked.{Adds, AreOffered, IsFilled, IsFollowed, IsHeld, IsOffered, joins, known};
+ghost use Rattle.list_labels.specs.Asked.{AreOffered, IsFilled, IsOffered, joins, known};
+ghost use Rattle.list_labels.specs.Searches.{AddsFound, AreFound, IsRepresented, RepresentFound};
 
 use crate::firsts::{firsts_of, lasts_of};
 use crate::keyed_labels::KeyedLabel;
@@ -22,9 +22,7 @@ pub(crate) fn few_representatives(
     search: LabelSearch<'_>,
 ) -> Result<Option<Vec<KeyedLabel>>, AllocError>
     requires client { search.requests.client < length search.requests.list.now.entries }
-    ensures { IfOk result (λ found. IfSome found (λ kept. RepresentRange search.entry.range.now
-        search.entry.requests.list.now search.entry.requests.client
-        search.entry.requests.service.now kept.items)) }
+    ensures { IfOk result (λ found. IfSome found (λ kept. RepresentFound search.entry kept.items)) }
 {
     let mut kept = Vec::new(alloc);
     offer_known(alloc, &mut kept, search)?;
@@ -43,15 +41,11 @@ fn offer_asked(
     search: LabelSearch<'_>,
 ) -> Result<bool, AllocError>
     requires client { search.requests.client < length search.requests.list.now.entries }
-    requires told { All (IsFollowed search.range.now search.requests.list.now search.requests.client
-        search.requests.service.now) kept.old.items }
+    requires told { AreFound search kept.old.items }
     requires known { (label : List ℕ) → IsInRange search.range.now label → known
-        search.requests.list.now search.requests.client label ≡ true → IsHeld
-        search.requests.list.now search.requests.client search.requests.service.now kept.old.items
-        label }
-    ensures { IfOk result (λ done. done ≡ true → RepresentRange search.entry.range.now
-        search.entry.requests.list.now search.entry.requests.client
-        search.entry.requests.service.now kept.new.items) }
+        search.requests.list.now search.requests.client label ≡ true → IsRepresented search
+        kept.old.items label }
+    ensures { IfOk result (λ done. done ≡ true → RepresentFound search.entry kept.new.items) }
 {
     let asked = asked_of(alloc, search.requests, search.range)?;
     let asked = asked.as_slice();
@@ -70,11 +64,8 @@ fn offer_all(
     lasts: &[LabelCondition],
 ) -> Result<bool, AllocError>
     requires client { search.requests.client < length search.requests.list.now.entries }
-    requires told { All (IsFollowed search.range.now search.requests.list.now search.requests.client
-        search.requests.service.now) kept.old.items }
-    ensures adds { IfOk result (λ done. Adds search.entry.range.now search.entry.requests.list.now
-        search.entry.requests.client search.entry.requests.service.now kept.old.items
-        kept.new.items) }
+    requires told { AreFound search kept.old.items }
+    ensures adds { IfOk result (λ done. AddsFound search.entry kept.old.items kept.new.items) }
     ensures offered { IfOk result (λ done. done ≡ true → All (λ first. All (IsOffered
         search.entry.range.now search.entry.requests.list.now search.entry.requests.client
         search.entry.requests.service.now kept.new.items first) lasts.now) firsts.now) }
@@ -96,11 +87,8 @@ fn offer_first(
     lasts: &[LabelCondition],
 ) -> Result<bool, AllocError>
     requires client { search.requests.client < length search.requests.list.now.entries }
-    requires told { All (IsFollowed search.range.now search.requests.list.now search.requests.client
-        search.requests.service.now) kept.old.items }
-    ensures adds { IfOk result (λ done. Adds search.entry.range.now search.entry.requests.list.now
-        search.entry.requests.client search.entry.requests.service.now kept.old.items
-        kept.new.items) }
+    requires told { AreFound search kept.old.items }
+    ensures adds { IfOk result (λ done. AddsFound search.entry kept.old.items kept.new.items) }
     ensures offered { IfOk result (λ done. done ≡ true → All (IsOffered search.entry.range.now
         search.entry.requests.list.now search.entry.requests.client
         search.entry.requests.service.now kept.new.items first.now) lasts.now) }
@@ -122,11 +110,8 @@ fn offer_if(
     last: &LabelCondition,
 ) -> Result<bool, AllocError>
     requires client { search.requests.client < length search.requests.list.now.entries }
-    requires told { All (IsFollowed search.range.now search.requests.list.now search.requests.client
-        search.requests.service.now) kept.old.items }
-    ensures adds { IfOk result (λ done. Adds search.entry.range.now search.entry.requests.list.now
-        search.entry.requests.client search.entry.requests.service.now kept.old.items
-        kept.new.items) }
+    requires told { AreFound search kept.old.items }
+    ensures adds { IfOk result (λ done. AddsFound search.entry kept.old.items kept.new.items) }
     ensures offered { IfOk result (λ done. done ≡ true → IsOffered search.entry.range.now
         search.entry.requests.list.now search.entry.requests.client
         search.entry.requests.service.now kept.new.items first.now last.now) }
@@ -163,13 +148,10 @@ fn offer_between(
     end: &[u8],
 ) -> Result<bool, AllocError>
     requires client { search.requests.client < length search.requests.list.now.entries }
-    requires told { All (IsFollowed search.range.now search.requests.list.now search.requests.client
-        search.requests.service.now) kept.old.items }
+    requires told { AreFound search kept.old.items }
     requires front { length front.now ≤ 64 }
     requires end { length end.now ≤ 64 }
-    ensures adds { IfOk result (λ done. Adds search.entry.range.now search.entry.requests.list.now
-        search.entry.requests.client search.entry.requests.service.now kept.old.items
-        kept.new.items) }
+    ensures adds { IfOk result (λ done. AddsFound search.entry kept.old.items kept.new.items) }
     ensures offered { IfOk result (λ done. done ≡ true → AreOffered search.entry.range.now
         search.entry.requests.list.now search.entry.requests.client
         search.entry.requests.service.now front.now end.now kept.new.items) }

@@ -1,10 +1,11 @@
 //! Representatives of all labels with a front: for each key the first label that is found, from the shortest on.
-ghost use Rattle.std.specs.Prelude.{◌≡◌, ◌≤◌, ◌<◌, ◌+◌, ◌++◌, ◌∷◌, [], true, length, nat_eq, All, Any, IfOk, OnOk};
+ghost use Rattle.std.specs.Prelude.{◌≡◌, ◌≤◌, ◌<◌, ◌+◌, ◌++◌, ◌∷◌, [], true, length, nat_eq, Any, IfOk, OnOk};
 ghost use Rattle.std.specs.List.{starts_with};
 ghost use Rattle.own_model.specs.SessionArgs.{is_quotable};
 ghost use Rattle.list_labels.specs.GivenLabels.{IsGiven};
 ghost use Rattle.list_labels.specs.Keys.{key_of};
-ghost use Rattle.list_labels.specs.Closure.{AreKept, HasKey, IsGrown, IsKept, IsLengthened, IsLengthenedAt, Keeps};
+ghost use Rattle.list_labels.specs.Closure.{HasKey, IsGrown, IsLengthened, IsLengthenedAt, Keeps};
+ghost use Rattle.list_labels.specs.Searches.{AreSound, RepresentFront};
 
 use crate::key::key_of;
 use crate::keyed_labels::{KeyedLabel, KeyedLabels};
@@ -19,9 +20,7 @@ use text_codec::is_quotable;
 /// Fails if the host is out of memory.
 pub(crate) fn labels(alloc: Global, search: LabelSearch<'_>) -> Result<Vec<KeyedLabel>, AllocError>
     requires client { search.requests.client < length search.requests.list.now.entries }
-    ensures { IfOk result (λ kept. AreKept search.entry.range.now.front
-        search.entry.requests.list.now search.entry.requests.client
-        search.entry.requests.service.now 64 kept.items) }
+    ensures { IfOk result (λ kept. RepresentFront search.entry 64 kept.items) }
 {
     let mut kept = first(alloc, search)?;
     let range = search.range;
@@ -35,9 +34,8 @@ pub(crate) fn labels(alloc: Global, search: LabelSearch<'_>) -> Result<Vec<Keyed
 #[tactic(auto, using(crate::proofs::AskedLemmas::read_within, crate::proofs::AskedLemmas::read_given, crate::proofs::AskedLemmas::read_begins, crate::proofs::ClosureLemmas::kept_none))]
 fn first(alloc: Global, search: LabelSearch<'_>) -> Result<KeyedLabels, AllocError>
     requires client { search.requests.client < length search.requests.list.now.entries }
-    ensures { IfOk result (λ kept. AreKept search.entry.range.now.front
-        search.entry.requests.list.now search.entry.requests.client
-        search.entry.requests.service.now (length search.entry.range.now.front) kept) }
+    ensures { IfOk result (λ kept. RepresentFront search.entry (length search.entry.range.now.front)
+        kept) }
 {
     let mut kept = KeyedLabels::new(alloc);
     let range = search.range;
@@ -59,10 +57,8 @@ fn lengthen(
 ) -> Result<(), AllocError>
     requires client { search.requests.client < length search.requests.list.now.entries }
     requires short { size < 64 }
-    requires kept { AreKept search.range.now.front search.requests.list.now search.requests.client
-        search.requests.service.now size kept.old }
-    ensures { OnOk result (AreKept search.entry.range.now.front search.entry.requests.list.now
-        search.entry.requests.client search.entry.requests.service.now (size + 1) kept.new) }
+    requires kept { RepresentFront search size kept.old }
+    ensures { OnOk result (RepresentFront search.entry (size + 1) kept.new) }
 {
     for place in 0..kept.len() {
         lengthen_at(alloc, kept, search, size, place)?;
@@ -82,11 +78,8 @@ fn lengthen_at(
     requires client { search.requests.client < length search.requests.list.now.entries }
     requires short { size < 64 }
     requires within { place < length kept.old }
-    requires sound { All (IsKept search.range.now.front search.requests.list.now
-        search.requests.client search.requests.service.now (size + 1)) kept.old }
-    ensures sound { OnOk result (All (IsKept search.entry.range.now.front
-        search.entry.requests.list.now search.entry.requests.client
-        search.entry.requests.service.now (size + 1)) kept.new) }
+    requires sound { AreSound search (size + 1) kept.old }
+    ensures sound { OnOk result (AreSound search.entry (size + 1) kept.new) }
     ensures grown { OnOk result (IsGrown kept.old kept.new) }
     ensures longer { OnOk result (IsLengthenedAt search.entry.requests.list.now search.entry.requests.client
         search.entry.requests.service.now size kept.old place kept.new) }
@@ -125,12 +118,9 @@ fn lengthen_one(
     kept: &mut KeyedLabels,
     stem: LabelStem<'_>,
 ) -> Result<(), AllocError>
-    requires sound { All (IsKept stem.search.range.now.front stem.search.requests.list.now
-        stem.search.requests.client stem.search.requests.service.now (length stem.label.now + 1))
-        kept.old }
-    ensures sound { OnOk result (All (IsKept stem.entry.search.range.now.front
-        stem.entry.search.requests.list.now stem.entry.search.requests.client
-        stem.entry.search.requests.service.now (length stem.entry.label.now + 1)) kept.new) }
+    requires sound { AreSound stem.search (length stem.label.now + 1) kept.old }
+    ensures sound { OnOk result (AreSound stem.entry.search (length stem.entry.label.now + 1)
+        kept.new) }
     ensures grown { OnOk result (IsGrown kept.old kept.new) }
     ensures longer { OnOk result (IsLengthened stem.entry.search.requests.list.now
         stem.entry.search.requests.client stem.entry.search.requests.service.now
@@ -150,12 +140,9 @@ fn keep_range(
     from: u8,
     until: u8,
 ) -> Result<(), AllocError>
-    requires sound { All (IsKept stem.search.range.now.front stem.search.requests.list.now
-        stem.search.requests.client stem.search.requests.service.now (length stem.label.now + 1))
-        kept.old }
-    ensures sound { OnOk result (All (IsKept stem.entry.search.range.now.front
-        stem.entry.search.requests.list.now stem.entry.search.requests.client
-        stem.entry.search.requests.service.now (length stem.entry.label.now + 1)) kept.new) }
+    requires sound { AreSound stem.search (length stem.label.now + 1) kept.old }
+    ensures sound { OnOk result (AreSound stem.entry.search (length stem.entry.label.now + 1)
+        kept.new) }
     ensures grown { OnOk result (IsGrown kept.old kept.new) }
     ensures longer { OnOk result (IsLengthened stem.entry.search.requests.list.now
         stem.entry.search.requests.client stem.entry.search.requests.service.now
@@ -174,12 +161,9 @@ fn keep_with(
     stem: LabelStem<'_>,
     byte: u8,
 ) -> Result<(), AllocError>
-    requires sound { All (IsKept stem.search.range.now.front stem.search.requests.list.now
-        stem.search.requests.client stem.search.requests.service.now (length stem.label.now + 1))
-        kept.old }
-    ensures sound { OnOk result (All (IsKept stem.entry.search.range.now.front
-        stem.entry.search.requests.list.now stem.entry.search.requests.client
-        stem.entry.search.requests.service.now (length stem.entry.label.now + 1)) kept.new) }
+    requires sound { AreSound stem.search (length stem.label.now + 1) kept.old }
+    ensures sound { OnOk result (AreSound stem.entry.search (length stem.entry.label.now + 1)
+        kept.new) }
     ensures grown { OnOk result (IsGrown kept.old kept.new) }
     ensures here { OnOk result (is_quotable byte ≡ true → Any (HasKey stem.entry.search.requests.list.now
         stem.entry.search.requests.client stem.entry.search.requests.service.now
@@ -208,8 +192,7 @@ fn keep(
     requires begins { starts_with nat_eq label search.range.now.front ≡ true }
     requires key { key.items ≡ key_of search.requests.list.now search.requests.client
         search.requests.service.now label }
-    requires sound { All (IsKept search.range.now.front search.requests.list.now
-        search.requests.client search.requests.service.now (length label)) kept.old }
+    requires sound { AreSound search (length label) kept.old }
     ensures { OnOk result (Keeps search.entry.range.now.front search.entry.requests.list.now
         search.entry.requests.client search.entry.requests.service.now label kept.old kept.new) }
 {

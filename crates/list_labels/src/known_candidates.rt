@@ -1,9 +1,10 @@
 //! Candidates for labels that rules distinguish by themselves.
-ghost use Rattle.std.specs.Prelude.{◌≡◌, ◌+◌, ◌*◌, ◌≤◌, ◌<◌, true, List, ℕ, length, All, OnOk};
+ghost use Rattle.std.specs.Prelude.{◌≡◌, ◌+◌, ◌*◌, ◌≤◌, ◌<◌, true, List, ℕ, length, OnOk};
 ghost use Rattle.std.specs.List.{list_any};
 ghost use Rattle.std.specs.Option.{option_copied};
 ghost use Rattle.list_labels.specs.LabelRanges.{IsInRange};
-ghost use Rattle.list_labels.specs.Asked.{Adds, IsFollowed, IsHeld, is_known, is_tail, is_whole, known, known_within};
+ghost use Rattle.list_labels.specs.Asked.{is_known, is_tail, is_whole, known, known_within};
+ghost use Rattle.list_labels.specs.Searches.{AddsFound, AreFound, IsRepresented};
 
 use crate::key::{MOST_LISTS, client_entry};
 use crate::keyed_labels::KeyedLabel;
@@ -21,15 +22,11 @@ pub(crate) fn offer_known(
     search: LabelSearch<'_>,
 ) -> Result<(), AllocError>
     requires client { search.requests.client < length search.requests.list.now.entries }
-    requires told { All (IsFollowed search.range.now search.requests.list.now search.requests.client
-        search.requests.service.now) kept.old.items }
-    ensures adds { OnOk result (Adds search.entry.range.now search.entry.requests.list.now
-        search.entry.requests.client search.entry.requests.service.now kept.old.items
-        kept.new.items) }
+    requires told { AreFound search kept.old.items }
+    ensures adds { OnOk result (AddsFound search.entry kept.old.items kept.new.items) }
     ensures held { OnOk result ((label : List ℕ) → IsInRange search.entry.range.now label → known
-        search.entry.requests.list.now search.entry.requests.client label ≡ true → IsHeld
-        search.entry.requests.list.now search.entry.requests.client
-        search.entry.requests.service.now kept.new.items label) }
+        search.entry.requests.list.now search.entry.requests.client label ≡ true → IsRepresented
+        search.entry kept.new.items label) }
 {
     match client_entry(search.requests) {
         Some(entry) => offer_known_within(alloc, kept, search, MOST_LISTS, entry, &[]),
@@ -47,16 +44,12 @@ fn offer_known_within(
     before: &[u8],
 ) -> Result<(), AllocError>
     requires client { search.requests.client < length search.requests.list.now.entries }
-    requires told { All (IsFollowed search.range.now search.requests.list.now search.requests.client
-        search.requests.service.now) kept.old.items }
+    requires told { AreFound search kept.old.items }
     requires before { length before.now + lists * 36 ≤ 208 }
-    ensures adds { OnOk result (Adds search.entry.range.now search.entry.requests.list.now
-        search.entry.requests.client search.entry.requests.service.now kept.old.items
-        kept.new.items) }
+    ensures adds { OnOk result (AddsFound search.entry kept.old.items kept.new.items) }
     ensures held { OnOk result ((label : List ℕ) → IsInRange search.entry.range.now label →
-        known_within lists search.entry.requests.list.now entry.now before.now label ≡ true → IsHeld
-        search.entry.requests.list.now search.entry.requests.client
-        search.entry.requests.service.now kept.new.items label) }
+        known_within lists search.entry.requests.list.now entry.now before.now label ≡ true →
+        IsRepresented search.entry kept.new.items label) }
 {
     if lists == 0 {
         return Ok(());
@@ -86,14 +79,11 @@ fn offer_known_by(
     before: &[u8],
 ) -> Result<(), AllocError>
     requires client { search.requests.client < length search.requests.list.now.entries }
-    requires told { All (IsFollowed search.range.now search.requests.list.now search.requests.client
-        search.requests.service.now) kept.old.items }
-    ensures adds { OnOk result (Adds search.entry.range.now search.entry.requests.list.now
-        search.entry.requests.client search.entry.requests.service.now kept.old.items
-        kept.new.items) }
+    requires told { AreFound search kept.old.items }
+    ensures adds { OnOk result (AddsFound search.entry kept.old.items kept.new.items) }
     ensures held { OnOk result ((label : List ℕ) → IsInRange search.entry.range.now label → list_any
-        (is_known before.now label) rules.now ≡ true → IsHeld search.entry.requests.list.now
-        search.entry.requests.client search.entry.requests.service.now kept.new.items label) }
+        (is_known before.now label) rules.now ≡ true → IsRepresented search.entry kept.new.items
+        label) }
 {
     for place in 0..rules.len() {
         offer_known_of(alloc, kept, search, &rules[place], before)?;
@@ -110,14 +100,10 @@ fn offer_known_of(
     before: &[u8],
 ) -> Result<(), AllocError>
     requires client { search.requests.client < length search.requests.list.now.entries }
-    requires told { All (IsFollowed search.range.now search.requests.list.now search.requests.client
-        search.requests.service.now) kept.old.items }
-    ensures adds { OnOk result (Adds search.entry.range.now search.entry.requests.list.now
-        search.entry.requests.client search.entry.requests.service.now kept.old.items
-        kept.new.items) }
+    requires told { AreFound search kept.old.items }
+    ensures adds { OnOk result (AddsFound search.entry kept.old.items kept.new.items) }
     ensures held { OnOk result ((label : List ℕ) → IsInRange search.entry.range.now label → is_known
-        before.now label rule.now ≡ true → IsHeld search.entry.requests.list.now
-        search.entry.requests.client search.entry.requests.service.now kept.new.items label) }
+        before.now label rule.now ≡ true → IsRepresented search.entry kept.new.items label) }
 {
     offer_whole(alloc, kept, search, rule.label(), before)?;
     offer_tails(alloc, kept, search, rule.label_suffix(), before)
@@ -132,14 +118,11 @@ fn offer_whole(
     before: &[u8],
 ) -> Result<(), AllocError>
     requires client { search.requests.client < length search.requests.list.now.entries }
-    requires told { All (IsFollowed search.range.now search.requests.list.now search.requests.client
-        search.requests.service.now) kept.old.items }
-    ensures adds { OnOk result (Adds search.entry.range.now search.entry.requests.list.now
-        search.entry.requests.client search.entry.requests.service.now kept.old.items
-        kept.new.items) }
+    requires told { AreFound search kept.old.items }
+    ensures adds { OnOk result (AddsFound search.entry kept.old.items kept.new.items) }
     ensures held { OnOk result ((label : List ℕ) → IsInRange search.entry.range.now label → is_whole
-        before.now label (option_copied asked.entry) ≡ true → IsHeld search.entry.requests.list.now
-        search.entry.requests.client search.entry.requests.service.now kept.new.items label) }
+        before.now label (option_copied asked.entry) ≡ true → IsRepresented search.entry
+        kept.new.items label) }
 {
     match asked {
         Some(asked) => {
@@ -159,14 +142,11 @@ fn offer_tails(
     before: &[u8],
 ) -> Result<(), AllocError>
     requires client { search.requests.client < length search.requests.list.now.entries }
-    requires told { All (IsFollowed search.range.now search.requests.list.now search.requests.client
-        search.requests.service.now) kept.old.items }
-    ensures adds { OnOk result (Adds search.entry.range.now search.entry.requests.list.now
-        search.entry.requests.client search.entry.requests.service.now kept.old.items
-        kept.new.items) }
+    requires told { AreFound search kept.old.items }
+    ensures adds { OnOk result (AddsFound search.entry kept.old.items kept.new.items) }
     ensures held { OnOk result ((label : List ℕ) → IsInRange search.entry.range.now label → is_tail
-        before.now label (option_copied asked.entry) ≡ true → IsHeld search.entry.requests.list.now
-        search.entry.requests.client search.entry.requests.service.now kept.new.items label) }
+        before.now label (option_copied asked.entry) ≡ true → IsRepresented search.entry
+        kept.new.items label) }
 {
     match asked {
         Some(asked) => {

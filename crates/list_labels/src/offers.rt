@@ -1,8 +1,9 @@
 //! Labels that are kept unless a kept label represents them.
-ghost use Rattle.std.specs.Prelude.{◌≡◌, ◌≤◌, ◌<◌, ◌++◌, length, All, IfNone, IfSome, OnOk};
+ghost use Rattle.std.specs.Prelude.{◌≡◌, ◌≤◌, ◌<◌, ◌++◌, length, IfNone, IfSome, OnOk};
 ghost use Rattle.std.specs.List.{list_any};
 ghost use Rattle.list_labels.specs.LabelRanges.{IsInRange};
-ghost use Rattle.list_labels.specs.Asked.{Adds, AreJoined, IsCut, IsFollowed, IsHeld, goes_as_short};
+ghost use Rattle.list_labels.specs.Asked.{AreJoined, IsCut, goes_as_short};
+ghost use Rattle.list_labels.specs.Searches.{AddsFound, AreFound, IsRepresented};
 
 use crate::keyed_labels::KeyedLabel;
 use crate::label::{ClientLabel, LONGEST_GIVEN};
@@ -21,14 +22,10 @@ pub(crate) fn offer(
     text: &[u8],
 ) -> Result<(), AllocError>
     requires client { search.requests.client < length search.requests.list.now.entries }
-    requires told { All (IsFollowed search.range.now search.requests.list.now search.requests.client
-        search.requests.service.now) kept.old.items }
-    ensures adds { OnOk result (Adds search.entry.range.now search.entry.requests.list.now
-        search.entry.requests.client search.entry.requests.service.now kept.old.items
-        kept.new.items) }
-    ensures held { OnOk result (IsInRange search.entry.range.now text.now → IsHeld
-        search.entry.requests.list.now search.entry.requests.client
-        search.entry.requests.service.now kept.new.items text.now) }
+    requires told { AreFound search kept.old.items }
+    ensures adds { OnOk result (AddsFound search.entry kept.old.items kept.new.items) }
+    ensures held { OnOk result (IsInRange search.entry.range.now text.now → IsRepresented
+        search.entry kept.new.items text.now) }
 {
     if !search.range.matches(text) {
         return Ok(());
@@ -86,11 +83,8 @@ pub(crate) fn offer_joined(
     overlap: TextOverlap<'_>,
 ) -> Result<(), AllocError>
     requires client { search.requests.client < length search.requests.list.now.entries }
-    requires told { All (IsFollowed search.range.now search.requests.list.now search.requests.client
-        search.requests.service.now) kept.old.items }
-    ensures adds { OnOk result (Adds search.entry.range.now search.entry.requests.list.now
-        search.entry.requests.client search.entry.requests.service.now kept.old.items
-        kept.new.items) }
+    requires told { AreFound search kept.old.items }
+    ensures adds { OnOk result (AddsFound search.entry kept.old.items kept.new.items) }
     ensures joined { OnOk result (AreJoined search.entry.range.now search.entry.requests.list.now
         search.entry.requests.client search.entry.requests.service.now overlap.entry.before.now
         overlap.entry.front.now overlap.entry.end.now kept.new.items) }
@@ -111,12 +105,9 @@ fn offer_cut(
     cut: usize,
 ) -> Result<(), AllocError>
     requires client { search.requests.client < length search.requests.list.now.entries }
-    requires told { All (IsFollowed search.range.now search.requests.list.now search.requests.client
-        search.requests.service.now) kept.old.items }
+    requires told { AreFound search kept.old.items }
     requires cut { cut ≤ length overlap.end.now }
-    ensures adds { OnOk result (Adds search.entry.range.now search.entry.requests.list.now
-        search.entry.requests.client search.entry.requests.service.now kept.old.items
-        kept.new.items) }
+    ensures adds { OnOk result (AddsFound search.entry kept.old.items kept.new.items) }
     ensures held { OnOk result (IsCut search.entry.range.now search.entry.requests.list.now
         search.entry.requests.client search.entry.requests.service.now overlap.entry.before.now
         overlap.entry.front.now overlap.entry.end.now cut kept.new.items) }
@@ -138,14 +129,10 @@ pub(crate) fn offer_both(
     rest: &[u8],
 ) -> Result<(), AllocError>
     requires client { search.requests.client < length search.requests.list.now.entries }
-    requires told { All (IsFollowed search.range.now search.requests.list.now search.requests.client
-        search.requests.service.now) kept.old.items }
-    ensures adds { OnOk result (Adds search.entry.range.now search.entry.requests.list.now
-        search.entry.requests.client search.entry.requests.service.now kept.old.items
-        kept.new.items) }
-    ensures held { OnOk result (IsInRange search.entry.range.now (front.now ++ rest.now) → IsHeld
-        search.entry.requests.list.now search.entry.requests.client
-        search.entry.requests.service.now kept.new.items (front.now ++ rest.now)) }
+    requires told { AreFound search kept.old.items }
+    ensures adds { OnOk result (AddsFound search.entry kept.old.items kept.new.items) }
+    ensures held { OnOk result (IsInRange search.entry.range.now (front.now ++ rest.now) →
+        IsRepresented search.entry kept.new.items (front.now ++ rest.now)) }
 {
     match joined(front, rest) {
         Some(text) => offer(alloc, kept, search, text.as_slice()),

@@ -1,7 +1,8 @@
 //! Representatives of all labels of a range that a client can give: a few if these can be found, and else by one of each key.
 ghost use Rattle.std.specs.Prelude.{◌<◌, length, All, IfOk, OnOk};
-ghost use Rattle.list_labels.specs.Asked.{Adds, IsEnded, IsFollowed};
+ghost use Rattle.list_labels.specs.Asked.{IsEnded};
 ghost use Rattle.list_labels.specs.Representatives.{RepresentAll, RepresentRange};
+ghost use Rattle.list_labels.specs.Searches.{AddsFound, AreFound, RepresentFound};
 
 use crate::candidates::few_representatives;
 use crate::closure::labels;
@@ -49,9 +50,7 @@ fn all_representatives(
     search: LabelSearch<'_>,
 ) -> Result<Vec<KeyedLabel>, AllocError>
     requires client { search.requests.client < length search.requests.list.now.entries }
-    ensures { IfOk result (λ kept. RepresentRange search.entry.range.now
-        search.entry.requests.list.now search.entry.requests.client
-        search.entry.requests.service.now kept.items) }
+    ensures { IfOk result (λ kept. RepresentFound search.entry kept.items) }
 {
     let stems = labels(alloc, search)?;
     let mut kept = Vec::new(alloc);
@@ -75,11 +74,8 @@ fn offer_ended(
     stems: &[KeyedLabel],
 ) -> Result<(), AllocError>
     requires client { search.requests.client < length search.requests.list.now.entries }
-    requires told { All (IsFollowed search.range.now search.requests.list.now
-        search.requests.client search.requests.service.now) kept.old.items }
-    ensures adds { OnOk result (Adds search.entry.range.now search.entry.requests.list.now
-        search.entry.requests.client search.entry.requests.service.now kept.old.items
-        kept.new.items) }
+    requires told { AreFound search kept.old.items }
+    ensures adds { OnOk result (AddsFound search.entry kept.old.items kept.new.items) }
     ensures held { OnOk result (All (IsEnded search.entry.range.now search.entry.requests.list.now
         search.entry.requests.client search.entry.requests.service.now kept.new.items) stems.now) }
 {
@@ -97,11 +93,8 @@ fn offer_end(
     stem: &KeyedLabel,
 ) -> Result<(), AllocError>
     requires client { search.requests.client < length search.requests.list.now.entries }
-    requires told { All (IsFollowed search.range.now search.requests.list.now
-        search.requests.client search.requests.service.now) kept.old.items }
-    ensures adds { OnOk result (Adds search.entry.range.now search.entry.requests.list.now
-        search.entry.requests.client search.entry.requests.service.now kept.old.items
-        kept.new.items) }
+    requires told { AreFound search kept.old.items }
+    ensures adds { OnOk result (AddsFound search.entry kept.old.items kept.new.items) }
     ensures held { OnOk result (IsEnded search.entry.range.now search.entry.requests.list.now
         search.entry.requests.client search.entry.requests.service.now kept.new.items stem.now) }
 {

@@ -4,11 +4,12 @@ use Rattle.std.specs.List.{slice_get}
 use Rattle.std.specs.Option.{option_map, unwrap_or}
 use Rattle.std.proofs.lemmas.Option.{none-some, same_Some, slice_get-map}
 use Rattle.own_model.specs.Amounts.{Amounts}
-use Rattle.own_model.specs.Listed.{Listed, ListedEntry}
+use Rattle.trade_base.specs.Service.{service_name, services}
+use Rattle.own_model.specs.Listed.{Listed, ListedEntry, service_in, services_of, with_name, with_names}
 use Rattle.list_parser.specs.Budgets.{bare, but_budgets, changed_at, entry_with_budget, entry_with_reserve, with_budget, with_reserve}
-use Rattle.list_parser.specs.BuiltIn.{AreBuiltIn}
 use Rattle.list_parser.specs.Depth.{HaveParentInits, IsParentInit, is_init, is_list}
 use Rattle.list_parser.specs.PathIndex.{AreFirst, kind_of}
+use Rattle.list_parser.specs.Services.{AreServices}
 
 -- ---- an element that is changed
 
@@ -82,14 +83,13 @@ module _ (old new : List ListedEntry) (same : map bare new ≡ map bare old) whe
     there = λ kind small. same_there (λ (e : ListedEntry). kind_of e.path) (λ _. refl) (get_or firsts kind 32) ∙ first.there kind small;
   }
 
--- servers are built in whatever they are given
-bare_built_in : (entries : List ListedEntry) → AreBuiltIn entries → AreBuiltIn (map bare entries)
-bare_built_in [] are = tt
-bare_built_in (entry ∷ entries) are = (are.0, bare_built_in entries are.1)
+-- services don't depend on what entries are given
+bare_services : (names : List (List ℕ)) (entries : List ListedEntry) → with_names names (map bare entries) ≡ with_names names entries
+bare_services names [] = refl
+bare_services names (entry ∷ entries) = bare_services (with_name names (service_in entry.binary)) entries
 
-from_bare : (entries : List ListedEntry) → AreBuiltIn (map bare entries) → AreBuiltIn entries
-from_bare [] are = tt
-from_bare (entry ∷ entries) are = (are.0, from_bare entries are.1)
+services_stay : (old new : List ListedEntry) → map bare new ≡ map bare old → services_of new ≡ services_of old
+services_stay old new same = sym (bare_services (map service_name services) new) ∙ ap services_of same ∙ bare_services (map service_name services) old
 
 -- ---- an entry that is written
 
@@ -103,8 +103,8 @@ module _ (entries : List ListedEntry) (place : ℕ) (entry d : ListedEntry) (is 
   pub written_homes : HaveParentInits entries → HaveParentInits (set entries place (change entry))
   written_homes = homes_kept entries (set entries place (change entry)) written_bare
 
-  pub written_built_in : AreBuiltIn entries → AreBuiltIn (set entries place (change entry))
-  written_built_in are = from_bare (set entries place (change entry)) (subst AreBuiltIn (sym written_bare) (bare_built_in entries are))
+  pub written_services : (declared : List (List ℕ)) → AreServices declared entries → AreServices declared (set entries place (change entry))
+  written_services declared are = are ∙ sym (services_stay entries (set entries place (change entry)) written_bare)
 
   pub written_firsts : (firsts : List ℕ) → AreFirst firsts entries → AreFirst firsts (set entries place (change entry))
   written_firsts = firsts_kept entries (set entries place (change entry)) written_bare

@@ -1,5 +1,5 @@
 -- What is so of an entry that is read.
-use Rattle.std.proofs.Common.{◌≡◌, ℕ, ◌+◌, ◌<◌, ◌≤◌, ◌&&◌, ◌⊎◌, inl, inr, nat_le, Bool, true, false, List, [], length, codes, Option, Some, None, Ok, Err, subst, refl, sym, ap, arith}
+use Rattle.std.proofs.Common.{◌≡◌, ℕ, ◌+◌, ◌<◌, ◌≤◌, ◌&&◌, ◌⊎◌, inl, inr, nat_le, Bool, true, false, List, [], length, codes, Option, Some, None, Ok, Err, subst, refl, sym, ap, ◌∙◌, arith}
 use Rattle.std.specs.Prelude.{if◌then◌else◌, Result, IfOk}
 use Rattle.std.specs.List.{list_all}
 use Rattle.std.specs.Option.{option_and_then, option_map}
@@ -9,10 +9,9 @@ use Rattle.serde_json.specs.Find.{get, as_array, as_str}
 use Rattle.own_model.specs.Listed.{Binary, ListedEntry, ListedRule}
 use Rattle.own_model.specs.Listed.Binary.{Script, Server, Init}
 use Rattle.own_model.specs.Text.{is_name, is_name_byte}
-use Rattle.list_parser.proofs.BuiltInLemmas.{entry_built_in}
-use Rattle.list_parser.specs.BuiltIn.{IsBuiltIn}
+use Rattle.own_model.specs.Offer.{Offer}
 use Rattle.list_parser.specs.Depth.{runs_init}
-use Rattle.list_parser.specs.Entries.{◌>>=◌, EntryHead, ListConfig, ListPlace, SoFar, behind, binary_of_entry, default_route, head_of, is_taken, new_name, nothing_own, object_of, own_of, own_route, list_of_entry, provided, reserve_of_entry, starts_in, value_or}
+use Rattle.list_parser.specs.Entries.{◌>>=◌, EntryHead, ListConfig, ListPlace, SoFar, behind, default_route, head_of, is_taken, list_of_entry, new_name, nothing_own, object_of, offer_with, own_of, own_route, provider_of, reserve_of_entry, starts_in, value_or, with_kinds, word_of_entry}
 use Rattle.list_parser.specs.HeadParts.{head_in_parts}
 use Rattle.list_parser.specs.Members.{amount_at, at_most_32, elements, is_object, name_at, name_in, name_of, whole_at}
 use Rattle.list_parser.specs.declared.fault.BootFault.{BootFault}
@@ -107,6 +106,20 @@ told_starts Init true met (Some d) own is = by_object (is_object d) is where
 told_starts Init true met None own is = cc
 told_starts Init false met config own is = cc
 
+-- a binary is an init exactly if it is one before its kinds are read
+runs_as_before : (binary new : Binary) (member : Option Data) → with_kinds binary member ≡ Some new → runs_init new ≡ runs_init binary
+runs_as_before Script new member is = let same : Script ≡ new = cc in ap runs_init (sym same)
+runs_as_before (Server service offer) new member is = by_offer (offer_with offer member) is where
+  by_offer : (o : Option Offer) → option_map (Server service) o ≡ Some new → runs_init new ≡ false
+  by_offer None given = cc
+  by_offer (Some offered) given = let same : Server service offered ≡ new = cc in ap runs_init (sym same)
+runs_as_before Init new member is = let same : Init ≡ new = cc in ap runs_init (sym same)
+
+still_starts : (binary new : Binary) (deeper : Bool) (met : ℕ) (starts : List Data) → runs_init new ≡ runs_init binary →
+    (starts ≡ []) ⊎ StartsOthers binary deeper met starts → (starts ≡ []) ⊎ StartsOthers new deeper met starts
+still_starts binary new deeper met starts same (inl none) = inl none
+still_starts binary new deeper met starts same (inr others) = inr (record { deep = others.deep; init = same ∙ others.init; few = others.few })
+
 -- ---- the entry
 
 -- it stands where its list does, under a name that is new there, and starts others or nobody
@@ -116,7 +129,6 @@ pub record IsHead (place : ListPlace) (deeper : Bool) (so_far : SoFar) (head : E
   pub label : head.entry.label ≡ behind (codes " -> ") place.label head.entry.name
   pub some : 0 < length head.entry.name
   pub new : is_taken so_far.entries place.init head.entry.name ≡ false
-  pub built_in : IsBuiltIn head.entry.binary
   pub starts : (head.starts ≡ []) ⊎ StartsOthers head.entry.binary deeper so_far.met head.starts
 
 head_gives : (place : ListPlace) (deeper : Bool) (so_far : SoFar) (d : Data) → Gives (IsHead place deeper so_far) (head_of place deeper so_far d)
@@ -124,13 +136,14 @@ head_gives place deeper so_far d =
     gave (object_of d) (λ entry _.
     gave (value_or (BadConfig field.Name) (name_at (codes "name") entry)) (λ told_name told.
     gave (new_name so_far.entries place.init told_name) (λ name new.
-    gave (binary_of_entry name (get (codes "binary") entry)) (λ binary binary_is.
+    gave (word_of_entry name (get (codes "binary") entry)) (λ word _.
     gave (value_or (BadConfig field.Quantum) (amount_at (codes "quantum") entry)) (λ ram _.
     gave (value_or (BadConfig field.Caps) (whole_at (codes "caps") 0 4294967295 entry)) (λ caps _.
-    gave (value_or (BadConfig field.Provides) (provided binary (get (codes "provides") entry))) (λ provides _.
+    gave (value_or (BadConfig field.Provides) (provider_of word (get (codes "provides") entry))) (λ provider _.
     gave (value_or (BadConfig field.Route) (own_route (get (codes "route") entry))) (λ route _.
-    gave (reserve_of_entry binary entry) (λ reserve _.
-    gave (list_of_entry binary deeper so_far.met (get (codes "config") entry)) (λ own own_is.
+    gave (reserve_of_entry provider.binary entry) (λ reserve _.
+    gave (list_of_entry provider.binary deeper so_far.met (get (codes "config") entry)) (λ own own_is.
+    gave (value_or (BadConfig field.Kinds) (with_kinds provider.binary (get (codes "kinds") entry))) (λ binary kinds_are.
     let its = new_is so_far.entries place.init told_name name new in
     record {
       given = record {
@@ -139,10 +152,12 @@ head_gives place deeper so_far d =
         label = refl;
         some = subst (λ n. 0 < length n) its.0 (some_name (get (codes "name") entry) told_name (value_ok (BadConfig field.Name) (name_at (codes "name") entry) told_name told));
         new = its.1;
-        built_in = entry_built_in name (get (codes "binary") entry) binary binary_is;
-        starts = told_starts binary deeper so_far.met (get (codes "config") entry) own own_is;
+        starts =
+            still_starts provider.binary binary deeper so_far.met own.starts
+            (runs_as_before provider.binary binary (get (codes "kinds") entry) (value_ok (BadConfig field.Kinds) (with_kinds provider.binary (get (codes "kinds") entry)) binary kinds_are))
+            (told_starts provider.binary deeper so_far.met (get (codes "config") entry) own own_is);
       };
-    }))))))))))
+    })))))))))))
 
 pub head_is : (place : ListPlace) (deeper : Bool) (so_far : SoFar) (d : Data) (head : EntryHead) → head_of place deeper so_far d ≡ Ok head → IsHead place deeper so_far head
 head_is place deeper so_far d head is = subst (λ r. IfOk r (IsHead place deeper so_far)) is (head_gives place deeper so_far d).given
@@ -164,7 +179,7 @@ parts_are place deeper so_far d =
     same_after (object_of d) _ _ (λ entry.
     then_same (value_or (BadConfig field.Name) (name_at (codes "name") entry)) _ _ _ (λ told_name.
     then_same (new_name so_far.entries place.init told_name) _ _ _ (λ name.
-    then_same (binary_of_entry name (get (codes "binary") entry)) _ _ _ (λ binary.
+    then_same (word_of_entry name (get (codes "binary") entry)) _ _ _ (λ word.
     then_same (value_or (BadConfig field.Quantum) (amount_at (codes "quantum") entry)) _ _ _ (λ ram.
     then_same (value_or (BadConfig field.Caps) (whole_at (codes "caps") 0 4294967295 entry)) _ _ _ (λ caps.
-    then_same (value_or (BadConfig field.Provides) (provided binary (get (codes "provides") entry))) _ _ _ (λ provides. refl)))))))
+    then_same (value_or (BadConfig field.Provides) (provider_of word (get (codes "provides") entry))) _ _ _ (λ provider. refl)))))))

@@ -5,7 +5,8 @@ pub mod ListLemmas
 pub mod FinderLemmas
 pub mod DepthLemmas
 pub mod ReadLemmas
-pub mod BuiltInLemmas
+pub mod ServiceLemmas
+pub mod KindLemmas
 pub mod HeadLemmas
 pub mod NestLemmas
 pub mod ListedLemmas

@@ -1,10 +1,9 @@
 -- A text that is a start list is listed.
-use Rattle.std.proofs.Common.{◌≡◌, ◌≤◌, nat_lt, Bool, true, false, List, [], length, Ok, Err, subst, sym, arith}
+use Rattle.std.proofs.Common.{◌≡◌, nat_lt, Bool, true, false, [], length, Ok, Err, subst, arith}
 use Rattle.std.specs.Prelude.{if◌then◌else◌, codes, Result, IfOk}
 use Rattle.serde_json.specs.Data.{Data}
-use Rattle.own_model.specs.Listed.{Listed, ListedEntry}
-use Rattle.list_parser.specs.BuiltIn.{AreBuiltIn}
-use Rattle.list_parser.specs.Entries.{◌>>=◌, ListPlace, Misread, SoFar, all_read, entries_read, outermost, own_of, read_within, value_or}
+use Rattle.own_model.specs.Listed.{Listed}
+use Rattle.list_parser.specs.Entries.{◌>>=◌, Misread, SoFar, entries_read, outermost, own_of, read_within, value_or}
 use Rattle.list_parser.specs.ListTheorems.{IsListed, ListsAreListed}
 use Rattle.list_parser.specs.Members.{whole_at}
 use Rattle.list_parser.specs.StartText.{fault_of, json_in, list_of, machine_of}
@@ -12,18 +11,11 @@ use Rattle.list_parser.specs.declared.fault.BootFault.{BootFault}
 use Rattle.list_parser.specs.declared.fault.BootFault.TheVariants.{BadConfig, BadJson}
 use Rattle.list_parser.specs.declared.fault.ConfigField.TheVariants as field
 use Rattle.list_parser.proofs.HeadLemmas.{Gives, gave, own_few}
-use Rattle.list_parser.proofs.NestLemmas.{Holds, Stands, all_extend, holds_none, stands_first, within_reads}
+use Rattle.list_parser.proofs.NestLemmas.{all_extend, holds_none, stands_first, within_reads}
 
 read_ok : (r : Result SoFar Misread) (so_far : SoFar) → fault_of r ≡ Ok so_far → r ≡ Ok so_far
 read_ok (Ok x) so_far is = let same : x ≡ so_far = cc in (λ j. Ok (same j))
 read_ok (Err misread) so_far is = cc
-
--- the servers of the entries of all lists are built in
-pub read_built_in : (place : ListPlace) (first so_far : SoFar) (starts : List Data) → place ≡ outermost → first.entries ≡ [] → first.met ≤ 32 →
-    all_read (read_within 3) place first starts ≡ Ok so_far → AreBuiltIn so_far.entries
-read_built_in place first so_far starts outer none few read =
-    let stands = subst (λ (p : List ListedEntry × ListPlace). Stands 3 p.0 p.1) (λ j. (sym none j, sym outer j)) stands_first in
-    (all_extend 3 (read_within 3) (within_reads 3) place first so_far starts read (subst Holds (sym none) holds_none) stands few).holds.built_in
 
 of_value : (d : Data) → Gives IsListed (list_of d)
 of_value d =

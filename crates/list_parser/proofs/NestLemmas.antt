@@ -9,9 +9,7 @@ use Rattle.std.proofs.lemmas.List.{get_or_append_left}
 use Rattle.std.proofs.lemmas.Option.{get_or_from_slice_get, same_Some, slice_get_read, slice_get_within}
 use Rattle.std.proofs.lemmas.Slice.Eq.{bytes_eq-Decides}
 use Rattle.serde_json.specs.Data.{Data}
-use Rattle.own_model.proofs.ListLemmas.{all_append}
 use Rattle.own_model.specs.Listed.{ListedEntry}
-use Rattle.list_parser.specs.BuiltIn.{AreBuiltIn, IsBuiltIn}
 use Rattle.list_parser.specs.Depth.{HaveParentInits, is_init, is_list}
 use Rattle.list_parser.specs.Entries.{EntryHead, Misread, ListPlace, Reads, SoFar, all_read, at_entry, behind, head_of, outermost, place_within, read_own, read_within, then_read, with_head}
 use Rattle.list_parser.specs.ListTheorems.{AreListed, HasJoinedNames, is_within}
@@ -100,7 +98,6 @@ module _ (entries : List ListedEntry) where
 pub record Holds (entries : List ListedEntry) : Type 0 where
   pub listed : AreListed entries
   pub some : (place : ℕ) (entry : ListedEntry) → slice_get entries place ≡ Some entry → (0 < length entry.path) × (0 < length entry.label)
-  pub built_in : AreBuiltIn entries
 
 -- a list is the machine's or that of an entry, within which inits may nest so deep; behind its init stand only entries of lists from
 -- there on
@@ -205,7 +202,6 @@ module _ {deeper : ℕ} {entries : List ListedEntry} {place : ListPlace} (holds 
             subst (λ p. 0 < length p) (sym is.label) (behind_longer (codes " -> ") place.label head.entry.name is.some),
           )
     ];
-    built_in = all_append (λ (entry : ListedEntry). IsBuiltIn entry.binary) entries (head.entry ∷ []) holds.built_in (is.built_in, tt);
   }
 
   -- the lists around it stand still
@@ -353,7 +349,6 @@ holds_none = record {
     together = λ init between q x other there. absurd (nothing q x there);
   };
   some = λ q x there. absurd (nothing q x there);
-  built_in = tt;
 } where
   nothing : (q : ℕ) (x : ListedEntry) → slice_get [] q ≡ Some x → ⊥
   nothing q x there = omega (arith, slice_get_within [] q x there)

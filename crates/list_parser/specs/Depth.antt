@@ -13,6 +13,18 @@ pub record IsWithin (deeper : ℕ) (place : ListPlace) : Type 0 where
   pub path : length place.path ≤ 98 - 33 * deeper
   pub label : length place.label ≤ 104 - 36 * deeper
 
+-- ---- what binaries run
+
+abbrev pub runs_script : Binary → Bool
+runs_script Script = true
+runs_script (Server service offer) = false
+runs_script Init = false
+
+abbrev pub runs_server : Binary → Bool
+runs_server Script = false
+runs_server (Server service offer) = true
+runs_server Init = false
+
 -- ---- inits
 
 abbrev pub runs_init : Binary → Bool

@@ -9,7 +9,10 @@ use Rattle.own_model.specs.Amounts.{Amounts}
 use Rattle.trade_base.specs.Service.{served_by_binary}
 use Rattle.own_model.specs.Listed.{Binary, ListedEntry, ListedRule, serves}
 use Rattle.own_model.specs.Listed.Binary.{Script, Server, Init}
+use Rattle.own_model.specs.Offer.{Offer}
+use Rattle.own_model.specs.Offer.Offer.{OffersLog, OffersFiles, OffersObjects}
 use Rattle.list_parser.specs.BuiltIn.{built_in}
+use Rattle.list_parser.specs.DeclaredServers.{kinds_declared, service_declared}
 use Rattle.list_parser.specs.declared.fault.BootFault.{BootFault}
 use Rattle.list_parser.specs.declared.fault.BootFault.TheVariants.{BadConfig, DuplicateName, UnknownBinary}
 use Rattle.list_parser.specs.declared.fault.ConfigField.TheVariants as field
@@ -72,15 +75,26 @@ abbrev pub no_binary : Option (List ℕ) → BootFault
 no_binary None = BadConfig field.Binary
 no_binary (Some name) = UnknownBinary name
 
-abbrev pub binary_of : List ℕ → Result Binary BootFault
-binary_of text =
-    if bytes_eq text (codes "script") then Ok Script
-    else (if bytes_eq text (codes "init") then Ok Init
-    else value_or (no_binary (name_in text)) (option_map built_in (served_by_binary text)))
+-- what the word of a binary says: a binary with its service, or a server that declares its service
+pub data BinaryWord : Type 0 where
+  Known : Binary → BinaryWord
+  Declares : BinaryWord
 
--- what an entry runs
-abbrev pub binary_of_entry : List ℕ → Option Data → Result Binary BootFault
-binary_of_entry name told = binary_text name told >>= binary_of
+abbrev pub word_of : List ℕ → Result BinaryWord BootFault
+word_of text =
+    if bytes_eq text (codes "script") then Ok (Known Script)
+    else (if bytes_eq text (codes "init") then Ok (Known Init)
+    else (if bytes_eq text (codes "server") then Ok Declares
+    else value_or (no_binary (name_in text)) (option_map (λ service. Known (built_in service)) (served_by_binary text))))
+
+-- the word of an entry's binary
+abbrev pub word_of_entry : List ℕ → Option Data → Result BinaryWord BootFault
+word_of_entry name told = binary_text name told >>= word_of
+
+-- what an entry runs, without kinds of objects, and whether it provides the binary's service
+pub record Provider : Type 0 where
+  pub binary : Binary
+  pub provides : Bool
 
 abbrev pub is_service_of : Binary → Data → Bool
 is_service_of binary d = unwrap_or (option_map (serves binary) (as_str d)) false
@@ -95,6 +109,11 @@ provided_in binary (service ∷ another ∷ more) = None
 abbrev pub provided : Binary → Option Data → Option Bool
 provided binary None = Some false
 provided binary (Some d) = option_and_then (provided_in binary) (option_map elements (as_array d))
+
+-- a server that declares its service provides it
+abbrev pub provider_of : BinaryWord → Option Data → Option Provider
+provider_of (Known binary) member = option_map (λ provides. record { binary = binary; provides = provides }) (provided binary member)
+provider_of Declares member = option_map (λ service. record { binary = Server service (OffersObjects []); provides = true }) (service_declared member)
 
 -- without the member there is no route of one's own
 abbrev pub own_route : Option Data → Option (Option (List ListedRule))
@@ -120,6 +139,17 @@ reserve_of_entry binary entry = do
   ram ← value_or (BadConfig field.Reserve) (if_script amount_in binary (get (codes "reserve") entry))
   caps ← value_or (BadConfig field.ReserveCaps) (if_script (whole_in 0 4294967295) binary (get (codes "reserve-caps") entry))
   Ok (reserve_with ram caps)
+
+-- a server that declares its service offers the kinds of the member; another binary ignores it
+abbrev pub offer_with : Offer → Option Data → Option Offer
+offer_with OffersLog member = Some OffersLog
+offer_with OffersFiles member = Some OffersFiles
+offer_with (OffersObjects none) member = option_map OffersObjects (kinds_declared member)
+
+abbrev pub with_kinds : Binary → Option Data → Option Binary
+with_kinds Script member = Some Script
+with_kinds (Server service offer) member = option_map (Server service) (offer_with offer member)
+with_kinds Init member = Some Init
 
 -- ---- what an init starts
 
@@ -171,13 +201,14 @@ head_of place deeper so_far d = do
   entry ← object_of d
   told_name ← value_or (BadConfig field.Name) (name_at (codes "name") entry)
   name ← new_name so_far.entries place.init told_name
-  binary ← binary_of_entry name (get (codes "binary") entry)
+  word ← word_of_entry name (get (codes "binary") entry)
   ram ← value_or (BadConfig field.Quantum) (amount_at (codes "quantum") entry)
   caps ← value_or (BadConfig field.Caps) (whole_at (codes "caps") 0 4294967295 entry)
-  provides ← value_or (BadConfig field.Provides) (provided binary (get (codes "provides") entry))
+  provider ← value_or (BadConfig field.Provides) (provider_of word (get (codes "provides") entry))
   route ← value_or (BadConfig field.Route) (own_route (get (codes "route") entry))
-  reserve ← reserve_of_entry binary entry
-  own ← list_of_entry binary deeper so_far.met (get (codes "config") entry)
+  reserve ← reserve_of_entry provider.binary entry
+  own ← list_of_entry provider.binary deeper so_far.met (get (codes "config") entry)
+  binary ← value_or (BadConfig field.Kinds) (with_kinds provider.binary (get (codes "kinds") entry))
   Ok (record {
     entry = record {
       name = name;
@@ -187,7 +218,7 @@ head_of place deeper so_far d = do
       binary = binary;
       ram = ram;
       caps = caps;
-      provides = provides;
+      provides = provider.provides;
       route = route;
       reserve = reserve;
       inner_route = own.route;

@@ -27,6 +27,7 @@ member_of field.Route = codes "route"
 member_of field.Reserve = codes "reserve"
 member_of field.ReserveCaps = codes "reserve-caps"
 member_of field.Config = codes "config"
+member_of field.Kinds = codes "kinds"
 
 -- the values of the entries, if nothing before them has a fault
 abbrev pub starts_of : Data → Result (List Data) BootFault

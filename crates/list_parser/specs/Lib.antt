@@ -3,6 +3,8 @@ pub mod Members
 pub mod Rules
 pub mod Labels
 pub mod BuiltIn
+pub mod DeclaredServers
+pub mod Services
 pub mod Entries
 pub mod Depth
 pub mod StartText

@@ -6,6 +6,7 @@ ghost use Rattle.list_parser.specs.Budgets.{with_budget, with_reserve, with_size
 
 use crate::entry::ListEntry;
 use crate::list::StartList;
+use crate::list_service::copy_names;
 use crate::rule::copy_rules;
 use core_calls::Reserve;
 use std::alloc::{AllocError, Global};
@@ -23,6 +24,7 @@ impl StartList {
             caps: self.caps,
             default_route,
             entries,
+            declared: copy_names(alloc, self.declared.as_slice())?,
             finder: self.finder.copy(),
         })
     }

@@ -1,88 +1,21 @@
-//! Entries of a start list, and what they run.
-ghost use Rattle.std.specs.Prelude.{◌≡◌, ◌≤◌, length, IfOk, Ok};
-ghost use Rattle.std.specs.Option.{option_map};
-ghost use Rattle.std.specs.Result.{result_map_both};
-ghost use Rattle.trade_base.specs.Service.{service_name};
-ghost use Rattle.own_model.specs.Listed.{offer_in, offers, reserve_of, serves, service_in};
-ghost use Rattle.own_model.specs.Offer.{offer_of_service};
-ghost use Rattle.list_parser.specs.Depth.{is_init};
-ghost use Rattle.list_parser.specs.Entries.{binary_of, no_binary};
+//! Entries of a start list.
+ghost use Rattle.std.specs.Prelude.{◌≡◌, ◌≤◌, length, IfOk};
+ghost use Rattle.std.specs.Option.{option_copied, option_map};
+ghost use Rattle.own_model.specs.Listed.{offers, reserve_of, service_in};
+ghost use Rattle.list_parser.specs.Depth.{is_init, runs_script, runs_server};
 ghost use Rattle.list_parser.specs.Labels.{route_name};
-ghost use Rattle.list_parser.specs.Members.{name_in};
 ghost use Rattle.list_parser.specs.View.{model_binary};
 ghost use Rattle.core_calls.specs.Quotas.{reserve_amounts};
 ghost use Rattle.list_parser.specs.declared.fault.BootFault.TheVariants.{QuotaExceeded};
 
-use crate::fault::{BootFault, ConfigField};
+use crate::binary::Binary;
+use crate::fault::BootFault;
 use crate::name::{Label, Name, Path};
 use crate::rule::{Rule, copy_rules};
 use core_calls::Reserve;
 use std::alloc::{AllocError, Global};
 use std::marker::Model;
-use trade_base::{Caps, Ram, Service};
-
-/// The binary that a component runs.
-#[derive(Clone, Copy, PartialEq, Eq)]
-pub enum Binary {
-    /// A script, which makes the calls of a scenario.
-    Script,
-    /// A server, which provides a service.
-    Server(Service),
-    /// An init, which starts entries of its own.
-    Init,
-}
-
-impl Binary {
-    /// Parses the name of a binary. Refuses with `UnknownBinary` if no binary has it.
-    pub(crate) fn read(text: &str) -> Result<Binary, BootFault>
-        ensures { result_map_both model_binary (λ fault. fault) result ≡ binary_of text.now }
-    {
-        let bytes = text.as_bytes();
-        if bytes == b"script".as_slice() {
-            Ok(Binary::Script)
-        } else if bytes == b"init".as_slice() {
-            Ok(Binary::Init)
-        } else {
-            match Service::of_binary(text) {
-                Some(service) => Ok(Binary::Server(service)),
-                None => Err(no_binary(text)),
-            }
-        }
-    }
-
-    /// Returns the service that the binary can provide, if it can provide one.
-    pub fn service(self) -> Option<Service>
-        ensures name { option_map service_name result ≡ service_in (model_binary self) }
-        ensures offer { option_map offer_of_service result ≡ offer_in (model_binary self) }
-    {
-        match self {
-            Binary::Script | Binary::Init => None,
-            Binary::Server(service) => Some(service),
-        }
-    }
-
-    /// Returns the name of the binary, as a start list has it.
-    #[tactic(auto, using(crate::proofs::EntryLemmas::binary_read_back))]
-    pub fn as_str(self) -> &'static str
-        ensures { binary_of result.now ≡ Ok (model_binary self) }
-    {
-        match self {
-            Binary::Script => "script",
-            Binary::Server(service) => service.binary(),
-            Binary::Init => "init",
-        }
-    }
-
-    /// Returns whether the binary provides a service, given by its name.
-    pub(crate) fn serves(self, asked: &[u8]) -> bool
-        ensures { result ≡ serves (model_binary self) asked.now }
-    {
-        match self {
-            Binary::Script | Binary::Init => false,
-            Binary::Server(service) => asked == service.name().as_bytes(),
-        }
-    }
-}
+use trade_base::{Caps, Ram};
 
 /// A component of the machine, as the start list describes it: its name, its path and its label, the number of its init, and
 /// its budget. It states whether the component provides the service of its binary, and has its own route and its reserve, if
@@ -92,10 +25,10 @@ pub struct ListEntry {
     pub(crate) name: Name,
     pub(crate) path: Path,
     pub(crate) label: Label,
-    pub(crate) home: usize,
     pub(crate) binary: Binary,
     pub(crate) ram: u64,
     pub(crate) caps: u32,
+    pub(crate) home: u8,
     pub(crate) provides: bool,
     pub(crate) route: Option<Vec<Rule>>,
     pub(crate) reserve: Option<Reserve>,
@@ -177,7 +110,7 @@ impl ListEntry {
     pub fn home(&self) -> usize
         ensures { result ≡ self.now.home }
     {
-        self.home
+        usize::from(self.home)
     }
 
     /// Returns the fault of a boot in which the rest of its init's account does not cover the entry.
@@ -188,17 +121,38 @@ impl ListEntry {
     }
 
     /// Returns the binary that the component runs: script, server or init.
-    pub fn binary(&self) -> Binary
-        ensures { model_binary result ≡ self.now.binary }
+    pub fn binary(&self) -> &Binary
+        ensures { model_binary result.now ≡ self.now.binary }
     {
-        self.binary
+        &self.binary
+    }
+
+    /// Returns whether the component is a script.
+    pub fn is_script(&self) -> bool
+        ensures { result ≡ runs_script self.now.binary }
+    {
+        self.binary.is_script()
+    }
+
+    /// Returns whether the component is a server.
+    pub fn is_server(&self) -> bool
+        ensures { result ≡ runs_server self.now.binary }
+    {
+        self.binary.is_server()
     }
 
     /// Returns whether the component starts entries of its own.
     pub fn is_init(&self) -> bool
         ensures { result ≡ is_init self.now }
     {
-        self.binary == Binary::Init
+        self.binary.is_init()
+    }
+
+    /// Returns the name of the service that the component's binary can provide, if it is a server.
+    pub fn service(&self) -> Option<&str>
+        ensures { option_copied result ≡ service_in self.now.binary }
+    {
+        self.binary.service()
     }
 
     /// Returns the RAM of the component's budget in bytes.
@@ -253,7 +207,7 @@ impl ListEntry {
     pub fn reserve_at_start(&self) -> Reserve
         ensures { reserve_amounts result ≡ reserve_of self.now }
     {
-        match (self.binary, self.reserve) {
+        match (&self.binary, self.reserve) {
             (Binary::Script, Some(reserve)) => reserve,
             _ => Reserve {
                 ram: Ram(0),
@@ -273,7 +227,7 @@ impl ListEntry {
     pub fn offers(&self, init: usize, service: &[u8]) -> bool
         ensures { result ≡ offers init service.now self.now }
     {
-        self.home == init && (self.provides && self.binary.serves(service))
+        self.home() == init && (self.provides && self.binary.serves(service))
     }
 
     /// Copies the entry.
@@ -282,14 +236,15 @@ impl ListEntry {
     {
         let route = copy_route(alloc, self.route())?;
         let inner_route = copy_rules(alloc, self.inner_route.as_slice())?;
+        let binary = self.binary.copy()?;
         Ok(ListEntry {
             name: self.name.copy(),
             path: self.path.copy(),
             label: self.label.copy(),
-            home: self.home,
-            binary: self.binary,
+            binary,
             ram: self.ram,
             caps: self.caps,
+            home: self.home,
             provides: self.provides,
             route,
             reserve: self.reserve,
@@ -306,15 +261,5 @@ fn copy_route(alloc: Global, route: Option<&[Rule]>) -> Result<Option<Vec<Rule>>
     match route {
         Some(rules) => Ok(Some(copy_rules(alloc, rules)?)),
         None => Ok(None),
-    }
-}
-
-/// Returns the fault of a text that names no binary.
-fn no_binary(text: &str) -> BootFault
-    ensures { result ≡ no_binary (name_in text.now) }
-{
-    match Name::read(text) {
-        Some(name) => BootFault::UnknownBinary(name),
-        None => BootFault::BadConfig(ConfigField::Binary),
     }
 }

@@ -4,13 +4,15 @@ ghost use Rattle.std.specs.Option.{option_map};
 ghost use Rattle.std.specs.Result.{result_map_both};
 ghost use Rattle.serde_json.specs.View.{view};
 ghost use Rattle.list_parser.specs.Depth.{IsWithin, Starts};
-ghost use Rattle.list_parser.specs.Entries.{binary_of_entry, is_service_of, is_taken, new_name, own_route, place_within, provided, provided_in};
+ghost use Rattle.list_parser.specs.Entries.{is_service_of, is_taken, new_name, own_route, place_within, provided, provided_in, provider_of, word_of_entry};
 ghost use Rattle.list_parser.specs.HeadParts.{head_in_parts, named_of, shares_of};
-ghost use Rattle.list_parser.specs.View.{model_binary, model_head, model_named};
+ghost use Rattle.list_parser.specs.View.{model_head, model_known, model_named, model_provider, model_resources, model_word};
 ghost use Rattle.list_parser.specs.declared.fault.BootFault.TheVariants.{NoMemory, BadConfig};
 
-use crate::entry::{Binary, ListEntry};
+use crate::binary_word::{BinaryWord, KnownBinary, NamedBinary};
+use crate::entry::ListEntry;
 use crate::fault::{BootFault, ConfigField};
+use crate::kinds::service_declared;
 use crate::list_config::read_config;
 use crate::list_place::ListPlace;
 use crate::member::{amount_at, name_at, whole_at};
@@ -32,7 +34,7 @@ impl<'v> EntryHead<'v> {
     /// `met` is the number of entries of all lists so far.
     ///
     /// Refuses with `BadConfig start` if the value is no object. Then refuses with the fault of the first bad member: name,
-    /// binary, RAM, capabilities, `provides`, route, reserve, `config`.
+    /// binary, RAM, capabilities, `provides`, route, reserve, `config`, `kinds`.
     pub(crate) fn read(
         alloc: Global,
         place: &ListPlace,
@@ -58,23 +60,25 @@ impl<'v> EntryHead<'v> {
         if !value.is_object() {
             return Err(BootFault::BadConfig(ConfigField::Start));
         }
-        let EntryIdentity { name, binary } = EntryIdentity::read(before, place.init, value)?;
+        let init = usize::from(place.init);
+        let EntryIdentity { name, word } = EntryIdentity::read(before, init, value)?;
         let EntryResources {
             ram,
             caps,
-            provides,
-        } = EntryResources::read(binary, value)?;
+            provider: Provider { binary, provides },
+        } = EntryResources::read(word, value)?;
         let route = read_route(alloc, value.get("route"))?;
-        let reserve = read_reserve(binary, value)?;
-        let own = read_config(alloc, binary, deeper > 0, met, value.get("config"))?;
+        let reserve = read_reserve(&binary, value)?;
+        let own = read_config(alloc, &binary, deeper > 0, met, value.get("config"))?;
+        let binary = binary.with_kinds(alloc, value.get("kinds"))?;
         let entry = ListEntry {
             path: place.path.join(&name),
             label: place.label.join(&name),
             name,
-            home: place.init,
             binary,
             ram,
             caps,
+            home: place.init,
             provides,
             route,
             reserve,
@@ -87,14 +91,14 @@ impl<'v> EntryHead<'v> {
     }
 }
 
-/// The name of an entry, and the binary that it runs.
+/// The name of an entry, and the word of its binary.
 struct EntryIdentity {
     name: Name,
-    binary: Binary,
+    word: BinaryWord,
 }
 
 impl EntryIdentity {
-    /// Parses the name and the binary of a value. The name must be new in the list of an init.
+    /// Parses the name and the binary's word of a value. The name must be new in the list of an init.
     fn read(before: &[ListEntry], init: usize, value: &Value) -> Result<EntryIdentity, BootFault>
         ensures { result_map_both model_named (λ fault. fault) result
             ≡ named_of before.now init (view value.now) }
@@ -103,22 +107,23 @@ impl EntryIdentity {
             return Err(BootFault::BadConfig(ConfigField::Name));
         };
         let name = new_name(before, init, name)?;
-        let binary = read_binary(&name, value.get("binary"))?;
-        Ok(EntryIdentity { name, binary })
+        let word = read_word(&name, value.get("binary"))?;
+        Ok(EntryIdentity { name, word })
     }
 }
 
-/// The budget of an entry, and whether it provides the service of its binary.
+/// The budget of an entry, and what it provides.
 struct EntryResources {
     ram: u64,
     caps: u32,
-    provides: bool,
+    provider: Provider,
 }
 
 impl EntryResources {
-    /// Parses the budget of a value for a binary, and whether it provides the service.
-    fn read(binary: Binary, value: &Value) -> Result<EntryResources, BootFault>
-        ensures { result ≡ shares_of (model_binary binary) (view value.now) }
+    /// Parses the budget of a value for a binary, and what the entry provides.
+    fn read(word: BinaryWord, value: &Value) -> Result<EntryResources, BootFault>
+        ensures { result_map_both model_resources (λ fault. fault) result
+            ≡ shares_of (model_word word) (view value.now) }
     {
         let Some(ram) = amount_at(value, "quantum") else {
             return Err(BootFault::BadConfig(ConfigField::Quantum));
@@ -126,14 +131,39 @@ impl EntryResources {
         let Some(caps) = whole_at(value, "caps", 0, u32::MAX) else {
             return Err(BootFault::BadConfig(ConfigField::Caps));
         };
-        let Some(provides) = provided(binary, value.get("provides")) else {
+        let Some(provider) = Provider::read(word, value.get("provides")) else {
             return Err(BootFault::BadConfig(ConfigField::Provides));
         };
         Ok(EntryResources {
             ram,
             caps,
-            provides,
+            provider,
         })
+    }
+}
+
+/// The binary of an entry with its service, and whether the entry provides the service.
+struct Provider {
+    binary: NamedBinary,
+    provides: bool,
+}
+
+impl Provider {
+    /// Reads the service of a binary. A server that declares its service provides it. Returns `None` if the member is bad.
+    fn read(word: BinaryWord, member: Option<&Value>) -> Option<Provider>
+        ensures { option_map model_provider result
+            ≡ provider_of (model_word word) (option_map (λ value. view value.now) member.entry) }
+    {
+        match word {
+            BinaryWord::Known(binary) => Some(Provider {
+                binary: NamedBinary::Known(binary),
+                provides: provided(binary, member)?,
+            }),
+            BinaryWord::Declares => Some(Provider {
+                binary: NamedBinary::Declared(service_declared(member)?),
+                provides: true,
+            }),
+        }
     }
 }
 
@@ -157,27 +187,27 @@ fn is_taken(before: &[ListEntry], init: usize, name: &[u8]) -> bool
         .any(|entry| entry.home() == init && entry.name() == name)
 }
 
-/// Reads the binary that an entry runs. Without the member it is the binary of the entry's name.
-fn read_binary(name: &Name, member: Option<&Value>) -> Result<Binary, BootFault>
-    ensures { result_map_both model_binary (λ fault. fault) result
-        ≡ binary_of_entry name.now (option_map (λ value. view value.now) member.entry) }
+/// Reads the word of the binary that an entry runs. Without the member it is the entry's name.
+fn read_word(name: &Name, member: Option<&Value>) -> Result<BinaryWord, BootFault>
+    ensures { result_map_both model_word (λ fault. fault) result
+        ≡ word_of_entry name.now (option_map (λ value. view value.now) member.entry) }
 {
     match member {
-        Some(value) => Binary::read(
+        Some(value) => BinaryWord::read(
             value
                 .as_str()
                 .ok_or(BootFault::BadConfig(ConfigField::Binary))?,
         ),
-        None => Binary::read(name.as_str()),
+        None => BinaryWord::read(name.as_str()),
     }
 }
 
 /// Reads whether an entry provides the service of its binary, which it does not without the member. Returns `None` if the
 /// member is not a list of at most that service.
 #[tactic(auto, using(crate::proofs::MemberLemmas::elements_of_items))]
-fn provided(binary: Binary, member: Option<&Value>) -> Option<bool>
+fn provided(binary: KnownBinary, member: Option<&Value>) -> Option<bool>
     ensures { result
-        ≡ provided (model_binary binary) (option_map (λ value. view value.now) member.entry) }
+        ≡ provided (model_known binary) (option_map (λ value. view value.now) member.entry) }
 {
     let Some(value) = member else {
         return Some(false);
@@ -187,8 +217,8 @@ fn provided(binary: Binary, member: Option<&Value>) -> Option<bool>
 
 /// Reads the same from the elements of a list.
 #[tactic(auto, using(crate::proofs::EntryLemmas::provides_too_many))]
-fn provided_in(binary: Binary, services: &[Value]) -> Option<bool>
-    ensures { result ≡ provided_in (model_binary binary) (map view services.now) }
+fn provided_in(binary: KnownBinary, services: &[Value]) -> Option<bool>
+    ensures { result ≡ provided_in (model_known binary) (map view services.now) }
 {
     match services {
         [] => Some(false),
@@ -202,8 +232,8 @@ fn provided_in(binary: Binary, services: &[Value]) -> Option<bool>
 }
 
 /// Returns whether a value is the text of a binary's service.
-fn is_service_of(binary: Binary, value: &Value) -> bool
-    ensures { result ≡ is_service_of (model_binary binary) (view value.now) }
+fn is_service_of(binary: KnownBinary, value: &Value) -> bool
+    ensures { result ≡ is_service_of (model_known binary) (view value.now) }
 {
     match value.as_str() {
         Some(service) => binary.serves(service.as_bytes()),

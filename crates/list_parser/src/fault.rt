@@ -39,6 +39,8 @@ pub enum ConfigField {
     ReserveCaps,
     /// The configuration of an entry that is an init.
     Config,
+    /// The kinds of objects that a server declares.
+    Kinds,
 }
 
 impl ConfigField {
@@ -63,6 +65,7 @@ impl ConfigField {
             ConfigField::Reserve => "reserve",
             ConfigField::ReserveCaps => "reserve-caps",
             ConfigField::Config => "config",
+            ConfigField::Kinds => "kinds",
         }
     }
 }

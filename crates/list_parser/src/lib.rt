@@ -2,15 +2,20 @@
 //! Example: `StartList::read(alloc, text)?.count()` is the number of components.
 #![tactic(auto)]
 
+mod binary;
+mod binary_word;
 mod budgets;
+mod declared_service;
 mod entry;
 mod entry_head;
 mod fault;
+mod kinds;
 mod label_test;
 mod list;
 mod list_config;
 mod list_place;
 mod list_reader;
+mod list_service;
 mod machine_a;
 mod member;
 mod name;
@@ -19,10 +24,13 @@ mod reserve;
 mod rule;
 mod theorems;
 
-pub use entry::{Binary, ListEntry};
+pub use binary::Binary;
+pub use declared_service::DeclaredService;
+pub use entry::ListEntry;
 pub use fault::{BootFault, ConfigField};
 pub use label_test::LabelTest;
 pub use list::{DEEPEST, LONGEST_TEXT, StartList, entry_at_fault};
+pub use list_service::ListService;
 pub use machine_a::{MACHINE_A, machine_a_is_read};
 pub use name::{Name, Path};
 pub use rule::{Rule, Target};

@@ -5,7 +5,6 @@ ghost use Rattle.std.specs.List.{position, slice_get};
 ghost use Rattle.std.specs.Result.{result_map_both};
 ghost use Rattle.std.specs.Str.{bytes_eq};
 ghost use Rattle.serde_json.specs.View.{view};
-ghost use Rattle.trade_base.specs.Service.{service_name};
 ghost use Rattle.own_model.specs.Listed.{default_of, init_entry, rules_for, services_of, start_list_of};
 ghost use Rattle.own_model.specs.StartList.{entries_of};
 ghost use Rattle.own_model.specs.Transcript.{entry_at};
@@ -13,6 +12,7 @@ ghost use Rattle.list_parser.specs.Depth.{IsParentInit, is_init};
 ghost use Rattle.list_parser.specs.Entries.{entries_read};
 ghost use Rattle.list_parser.specs.ListTheorems.{IsListed};
 ghost use Rattle.list_parser.specs.FaultPlace.{entry_at_fault, place_of_fault, starts_of};
+ghost use Rattle.list_parser.specs.Services.{service_text};
 ghost use Rattle.list_parser.specs.StartText.{json_in, list_in, list_of, machine_of};
 ghost use Rattle.list_parser.specs.declared.fault.BootFault.TheVariants.{NoMemory, BadConfig, BadJson};
 
@@ -21,13 +21,15 @@ use crate::fault::{BootFault, ConfigField};
 use crate::list_config::read_own;
 use crate::list_place::ListPlace;
 use crate::list_reader::ListReader;
+use crate::list_service::{ListService, declared_names};
 use crate::member::whole_at;
+use crate::name::Name;
 use crate::path_index::PathIndex;
 use crate::rule::Rule;
 use serde_json::Value;
 use std::alloc::Global;
 use std::marker::Model;
-use trade_base::{SERVICES, Service};
+use trade_base::SERVICES;
 
 /// The most bytes of a start list's text.
 pub const LONGEST_TEXT: usize = 65_536;
@@ -48,6 +50,8 @@ pub struct StartList {
     pub(crate) caps: u32,
     pub(crate) default_route: Vec<Rule>,
     pub(crate) entries: Vec<ListEntry>,
+    /// The names of the services that the entries declare.
+    pub(crate) declared: Vec<Name>,
     /// Of the entries.
     pub(crate) finder: PathIndex,
 }
@@ -65,14 +69,14 @@ impl Model for StartList {
     } };
 
     ghost use Rattle.std.specs.Prelude.{vec_len};
-    ghost use Rattle.list_parser.specs.BuiltIn.{AreBuiltIn};
     ghost use Rattle.list_parser.specs.Depth.{HaveParentInits};
     ghost use Rattle.list_parser.specs.PathIndex.{AreFirst};
     ghost use Rattle.list_parser.specs.Range.{IsInRange};
+    ghost use Rattle.list_parser.specs.Services.{AreServices};
 
     ghost invariant = { λ list. IsInRange list.pages list.caps (vec_len list.entries)
         × HaveParentInits list.entries.items × AreFirst list.finder.firsts list.entries.items
-        × AreBuiltIn list.entries.items };
+        × AreServices list.declared.items list.entries.items };
 }
 
 impl StartList {
@@ -113,6 +117,7 @@ impl StartList {
             pages,
             caps,
             default_route: own.route,
+            declared: declared_names(alloc, reading.entries.as_slice())?,
             finder: PathIndex::of(reading.entries.as_slice()),
             entries: reading.entries,
         })
@@ -152,14 +157,25 @@ impl StartList {
         self.entries.as_slice()
     }
 
-    /// Returns the services of the list in the order in which output lists them. They are the two that the machine has built
-    /// in, since a list can declare no other server.
-    #[tactic(auto, using(crate::proofs::BuiltInLemmas::services_are_built_in))]
-    pub fn services(&self) -> [Service; 2]
-        ensures { map service_name result ≡ services_of self.now.entries }
+    /// Returns the number of services of the list: those that the machine has built in, and each other one that a server
+    /// declares.
+    pub fn service_count(&self) -> usize
+        ensures { result ≡ length (services_of self.now.entries) }
     {
-        let _entries = &self.entries;
-        SERVICES
+        SERVICES.len() + self.declared.len()
+    }
+
+    /// Returns a service of the list by its number in the order in which output lists services: first those that the machine
+    /// has built in, then each declared one by its first entry.
+    pub fn service(&self, number: usize) -> ListService<'_>
+        requires { number < length (services_of self.now.entries) }
+        ensures { slice_get (services_of self.now.entries) number
+            ≡ Some (service_text result) }
+    {
+        match SERVICES.get(number) {
+            Some(service) => ListService::BuiltIn(*service),
+            None => ListService::Declared(&self.declared[number - SERVICES.len()]),
+        }
     }
 
     /// Returns the name of a component, given by its number, as lines have it: the path of its entry.

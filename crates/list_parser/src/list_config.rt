@@ -5,10 +5,10 @@ ghost use Rattle.std.specs.Option.{option_map};
 ghost use Rattle.serde_json.specs.View.{view};
 ghost use Rattle.list_parser.specs.Depth.{runs_init};
 ghost use Rattle.list_parser.specs.Entries.{config_of, default_route, own_of, list_of_entry, starts_in};
-ghost use Rattle.list_parser.specs.View.{model_binary, model_own};
+ghost use Rattle.list_parser.specs.View.{model_named_binary, model_own};
 ghost use Rattle.list_parser.specs.declared.fault.BootFault.TheVariants.{NoMemory, BadConfig};
 
-use crate::entry::Binary;
+use crate::binary_word::NamedBinary;
 use crate::fault::{BootFault, ConfigField};
 use crate::member::short_list;
 use crate::rule::{Rule, read_rules};
@@ -29,22 +29,22 @@ pub(crate) struct ListConfig<'v> {
 /// the member is no object or inits may not nest deeper. Otherwise refuses as `read_own`.
 pub(crate) fn read_config<'v>(
     alloc: Global,
-    binary: Binary,
+    binary: &NamedBinary,
     deeper: bool,
     met: usize,
     member: Option<&'v Value>,
 ) -> Result<ListConfig<'v>, BootFault>
     requires { met ≤ 32 }
-    ensures ok { IfOk result (λ own. list_of_entry (model_binary binary) deeper met
+    ensures ok { IfOk result (λ own. list_of_entry (model_named_binary binary.now) deeper met
         (option_map (λ value. view value.now) member.entry) ≡ Ok (model_own own)) }
     ensures err { IfErr result
-        (λ fault. fault ≢ NoMemory → list_of_entry (model_binary binary) deeper met
+        (λ fault. fault ≢ NoMemory → list_of_entry (model_named_binary binary.now) deeper met
         (option_map (λ value. view value.now) member.entry) ≡ Err fault) }
     ensures few { IfOk result (λ own. met + length own.starts.now ≤ 32) }
     ensures some { IfOk result (λ own. 0 < length own.starts.now
-        → (deeper ≡ true) × (runs_init (model_binary binary) ≡ true)) }
+        → (deeper ≡ true) × (runs_init (model_named_binary binary.now) ≡ true)) }
 {
-    if binary != Binary::Init {
+    if !binary.is_init() {
         return Ok(ListConfig {
             route: Vec::new(alloc),
             starts: &[],

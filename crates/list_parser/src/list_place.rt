@@ -9,7 +9,7 @@ use std::marker::Model;
 /// The place of an init's list: the init's number, path and label. The path and the label of the machine's list are empty.
 #[derive(Drop)]
 pub(crate) struct ListPlace {
-    pub(crate) init: usize,
+    pub(crate) init: u8,
     pub(crate) path: Path,
     pub(crate) label: Label,
 }
@@ -44,7 +44,7 @@ impl ListPlace {
         ensures { result ≡ place_within number entry.now }
     {
         ListPlace {
-            init: number + 1,
+            init: number as u8 + 1,
             path: entry.to_path(),
             label: entry.to_label(),
         }

@@ -6,9 +6,9 @@ ghost use Rattle.serde_json.specs.View.{view};
 ghost use Rattle.core_calls.specs.Quotas.{reserve_amounts};
 ghost use Rattle.list_parser.specs.Entries.{if_script, reserve_of_entry, reserve_with};
 ghost use Rattle.list_parser.specs.Members.{amount_in, whole_in};
-ghost use Rattle.list_parser.specs.View.{model_binary};
+ghost use Rattle.list_parser.specs.View.{model_named_binary};
 
-use crate::entry::Binary;
+use crate::binary_word::NamedBinary;
 use crate::fault::{BootFault, ConfigField};
 use crate::member::{amount_in, whole_in};
 use core_calls::Reserve;
@@ -17,9 +17,12 @@ use trade_base::{Caps, Ram};
 
 /// Reads the reserve of an entry of a binary, if it is given one. Refuses with `BadConfig` for the RAM, then for the
 /// capabilities.
-pub(crate) fn read_reserve(binary: Binary, entry: &Value) -> Result<Option<Reserve>, BootFault>
+pub(crate) fn read_reserve(
+    binary: &NamedBinary,
+    entry: &Value,
+) -> Result<Option<Reserve>, BootFault>
     ensures { result_map_both (option_map reserve_amounts) (λ fault. fault) result
-        ≡ reserve_of_entry (model_binary binary) (view entry.now) }
+        ≡ reserve_of_entry (model_named_binary binary.now) (view entry.now) }
 {
     let Some(ram) = reserve_ram(binary, entry.get("reserve")) else {
         return Err(BootFault::BadConfig(ConfigField::Reserve));
@@ -32,26 +35,26 @@ pub(crate) fn read_reserve(binary: Binary, entry: &Value) -> Result<Option<Reser
 
 /// Reads the RAM of a script's reserve, if the member is there. Returns `None` if the member is no amount or the entry is no
 /// script.
-fn reserve_ram(binary: Binary, member: Option<&Value>) -> Option<Option<u64>>
+fn reserve_ram(binary: &NamedBinary, member: Option<&Value>) -> Option<Option<u64>>
     ensures { result
-        ≡ if_script amount_in (model_binary binary) (option_map (λ value. view value.now) member.entry) }
+        ≡ if_script amount_in (model_named_binary binary.now) (option_map (λ value. view value.now) member.entry) }
 {
-    match (member, binary) {
-        (None, _) => Some(None),
-        (Some(value), Binary::Script) => Some(Some(amount_in(value)?)),
-        (Some(_), Binary::Server(_) | Binary::Init) => None,
+    match member {
+        None => Some(None),
+        Some(value) if binary.is_script() => Some(Some(amount_in(value)?)),
+        Some(_) => None,
     }
 }
 
 /// Reads the capabilities of a script's reserve in the same way, as a whole number.
-fn reserve_caps(binary: Binary, member: Option<&Value>) -> Option<Option<u32>>
+fn reserve_caps(binary: &NamedBinary, member: Option<&Value>) -> Option<Option<u32>>
     ensures { result
-        ≡ if_script (whole_in 0 4294967295) (model_binary binary) (option_map (λ value. view value.now) member.entry) }
+        ≡ if_script (whole_in 0 4294967295) (model_named_binary binary.now) (option_map (λ value. view value.now) member.entry) }
 {
-    match (member, binary) {
-        (None, _) => Some(None),
-        (Some(value), Binary::Script) => Some(Some(whole_in(value, 0, u32::MAX)?)),
-        (Some(_), Binary::Server(_) | Binary::Init) => None,
+    match member {
+        None => Some(None),
+        Some(value) if binary.is_script() => Some(Some(whole_in(value, 0, u32::MAX)?)),
+        Some(_) => None,
     }
 }
 

@@ -128,6 +128,8 @@ pub enum ListPart {
     Rule(usize, EntrySteps, usize),
     /// A rule of the default route of what an init starts: its entry as above, and the rule's place.
     InnerRule(usize, EntrySteps, usize),
+    /// A kind of objects that a server declares: its entry as above, and the kind's place.
+    Kind(usize, EntrySteps, usize),
 }
 
 impl ListPart {
@@ -151,6 +153,9 @@ impl ListPart {
             ListPart::InnerRule(number, steps, rule) => {
                 rule_at(alloc, RuleOwner::Inner(*number), steps, *rule)
             }
+            ListPart::Kind(number, steps, kind) => {
+                Ok(ListPart::Kind(*number, steps.copy(alloc)?, *kind))
+            }
         }
     }
 }
@@ -164,25 +169,26 @@ impl fmt::Display for ListPart {
             ListPart::Entry(_, steps) => show_within(f, "", steps, ""),
             ListPart::Config(_, steps) => show_within(f, "", steps, ": config"),
             ListPart::DefaultRule(rule) => show_within(f, "default-route[", rule, "]"),
-            ListPart::Rule(_, steps, rule) => show_rule(f, steps, ": route", *rule),
-            ListPart::InnerRule(_, steps, rule) => show_rule(
+            ListPart::Rule(_, steps, rule) => show_element(f, steps, ": route", *rule),
+            ListPart::InnerRule(_, steps, rule) => show_element(
                 f,
                 steps,
                 ": config: default-route",
                 *rule,
             ),
+            ListPart::Kind(_, steps, kind) => show_element(f, steps, ": kinds", *kind),
         }
     }
 }
 
-// A rule of a list that an entry has as a member.
-fn show_rule<W: fmt::Write>(
+// An element of a list that an entry has as a member.
+fn show_element<W: fmt::Write>(
     f: &mut fmt::Formatter<W>,
     steps: &EntrySteps,
     member: &str,
-    rule: usize,
+    place: usize,
 ) -> fmt::Result {
-    write!(f, "{steps}{member}[{rule}]")
+    write!(f, "{steps}{member}[{place}]")
 }
 
 /// The owner of a rule: the machine's default route, an entry's own route, or the default route of what an entry starts. Entries

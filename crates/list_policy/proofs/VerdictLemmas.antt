@@ -1,7 +1,7 @@
 -- What lines one after another add to a verdict.
-use Rattle.std.proofs.Common.{◌≡◌, ◌≢◌, ℕ, ◌<◌, ◌≤◌, ◌+◌, Bool, true, false, List, [], ◌∷◌, ◌++◌, length, map, drop, get_or, nat_eq, refl, sym, subst, ap, ◌∙◌, arith, Ok, Err}
-use Rattle.std.proofs.lemmas.Bool.Decides.{nat_tests}
-use Rattle.std.proofs.lemmas.List.{append_assoc, append-nil, drop_all, drop_more}
+use Rattle.std.proofs.Common.{◌≡◌, ◌≢◌, ℕ, ◌<◌, ◌≤◌, ◌+◌, Bool, true, false, List, [], ◌∷◌, ◌++◌, length, map, drop, get_or, nat_eq, refl, sym, subst, ap, ◌∙◌, Ok, Err}
+use Rattle.std.proofs.lemmas.Bool.{eqb-true}
+use Rattle.std.proofs.lemmas.List.{append_assoc, append-nil, drop_all, drop_more, nil_from_length}
 use Rattle.std.proofs.lemmas.Simd.{map-map}
 use Rattle.own_model.specs.Listed.{Listed}
 use Rattle.list_policy.specs.Components.{FaultAt, fault_at}
@@ -46,16 +46,12 @@ broken_all list lines texts place places end before =
     subst (λ ps. AreBrokenAt list lines ps) (append-nil places)
     (before [] (subst (λ (xs : List PolicyLine). AreBrokenAt list (map line_at xs) []) (sym (drop_all place texts end)) refl))
 
-no_more : {X : Type 0} (xs : List X) (b : Bool) → b ≡ nat_eq (length xs) 0 → b ≡ true → xs ≡ []
-no_more [] b test is = refl
-no_more (x ∷ xs) b test is = let none : length (x ∷ xs) ≡ 0 = grind (arith, nat_tests) in absurd (omega (arith, none))
-
 -- the verdict of a policy without faults, and of one with faults
 pub held_is : (list : Listed) (text : List ℕ) (policy : Policy) (lines : List PolicyLine) (faults : List PolicyFault) (broken : List PlaceAt) (b : Bool)
     → Reads list text policy → faults ≡ policy.faults.items → b ≡ nat_eq (length faults) 0 → b ≡ true → lines ≡ policy.lines.items
     → AreBrokenAt list (map line_at lines) broken → IsVerdict list text (Ok broken)
 held_is list text policy lines faults broken b reads faults_are test is lines_are are = (
-  sym reads.faults ∙ ap (λ (fs : List PolicyFault). map fault_at fs) (sym faults_are ∙ no_more faults b test is),
+  sym reads.faults ∙ ap (λ (fs : List PolicyFault). map fault_at fs) (sym faults_are ∙ nil_from_length faults (eqb-true (length faults) 0 (sym test ∙ is))),
   subst (λ (ls : List LineAt). AreBrokenAt list ls broken) (ap (λ (ls : List PolicyLine). map line_at ls) lines_are ∙ reads.lines) are,
 )
 

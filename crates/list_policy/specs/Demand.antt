@@ -3,13 +3,12 @@ use Rattle.std.specs.Prelude.{◌≡◌, ◌≢◌, ℕ, ◌+◌, ◌&&◌, ◌|
 use Rattle.std.specs.List.{list_all, list_any, slice_get, starts_with}
 use Rattle.std.specs.Option.{option_map, option_to_list, unwrap_or}
 use Rattle.std.specs.Str.{bytes_eq}
-use Rattle.own_model.specs.Listed.{Binary, Listed, ListedEntry, reserve_of}
-use Rattle.own_model.specs.Listed.Binary.{Script, Server, Init}
+use Rattle.own_model.specs.Listed.{Binary, Listed, ListedEntry, reserve_of, service_in}
 use Rattle.list_labels.specs.GivenLabels.{IsGiven, leads_to}
 use Rattle.list_labels.specs.LabelRanges.{AskedLabel}
 use Rattle.list_reach.specs.Reach.{NoneRouted}
 use Rattle.list_reach.specs.RangeReach.{IsShortestInRange, NoneRoutedInRange}
-use Rattle.list_reach.specs.Paths.{runs_script, runs_server}
+use Rattle.list_parser.specs.Depth.{runs_script, runs_server}
 use Rattle.list_reach.specs.ClientReach.{is_child}
 use Rattle.list_policy.specs.declared.breach.Breach.{Breach}
 use Rattle.list_policy.specs.declared.breach.Breach.TheVariants as breach
@@ -140,9 +139,7 @@ abbrev pub concerns : Listed → LineAt → ℕ → ℕ → Bool
 concerns list line client server = concerns_by list line.demand line.from line.to client server
 
 abbrev pub served_name : Binary → List ℕ
-served_name Script = []
-served_name (Server service offer) = service
-served_name Init = []
+served_name binary = unwrap_or (service_in binary) []
 
 -- the name of the service of the server of a number; of another component nothing
 abbrev pub service_at : Listed → ℕ → List ℕ

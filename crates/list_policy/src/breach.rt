@@ -11,7 +11,7 @@ ghost use Rattle.list_policy.specs.Line.{line_at};
 use crate::budget::excess_at;
 use crate::demand::{BudgetLimit, Demand, LabelRange, PolicyLine, concerns};
 use list_labels::{ClientLabel, LabelCondition, SessionRequests};
-use list_parser::{Binary, StartList};
+use list_parser::StartList;
 use list_reach::{ClientReach, Reach, shortest_in_range};
 use list_routes::route;
 use std::alloc::{AllocError, Global};
@@ -298,13 +298,13 @@ fn label_of(reach: Reach) -> Option<ClientLabel>
 }
 
 /// Returns the name of the service of a server, by the server's number, or an empty text for another component.
-pub(crate) fn service_at(list: &StartList, server: usize) -> &'static str
+pub(crate) fn service_at(list: &StartList, server: usize) -> &str
     ensures { result.now ≡ service_at list.now server }
 {
     match list.entries().get(server) {
-        Some(entry) => match entry.binary() {
-            Binary::Server(service) => service.name(),
-            Binary::Script | Binary::Init => "",
+        Some(entry) => match entry.service() {
+            Some(service) => service,
+            None => "",
         },
         None => "",
     }

@@ -5,7 +5,7 @@ ghost use Rattle.list_policy.specs.Demand.{are_apart, are_separate, belongs, con
 ghost use Rattle.list_policy.specs.Line.{line_at};
 
 use list_labels::ClientLabel;
-use list_parser::{Binary, StartList};
+use list_parser::StartList;
 
 /// The labels that a demand is about.
 #[derive(Drop)]
@@ -165,7 +165,7 @@ fn is_script(list: &StartList, number: usize) -> bool
     ensures { result ≡ is_script list.now number }
 {
     match list.entries().get(number) {
-        Some(entry) => entry.binary() == Binary::Script,
+        Some(entry) => entry.is_script(),
         None => false,
     }
 }
@@ -175,10 +175,7 @@ fn is_server(list: &StartList, number: usize) -> bool
     ensures { result ≡ is_server list.now number }
 {
     match list.entries().get(number) {
-        Some(entry) => match entry.binary() {
-            Binary::Server(_) => true,
-            Binary::Script | Binary::Init => false,
-        },
+        Some(entry) => entry.is_server(),
         None => false,
     }
 }

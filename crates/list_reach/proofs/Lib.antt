@@ -1,5 +1,6 @@
 pub mod TableLemmas
 pub mod DecisionLemmas
+pub mod ServiceLemmas
 pub mod TrailLemmas
 pub mod WaysLemmas
 pub mod WishLemmas

@@ -5,8 +5,8 @@ use Rattle.std.specs.Char.{is_ascii_whitespace}
 use Rattle.std.specs.List.{list_any, prefix_len, suffix_len, slice_get, slice_split, starts_with, ends_with}
 use Rattle.std.specs.Option.{option_map, unwrap_or}
 use Rattle.std.specs.Str.{bytes_eq}
-use Rattle.own_model.specs.Listed.{Binary, Listed, ListedEntry}
-use Rattle.own_model.specs.Listed.Binary.{Script, Server, Init}
+use Rattle.own_model.specs.Listed.{Listed, ListedEntry}
+use Rattle.list_parser.specs.Depth.{runs_script, runs_server}
 use Rattle.list_reach.specs.declared.component_numbers.ComponentKind.{ComponentKind}
 use Rattle.list_reach.specs.declared.component_numbers.ComponentKind.TheVariants.{Script as Scripts, Server as Servers}
 use Rattle.list_reach.specs.declared.component_numbers.Unnamed.{Unnamed}
@@ -35,16 +35,6 @@ selects asked path =
     else if stands_for_all asked then is_within (take (length asked - 1) asked) path else bytes_eq asked path
 
 -- ---- the components that paths denote
-
-abbrev pub runs_script : Binary → Bool
-runs_script Script = true
-runs_script (Server service offer) = false
-runs_script Init = false
-
-abbrev pub runs_server : Binary → Bool
-runs_server Script = false
-runs_server (Server service offer) = true
-runs_server Init = false
 
 -- an entry is a script, or a server that provides its service
 abbrev pub is_sought : ListedEntry → ComponentKind → Bool

@@ -7,7 +7,7 @@ use Rattle.own_model.specs.Listed.{Listed}
 use Rattle.own_model.specs.SessionArgs.{arguments_of}
 use Rattle.list_labels.specs.GivenLabels.{leads_to}
 use Rattle.list_labels.specs.RouteSteps.{route_steps_of}
-use Rattle.list_reach.specs.Paths.{runs_script}
+use Rattle.list_parser.specs.Depth.{runs_script}
 use Rattle.list_reach.specs.declared.route_path.RoutePath.{RoutePath}
 use Rattle.list_reach.specs.declared.route_path.RoutePathFault.{RoutePathFault}
 use Rattle.list_reach.specs.declared.route_path.RoutePathFault.TheVariants.{Nobody, BadArgs, NoMemory}

@@ -1,10 +1,8 @@
 -- What a table has rows for: each selected script, each service, and each selected server that provides it.
 use Rattle.std.specs.Prelude.{◌≡◌, ℕ, ◌&&◌, Bool, List, [], ◌∷◌, ◌++◌, map, if◌then◌else◌, All}
 use Rattle.std.specs.List.{enumerate_from, flat_map}
-use Rattle.trade_base.specs.declared.service.Service.{Service}
-use Rattle.trade_base.specs.Service.{service_name, services}
-use Rattle.own_model.specs.Listed.{Listed, ListedEntry, offers}
-use Rattle.list_reach.specs.Paths.{runs_script}
+use Rattle.own_model.specs.Listed.{Listed, ListedEntry, offers, services_of}
+use Rattle.list_parser.specs.Depth.{runs_script}
 use Rattle.list_reach.specs.Table.{IsTrue}
 use Rattle.list_reach.specs.declared.reach_table.ReachCell.{ReachCell}
 
@@ -24,14 +22,14 @@ provider_rows servers client service entry =
     else []
 
 -- a script's rows for a service, server by server
-abbrev pub service_rows : Listed → (ℕ → Bool) → ℕ → Service → List Row
+abbrev pub service_rows : Listed → (ℕ → Bool) → ℕ → List ℕ → List Row
 service_rows list servers client service =
-    flat_map (provider_rows servers client (service_name service)) (enumerate_from 0 list.entries)
+    flat_map (provider_rows servers client service) (enumerate_from 0 list.entries)
 
 -- the rows of an entry, by its number, if it is a selected script: service by service
 abbrev pub script_rows : Listed → (ℕ → Bool) → (ℕ → Bool) → ℕ × ListedEntry → List Row
 script_rows list scripts servers entry =
-    if scripts entry.0 && runs_script entry.1.binary then flat_map (service_rows list servers entry.0) services else []
+    if scripts entry.0 && runs_script entry.1.binary then flat_map (service_rows list servers entry.0) (services_of list.entries) else []
 
 -- the rows of a table, script by script
 abbrev pub rows : Listed → (ℕ → Bool) → (ℕ → Bool) → List Row

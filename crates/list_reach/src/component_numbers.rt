@@ -5,7 +5,7 @@ ghost use Rattle.list_reach.specs.declared.component_numbers.Unnamed.TheVariants
 
 use crate::near_path::near_path;
 use crate::paths::{pieces, selects, trimmed};
-use list_parser::{Binary, ListEntry, Path, StartList};
+use list_parser::{ListEntry, Path, StartList};
 use std::alloc::{AllocError, Global};
 use std::{fmt, str};
 
@@ -164,9 +164,8 @@ fn why_unnamed<'a>(
 pub(crate) fn is_sought(entry: &ListEntry, sought: ComponentKind) -> bool
     ensures { result ≡ is_sought entry.now sought }
 {
-    match (entry.binary(), sought) {
-        (Binary::Script, ComponentKind::Script) => true,
-        (Binary::Server(_), ComponentKind::Server) => entry.provides(),
-        _ => false,
+    match sought {
+        ComponentKind::Script => entry.is_script(),
+        ComponentKind::Server => entry.is_server() && entry.provides(),
     }
 }

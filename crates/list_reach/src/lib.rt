@@ -14,6 +14,7 @@ mod route_decisions;
 mod route_path;
 mod route_summary;
 mod script_decisions;
+mod services;
 mod texts;
 mod theorems;
 
@@ -28,4 +29,5 @@ pub use route_decisions::{RouteDecision, RouteDecisions};
 pub use route_path::{RoutePath, RoutePathFault};
 pub use route_summary::RouteSummary;
 pub use script_decisions::ScriptDecisions;
+pub use services::service_name;
 pub use theorems::requests_are_answered;

@@ -23,7 +23,7 @@ pub struct ReachPath<'a> {
     /// The number of the script.
     pub client: usize,
     /// The service.
-    pub service: &'static str,
+    pub service: &'a str,
     /// The number of the server.
     pub server: usize,
     /// The label.
@@ -74,7 +74,7 @@ fn add_paths<'a>(
     ways: &mut Vec<ReachPath<'a>>,
     list: &'a StartList,
     chosen: &ReachFilter,
-    one: &ScriptDecisions<'_>,
+    one: &ScriptDecisions<'a>,
 ) -> Result<(), AllocError>
     requires decided { IsDecided list.now one.now }
     requires told { All (IsReachPath list.now) ways.old.items }
@@ -95,7 +95,7 @@ fn add_path<'a>(
     ways: &mut Vec<ReachPath<'a>>,
     list: &'a StartList,
     chosen: &ReachFilter,
-    one: &ScriptDecisions<'_>,
+    one: &ScriptDecisions<'a>,
     trail: &RouteDecision,
 ) -> Result<(), AllocError>
     requires client { one.now.client < length list.now.entries }

@@ -1,7 +1,7 @@
 //! Which scripts reach which servers, as a table.
 ghost use Rattle.std.specs.Prelude.{◌≡◌, ◌<◌, [], ◌∷◌, length, map, All, IfOk, OnOk};
 ghost use Rattle.std.specs.List.{enumerate_from, flat_map};
-ghost use Rattle.trade_base.specs.Service.{services};
+ghost use Rattle.own_model.specs.Listed.{services_of};
 ghost use Rattle.list_reach.specs.Paths.{is_chosen};
 ghost use Rattle.list_reach.specs.Rows.{AddsRows, provider_rows, row_of, rows, script_rows, service_rows};
 ghost use Rattle.list_reach.specs.Table.{IsTrue};
@@ -11,23 +11,23 @@ use crate::client_reach::{ClientReach, Reach};
 use crate::comparison::RouteComparison;
 use crate::component_numbers::{ComponentKind, is_sought};
 use crate::reach_filter::ReachFilter;
+use crate::services::service_name;
 use crate::texts::PathText;
 use list_labels::{ClientLabel, LabelSet, SessionRequests};
 use list_parser::{ListEntry, StartList};
 use std::alloc::{AllocError, Global};
 use std::fmt;
-use trade_base::{SERVICES, Service};
 
 /// The maximum number of bytes of a set of labels in a row of a table; a longer set is below the table.
 const LONGEST_SHOWN: usize = 40;
 
 /// The reach from a script to a server: which labels of the script's requests for a service are routed to the server.
 #[derive(Drop)]
-pub struct ReachCell {
+pub struct ReachCell<'a> {
     /// The number of the script.
     pub client: usize,
     /// The service.
-    pub service: &'static str,
+    pub service: &'a str,
     /// The number of a server that provides the service.
     pub server: usize,
     /// Whether all labels, some labels or no label is routed to the server.
@@ -39,7 +39,7 @@ pub struct ReachCell {
     shown: String,
 }
 
-impl ReachCell {
+impl ReachCell<'_> {
     /// Returns one of the shortest labels that are routed to the server, or none if no label is.
     pub fn witness(&self) -> Option<&[u8]> {
         match &self.reach {
@@ -50,11 +50,12 @@ impl ReachCell {
     }
 }
 
-/// A table of reach: a cell for each script and each server, script by script, the log servers before the file servers.
+/// A table of reach: a cell for each script and each server, script by script, and for each script service by service in the
+/// order of the list's services: the log servers, the file servers, then those of each declared service.
 #[derive(Drop)]
 pub struct ReachTable<'a> {
     list: &'a StartList,
-    cells: Vec<ReachCell>,
+    cells: Vec<ReachCell<'a>>,
     // The sets of labels that are below the table.
     sets: Vec<NamedLabelSet>,
 }
@@ -72,7 +73,7 @@ struct ServiceReach<'a> {
     alloc: Global,
     list: &'a StartList,
     client: usize,
-    service: &'static str,
+    service: &'a str,
     ways: ClientReach,
     sets: RouteComparison,
 }
@@ -109,7 +110,7 @@ impl<'a> ReachTable<'a> {
     }
 
     /// Returns the cells, script by script, and for each script server by server.
-    pub fn cells(&self) -> &[ReachCell]
+    pub fn cells(&self) -> &[ReachCell<'a>]
         ensures { result.now ≡ self.now.cells.items }
     {
         self.cells.as_slice()
@@ -123,10 +124,10 @@ impl<'a> ReachTable<'a> {
 
 // Adds the cells of an entry, if it is a selected script.
 #[tactic(auto, using(crate::proofs::TableLemmas::adds_none))]
-fn add_script(
+fn add_script<'a>(
     alloc: Global,
-    cells: &mut Vec<ReachCell>,
-    list: &StartList,
+    cells: &mut Vec<ReachCell<'a>>,
+    list: &'a StartList,
     chosen: &ReachFilter,
     client: usize,
     entry: &ListEntry,
@@ -146,41 +147,42 @@ fn add_script(
 
 // Adds the cells of a script.
 #[tactic(auto, using(crate::proofs::TableLemmas::adds_none, crate::proofs::TableLemmas::adds_then))]
-fn add_services(
+fn add_services<'a>(
     alloc: Global,
-    cells: &mut Vec<ReachCell>,
-    list: &StartList,
+    cells: &mut Vec<ReachCell<'a>>,
+    list: &'a StartList,
     chosen: &ReachFilter,
     client: usize,
 ) -> Result<(), AllocError>
     requires client { client < length list.now.entries }
     requires cells { All (IsTrue list.now) cells.old.items }
     ensures { OnOk result (AddsRows list.now cells.old.items
-        (flat_map (service_rows list.now (is_chosen chosen.now.to.items) client) services)
+        (flat_map (service_rows list.now (is_chosen chosen.now.to.items) client)
+        (services_of list.now.entries))
         cells.new.items) }
 {
-    let services = SERVICES.as_slice();
-    for place in 0..services.len() {
-        add_service(alloc, cells, list, chosen, client, services[place])?;
+    for number in 0..list.service_count() {
+        let service = service_name(list, number);
+        add_service(alloc, cells, list, chosen, client, service)?;
     }
     Ok(())
 }
 
 // Adds the cells of a script for one service.
-fn add_service(
+fn add_service<'a>(
     alloc: Global,
-    cells: &mut Vec<ReachCell>,
-    list: &StartList,
+    cells: &mut Vec<ReachCell<'a>>,
+    list: &'a StartList,
     chosen: &ReachFilter,
     client: usize,
-    service: Service,
+    service: &'a str,
 ) -> Result<(), AllocError>
     requires client { client < length list.now.entries }
     requires cells { All (IsTrue list.now) cells.old.items }
     ensures { OnOk result (AddsRows list.now cells.old.items
-        (service_rows list.now (is_chosen chosen.now.to.items) client service) cells.new.items) }
+        (service_rows list.now (is_chosen chosen.now.to.items) client service.now)
+        cells.new.items) }
 {
-    let service = service.name();
     let wishes = SessionRequests {
         list,
         client,
@@ -199,10 +201,10 @@ fn add_service(
 
 // Adds the cells of a script for one service, by the reach of its requests.
 #[tactic(auto, using(crate::proofs::TableLemmas::adds_none, crate::proofs::TableLemmas::adds_then))]
-fn add_cells(
-    cells: &mut Vec<ReachCell>,
+fn add_cells<'a>(
+    cells: &mut Vec<ReachCell<'a>>,
     chosen: &ReachFilter,
-    found: &ServiceReach<'_>,
+    found: &ServiceReach<'a>,
 ) -> Result<(), AllocError>
     requires ways { AreRoutes found.now.list.now found.now.client found.now.service.now
         found.now.ways }
@@ -222,9 +224,9 @@ fn add_cells(
 
 // Adds the cell of a script and a server.
 #[tactic(auto, using(crate::proofs::TableLemmas::adds_one))]
-fn add_cell(
-    cells: &mut Vec<ReachCell>,
-    found: &ServiceReach<'_>,
+fn add_cell<'a>(
+    cells: &mut Vec<ReachCell<'a>>,
+    found: &ServiceReach<'a>,
     server: usize,
 ) -> Result<(), AllocError>
     requires ways { AreRoutes found.now.list.now found.now.client found.now.service.now
@@ -267,7 +269,7 @@ fn shown_of(
 }
 
 // The sets of labels that are too long for a row, each once.
-fn long_sets(alloc: Global, cells: &[ReachCell]) -> Result<Vec<NamedLabelSet>, AllocError> {
+fn long_sets(alloc: Global, cells: &[ReachCell<'_>]) -> Result<Vec<NamedLabelSet>, AllocError> {
     let mut sets = Vec::new(alloc);
     for cell in cells {
         let shown = cell.shown.as_str();
@@ -336,8 +338,8 @@ impl ReachTable<'_> {
     fn show_cell<W: fmt::Write>(
         &self,
         f: &mut fmt::Formatter<W>,
-        before: Option<&ReachCell>,
-        cell: &ReachCell,
+        before: Option<&ReachCell<'_>>,
+        cell: &ReachCell<'_>,
     ) -> fmt::Result {
         let gap = match before {
             Some(before) if before.client == cell.client => {
@@ -355,7 +357,7 @@ impl ReachTable<'_> {
     }
 
     // The text in a row for a cell.
-    fn shown<'b>(&'b self, cell: &'b ReachCell) -> &'b str {
+    fn shown<'b>(&'b self, cell: &'b ReachCell<'_>) -> &'b str {
         match set_of(self.sets.as_slice(), cell.shown.as_str()) {
             Some(set) => set.name.as_str(),
             None => cell.shown.as_str(),
@@ -411,7 +413,7 @@ impl fmt::Display for ReachCsv<'_> {
 fn show_line<W: fmt::Write>(
     f: &mut fmt::Formatter<W>,
     list: &StartList,
-    cell: &ReachCell,
+    cell: &ReachCell<'_>,
 ) -> fmt::Result {
     let client = PathText::of(list, cell.client);
     let server = PathText::of(list, cell.server);

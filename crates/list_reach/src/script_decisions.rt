@@ -1,17 +1,17 @@
 //! Which rules decide the session requests of all scripts, for every service and every label.
 ghost use Rattle.std.specs.Prelude.{◌≡◌, ◌<◌, [], ◌∷◌, length, map, All, IfOk, OnOk, Some};
 ghost use Rattle.std.specs.List.{slice_get};
-ghost use Rattle.trade_base.specs.Service.{service_name, services};
+ghost use Rattle.own_model.specs.Listed.{services_of};
 ghost use Rattle.list_reach.specs.Paths.{is_chosen};
 ghost use Rattle.list_reach.specs.ScriptDecisions.{AddsDecisions, AreAllDecisions, AreEntryDecisions, IsDecided, entry_askings};
 
 use crate::component_numbers::{ComponentKind, is_sought};
 use crate::reach_filter::ReachFilter;
 use crate::route_decisions::RouteDecisions;
+use crate::services::service_name;
 use list_labels::SessionRequests;
 use list_parser::{ListEntry, StartList};
 use std::alloc::{AllocError, Global};
-use trade_base::{SERVICES, Service};
 
 /// The decisions on the requests of a script for a service.
 #[derive(Drop)]
@@ -21,7 +21,7 @@ pub struct ScriptDecisions<'a> {
     /// The script.
     pub entry: &'a ListEntry,
     /// The service.
-    pub service: &'static str,
+    pub service: &'a str,
     /// The decisions, each once, with the shorter labels first.
     pub decisions: RouteDecisions,
 }
@@ -79,7 +79,7 @@ fn add_script<'a>(
     requires entry { slice_get list.now.entries client ≡ Some entry.now }
     requires decided { All (IsDecided list.now) found.old.items }
     ensures { OnOk result (AddsDecisions list.now found.old.items
-        (entry_askings (is_chosen chosen.now.from.items) (client, entry.now)) found.new.items) }
+        (entry_askings (services_of list.now.entries) (is_chosen chosen.now.from.items) (client, entry.now)) found.new.items) }
 {
     if chosen.has_script(client) && is_sought(entry, ComponentKind::Script) {
         add_services(alloc, found, list, client, entry)
@@ -101,12 +101,12 @@ fn add_services<'a>(
     requires entry { slice_get list.now.entries client ≡ Some entry.now }
     requires decided { All (IsDecided list.now) found.old.items }
     ensures { OnOk result (AddsDecisions list.now found.old.items
-        (map (λ service. record { client = client; service = service_name service }) services)
-        found.new.items) }
+        (map (λ service. record { client = client; service = service })
+        (services_of list.now.entries)) found.new.items) }
 {
-    let services = SERVICES.as_slice();
-    for place in 0..services.len() {
-        add_service(alloc, found, list, client, entry, services[place])?;
+    for number in 0..list.service_count() {
+        let service = service_name(list, number);
+        add_service(alloc, found, list, client, entry, service)?;
     }
     Ok(())
 }
@@ -119,15 +119,14 @@ fn add_service<'a>(
     list: &'a StartList,
     client: usize,
     entry: &'a ListEntry,
-    service: Service,
+    service: &'a str,
 ) -> Result<(), AllocError>
     requires client { client < length list.now.entries }
     requires entry { slice_get list.now.entries client ≡ Some entry.now }
     requires decided { All (IsDecided list.now) found.old.items }
     ensures { OnOk result (AddsDecisions list.now found.old.items
-        (record { client = client; service = service_name service } ∷ []) found.new.items) }
+        (record { client = client; service = service.now } ∷ []) found.new.items) }
 {
-    let service = service.name();
     let decisions = RouteDecisions::of(
         alloc,
         SessionRequests {

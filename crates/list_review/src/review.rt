@@ -123,7 +123,7 @@ fn read_json(alloc: Global, text: &[u8]) -> Result<Value, ListFault>
         } else {
             Err(ListFault {
                 fault: BootFault::BadJson,
-                place: FaultPlace::Text(error.line(), error.column(), JsonReason::of(&error)),
+                place: FaultPlace::Text(error.line(), error.column(), JsonReason::of(&error, text)),
             })
         },
     }

@@ -5,7 +5,7 @@ ghost use Rattle.list_tree.specs.Nodes.{AreNodes};
 use crate::node::TreeNode;
 use crate::script_decision::ScriptDecision;
 use crate::tree::ListTree;
-use list_parser::{Binary, ListEntry, StartList};
+use list_parser::{ListEntry, StartList};
 use list_parts::show_within;
 use list_reach::ScriptDecisions;
 use std::alloc::{AllocError, Global};
@@ -183,10 +183,7 @@ fn show_box<W: fmt::Write>(
 // The node of a component. Paths have no character that is to be escaped.
 fn show_node<W: fmt::Write>(f: &mut fmt::Formatter<W>, node: &TreeNode<'_>) -> fmt::Result {
     let entry = node.entry;
-    let shape = match entry.binary() {
-        Binary::Server(_) => "box",
-        Binary::Script | Binary::Init => "ellipse",
-    };
+    let shape = if entry.is_server() { "box" } else { "ellipse" };
     write!(f, "\"{}\" [shape={shape}, label=\"", entry.to_path())?;
     show_text(f, node)?;
     f.write_str("\"];\n")
@@ -199,7 +196,7 @@ fn show_text<W: fmt::Write>(f: &mut fmt::Formatter<W>, node: &TreeNode<'_>) -> f
     write!(f, "{} ({})\\n", entry.to_path(), binary.as_str())?;
     node.show_budget(f, "\\n")?;
     match binary.service() {
-        Some(service) if entry.provides() => write!(f, "\\nprovides {}", service.name()),
+        Some(service) if entry.provides() => write!(f, "\\nprovides {service}"),
         _ => Ok(()),
     }
 }

@@ -17,7 +17,7 @@ pub(crate) struct ScriptDecision<'a> {
     /// The client.
     pub client: &'a ListEntry,
     /// The service.
-    pub service: &'static str,
+    pub service: &'a str,
     /// The rules: one of the client's own list, and then one for each init outward.
     pub trail: &'a RouteDecision,
     /// A label of one of these requests, if others are decided otherwise.

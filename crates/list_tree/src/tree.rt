@@ -121,7 +121,7 @@ fn show_node<W: fmt::Write>(f: &mut fmt::Formatter<W>, node: &TreeNode<'_>) -> f
     write!(f, "{} ({}): ", entry.to_name(), binary.as_str())?;
     node.show_budget(f, ", ")?;
     match binary.service() {
-        Some(service) if entry.provides() => writeln!(f, ", provides {}", service.name()),
+        Some(service) if entry.provides() => writeln!(f, ", provides {service}"),
         Some(_) => f.write_str(", provides nothing\n"),
         None => f.write_str("\n"),
     }
@@ -208,7 +208,7 @@ fn add_component(
     }
     match binary.service() {
         Some(service) if entry.provides() => {
-            members.push(("provides", JsonField::Word(service.name())))?;
+            members.push(("provides", JsonField::Text(service.as_bytes())))?;
         }
         Some(_) => members.push(("provides", JsonField::Nothing))?,
         None => {}
@@ -269,7 +269,7 @@ fn add_request<'a>(
     listing.add(&[
         ("kind", JsonField::Word("wish")),
         ("name", JsonField::Text(decision.client.path())),
-        ("service", JsonField::Word(decision.service)),
+        ("service", JsonField::Text(decision.service.as_bytes())),
         ("to", to),
         ("by", JsonField::Text(by.as_bytes())),
         ("label", label),

@@ -7,8 +7,8 @@ use cli_base::{Coloring, REFUSED, Settings, Spot, names_given, report_error, sta
 use cli_budgets::print_minimum_budgets;
 use cli_lists::{check_list, compare_lists, show_reach, show_route, show_tree};
 use cli_options::{
-    AloneOptions, CALLS, Command, CommandLine, RunOptions, TestOptions, alone_usage_error,
-    color_value_error, missing_command_error, words_given,
+    AloneOptions, CALLS, Command, CommandLine, DiffOptions, RunOptions, TestOptions,
+    alone_usage_error, color_value_error, diff_usage_error, missing_command_error, words_given,
 };
 use cli_runs::{
     list_accounts, record_scenario, run_scenario, show_all_alone, show_alone, trace_scenario,
@@ -82,7 +82,7 @@ fn answer<'a>(rt: &HostRuntime, command: &'a Command<'a>, settings: Settings<'a>
         Command::Accounts(asked) => list_accounts(rt, asked, settings),
         Command::Least(asked) => print_minimum_budgets(rt, asked, settings),
         Command::Alone(asked) => answer_alone(rt, asked, settings),
-        Command::Diff(asked) => compare_lists(rt, asked, settings.form),
+        Command::Diff(asked) => answer_diff(rt, asked, settings),
         Command::Test(asked) => answer_test(rt, asked, settings),
         Command::Help(topic) => print_help(rt, *topic),
     }
@@ -119,6 +119,14 @@ fn answer_alone<'a>(rt: &HostRuntime, asked: &'a AloneOptions<'a>, settings: Set
         (false, Some(scenario)) if !asked.summary => show_alone(rt, asked, scenario, settings),
         (true, None) => show_all_alone(rt, asked, settings),
         _ => refuse_words(rt, alone_usage_error(rt.alloc())),
+    }
+}
+
+// Prints the differences between two start lists, and returns the exit status.
+fn answer_diff<'a>(rt: &HostRuntime, asked: &'a DiffOptions<'a>, settings: Settings<'a>) -> u8 {
+    match (asked.scenario, asked.scenario_after) {
+        (None, Some(_)) => refuse_words(rt, diff_usage_error(rt.alloc())),
+        _ => compare_lists(rt, asked, settings),
     }
 }
 

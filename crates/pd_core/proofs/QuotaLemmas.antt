@@ -5,10 +5,10 @@ use Rattle.std.proofs.lemmas.Option.{none-some}
 use Rattle.std.specs.Prelude.{Option, None, Result, Ok, Err, IfSome}
 use Rattle.std.specs.Option.{option_map, option_and_then, ok_or}
 use Rattle.std.specs.FinMap.{get, empty}
+use Rattle.trade_base.specs.declared.id.AccountId.{AccountId}
 use Rattle.trade_base.specs.declared.id.SessionId.{SessionId}
 use Rattle.trade_base.specs.declared.refusal.Refusal.{Refusal}
 use Rattle.trade_base.specs.declared.refusal.Refusal.TheVariants.{InvalidSession}
-use Rattle.trade_base.specs.declared.service.Service.TheVariants as service
 use Rattle.own_model.specs.NatMap.{NatMap, picked}
 use Rattle.own_model.specs.OwnState.{OwnState, session_named}
 use Rattle.own_model.specs.OwnState.Object.{OpenSession}
@@ -23,19 +23,19 @@ use Rattle.own_model.specs.World.{account_at, account_by}
 use Rattle.own_model.proofs.NatMapLemmas.{get-empty, get-picked, get-picked_none}
 use Rattle.cap_space.specs.declared.cap.Cap.{Cap}
 use Rattle.cap_space.specs.declared.cap.Cap.TheVariants.{Dataspace, RpcObject, Session, Buffer}
+use Rattle.object_kinds.specs.Offered.{offered_kinds}
 use Rattle.dataspace_core.specs.Store.{Store, Part, part, account_in}
 use Rattle.dataspace_core.proofs.PartLaws.{account_of-part}
 use Rattle.server_frame.specs.Frame.{Row}
 use Rattle.server_kinds.proofs.HostLaws.{row_offer}
 use Rattle.server_kinds.specs.Host.{offer_of as offer_of_host}
 use Rattle.server_kinds.specs.declared.any_server.AnyServer.{AnyServer}
-use Rattle.server_kinds.specs.declared.any_server.AnyServer.TheVariants.{Log, Files}
 use Rattle.pd_core.specs.Own.{Sessions, no_sessions, object_of, own_of, part_at, Lent, lent_in, no_lent}
 use Rattle.pd_core.specs.Component.{Pays, kind_of, caps_in, rows_in, own_in, own, rows_of}
 use Rattle.pd_core.specs.Core.{Places, Roles, init_in, inits_of, roles_of, rows_at, sessions_in, world_of, IsCore}
 use Rattle.pd_core.specs.Exit.{HasSelectorsTo}
 use Rattle.pd_core.specs.SessionCalls.{named_in}
-use Rattle.pd_core.specs.Sessions.{IsBuiltIn, row_session}
+use Rattle.pd_core.specs.Sessions.{row_session}
 use Rattle.pd_core.specs.Sound.{session_at}
 use Rattle.pd_core.proofs.SessionBetweenLemmas.{its as named_row}
 use Rattle.pd_core.proofs.SessionRefusedLemmas.{no_space}
@@ -177,31 +177,10 @@ session_at_place places store components i d q here =
     ap (λ (s : OwnState). session_named (get s.selectors q)) (own_at_place places store components i d here)
     ∙ by_role (sessions_in store (roles_of components)) store (get_or components i d).role q
 
--- a server is one of a service that the machine has built in
-host_built_in : (host : AnyServer) → IsBuiltIn (offer_of_host host)
-host_built_in (Log server) = record { service = service.Log; is = refl }
-host_built_in (Files server) = record { service = service.Files; is = refl }
-
--- so is a session, if there is one
-abbrev IsSomeBuiltIn : Option AnOpenSession → Type 0
-IsSomeBuiltIn session = IfSome session (λ s. IsBuiltIn (offer_of s.state))
-
-row_built_in : (store : Store) (role : Role) (server id : ℕ) (row : Option (Row Labelled)) → get (rows_in store role) id ≡ row → IsSomeBuiltIn (option_map (row_session server) row)
-row_built_in store role server id None is = tt
-row_built_in store (AServer account host) server id (Some row) is = subst IsBuiltIn (sym (row_offer store host id row is)) (host_built_in host)
-row_built_in store (AScript script) server id (Some row) is = absurd (none-some row (sym (get-empty id) ∙ is))
-row_built_in store (AnInit key) server id (Some row) is = absurd (none-some row (sym (get-empty id) ∙ is))
-row_built_in store AGone server id (Some row) is = absurd (none-some row (sym (get-empty id) ∙ is))
-
-found_built_in : (store : Store) (roles : Roles) (named : Result (ℕ × SessionId) Refusal) → IsSomeBuiltIn (found_in (sessions_in store roles) named)
-found_built_in store roles (Ok named) = row_built_in store (roles named.0) named.0 named.1.0 (get (rows_at store roles named.0) named.1.0) refl
-found_built_in store roles (Err refusal) = tt
-
--- and so it is at each place of the world
-pub built_in_at_place : (places : Places) (store : Store) (components : List Component) (i : ℕ) (d : Component) (q : ℕ) → i < length components →
-    IfSome (session_named (get (state_at (world_of places store components).states i).selectors q)) (λ (s : AnOpenSession). IsBuiltIn (offer_of s.state))
-built_in_at_place places store components i d q here =
-    subst IsSomeBuiltIn (sym (session_at_place places store components i d q here)) (found_built_in store (roles_of components) (named_in (get_or components i d).role q))
+-- a session of a component is of the kinds that the component offers
+pub row_of_kinds : (store : Store) (role : Role) (id : ℕ) (row : Row Labelled) → get (rows_in store role) id ≡ Some row → (key : AccountId) (host : AnyServer) → role ≡ AServer key host →
+    offered_kinds (offer_of row.value.state) ≡ offered_kinds (offer_of_host host)
+row_of_kinds store role id row there key host is = ap offered_kinds (row_offer store host id row (ap (λ r. get (rows_in store r) id) (sym is) ∙ there))
 
 -- a session that is found is in its server's table
 pub record IsServed (store : Store) (components : List Component) (named : ℕ × SessionId) : Type 0 where

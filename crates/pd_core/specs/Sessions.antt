@@ -2,10 +2,8 @@
 use Rattle.std.specs.Prelude.{◌≡◌, ℕ, ◌+◌, ◌≤◌, List, Option, Some, None}
 use Rattle.std.specs.FinMap.{get}
 use Rattle.trade_base.specs.declared.id.SessionId.{SessionId}
-use Rattle.trade_base.specs.declared.service.Service.{Service}
 use Rattle.own_model.specs.Call.{Call}
 use Rattle.own_model.specs.NatMap.{NatMap, total}
-use Rattle.own_model.specs.Offer.{Offer, offer_of_service}
 use Rattle.own_model.specs.OwnState.{new_selector}
 use Rattle.own_model.specs.OwnStep.{entry_step}
 use Rattle.own_model.specs.Reply.{Reply, LogLine}
@@ -19,11 +17,6 @@ use Rattle.server_frame.specs.Frame.{Row}
 use Rattle.pd_core.specs.Own.{Sessions, HasSessions, own_at}
 use Rattle.pd_core.specs.Sound.{session_weight, lent_weight, buffer_at, lent_from}
 use Rattle.pd_core.specs.declared.script.Script.{Script}
-
--- it is what a service offers that the machine has built in
-pub record IsBuiltIn (offer : Offer) : Type 0 where
-  pub service : Service
-  pub is : offer ≡ offer_of_service service
 
 -- a session of the server at a place as its client sees it
 abbrev pub row_session : ℕ → Row Labelled → AnOpenSession

@@ -1,7 +1,7 @@
 //! The accounts of a core: their limits and their use.
-ghost use Rattle.std.specs.Prelude.{◌≡◌, ◌+◌, IfSome};
+ghost use Rattle.std.specs.Prelude.{◌≡◌, ◌+◌, Some};
 ghost use Rattle.std.specs.FinMap.{get};
-ghost use Rattle.std.specs.Option.{option_map};
+ghost use Rattle.std.specs.Option.{option_and_then, option_copied, option_map};
 ghost use Rattle.own_model.specs.OwnState.{server_named, session_named};
 ghost use Rattle.own_model.specs.Session.{Session as AnOpenSession, offer_of};
 ghost use Rattle.own_model.specs.Transcript.{state_at};
@@ -11,13 +11,14 @@ ghost use Rattle.own_model.specs.StartList.{init_at};
 ghost use Rattle.pd_core.specs.Answer.{quotas_account, CountsLimits};
 ghost use Rattle.core_calls.specs.Quotas.{reserve_amounts};
 ghost use Rattle.pd_core.specs.Core.{Places, world_of, IsCoreAt};
-ghost use Rattle.pd_core.specs.Sessions.{IsBuiltIn};
+ghost use Rattle.object_kinds.specs.Offered.{offered_kinds};
 
 use crate::component::{Component, Role};
 use crate::machine::Core;
 use crate::router::Router;
 use core_calls::{Quotas, Reserve};
 use dataspace_core::Memory;
+use object_kinds::ObjectKind;
 use trade_base::{AccountId, Caps, Ram, SessionId};
 
 /// Returns the limits and the use of an account.
@@ -38,7 +39,7 @@ pub(crate) fn quotas_of(memory: &Memory, account: AccountId) -> Quotas
 impl<R: Router + Drop> Core<R> {
     ghost use Rattle.std.specs.Prelude.{◌≡◌, ◌+◌, ◌<◌, ◌≤◌, ℕ, length, None, IfSome};
     ghost use Rattle.std.specs.FinMap.{get};
-    ghost use Rattle.std.specs.Option.{option_map};
+    ghost use Rattle.std.specs.Option.{option_and_then, option_copied, option_map};
     ghost use Rattle.own_model.specs.OwnState.{server_named, session_named};
     ghost use Rattle.own_model.specs.Session.{Session as AnOpenSession, offer_of};
     ghost use Rattle.own_model.specs.Transcript.{state_at};
@@ -46,7 +47,7 @@ impl<R: Router + Drop> Core<R> {
     ghost use Rattle.own_model.specs.StartList.{init_at};
     ghost use Rattle.pd_core.specs.Answer.{quotas_account, CountsLimits};
     ghost use Rattle.core_calls.specs.Quotas.{reserve_amounts};
-    ghost use Rattle.pd_core.specs.Sessions.{IsBuiltIn};
+    ghost use Rattle.object_kinds.specs.Offered.{offered_kinds};
 
     /// Returns the number of components. Each has an entry, an own state, and a place among inits, where the machine's init
     /// is first.
@@ -86,17 +87,30 @@ impl<R: Router + Drop> Core<R> {
     }
 
     /// Returns limits and use of a session's account. A selector of the component at a place names the session. Returns
-    /// `None` if it names no session. The session is one of a service that the machine has built in.
+    /// `None` if it names no session.
     pub fn session_account(&self, component: usize, selector: u64) -> Option<Quotas>
         requires { component < length self.now.entries }
-        ensures account { option_map quotas_account result
+        ensures { option_map quotas_account result
             ≡ option_map (λ (s : AnOpenSession). s.account)
             (session_named (get (state_at self.now.states component).selectors selector)) }
-        ensures service { IfSome (session_named
-            (get (state_at self.now.states component).selectors selector))
-            (λ s. IsBuiltIn (offer_of s.state)) }
     {
         session_quotas(
+            &self.memory,
+            self.components.as_slice(),
+            component,
+            selector,
+        )
+    }
+
+    /// Returns the kinds of objects that a session's server offers. A selector of the component at a place names the session.
+    /// Returns `None` if the server offers no objects, and if the selector names no session.
+    pub fn session_kinds(&self, component: usize, selector: u64) -> Option<&[ObjectKind]>
+        requires { component < length self.now.entries }
+        ensures { option_copied result
+            ≡ option_and_then (λ (s : AnOpenSession). offered_kinds (offer_of s.state))
+            (session_named (get (state_at self.now.states component).selectors selector)) }
+    {
+        session_kinds(
             &self.memory,
             self.components.as_slice(),
             component,
@@ -131,9 +145,13 @@ impl<R: Router + Drop> Core<R> {
 }
 
 impl Component {
-    ghost use Rattle.std.specs.Prelude.{◌≡◌, ◌≤◌, IfSome};
-    ghost use Rattle.dataspace_core.specs.Store.{IsOpenIn};
-    ghost use Rattle.server_frame.specs.Frame.{AtRow};
+    ghost use Rattle.std.specs.Prelude.{◌≡◌, ◌≤◌, ℕ, Some, IfSome};
+    ghost use Rattle.std.specs.FinMap.{get};
+    ghost use Rattle.std.specs.Option.{option_copied};
+    ghost use Rattle.own_model.specs.Session.{Labelled, offer_of};
+    ghost use Rattle.object_kinds.specs.Offered.{offered_kinds};
+    ghost use Rattle.dataspace_core.specs.Store.{Store, IsOpenIn};
+    ghost use Rattle.server_frame.specs.Frame.{AtRow, Row};
     ghost use Rattle.pd_core.specs.Answer.{quotas_account};
     ghost use Rattle.core_calls.specs.Quotas.{reserve_amounts};
     ghost use Rattle.pd_core.specs.Component.{kind_of, reserve_of, rows_of, own, IsSound, Serves};
@@ -203,6 +221,18 @@ impl Component {
         };
         quotas_of(memory, host.account(id))
     }
+
+    /// Returns the kinds of objects that the component offers, or `None` if it offers none.
+    fn kinds(&self) -> Option<&[ObjectKind]>
+        ensures { (store : Store) (id : ℕ) (row : Row Labelled) →
+            get (rows_of store self.now) id ≡ Some row →
+            option_copied result ≡ offered_kinds (offer_of row.value.state) }
+    {
+        match &self.role {
+            Role::Server(_, host) => host.kinds(),
+            _ => None,
+        }
+    }
 }
 
 // The limits and the use of the account of the component at a place.
@@ -234,15 +264,34 @@ fn session_quotas(
     selector: u64,
 ) -> Option<Quotas>
     requires { IsCoreAt place memory.now components.now }
-    ensures account { (places : Places) → option_map quotas_account result
+    ensures { (places : Places) → option_map quotas_account result
         ≡ option_map (λ (s : AnOpenSession). s.account) (session_named (get
         (state_at (world_of places memory.now components.now).states place).selectors selector)) }
-    ensures service { (places : Places) → IfSome (session_named (get
-        (state_at (world_of places memory.now components.now).states place).selectors selector))
-        (λ s. IsBuiltIn (offer_of s.state)) }
 {
     match components[place].session(selector) {
         Ok((server, session)) => Some(components[server].session_quotas(memory, session)),
+        Err(_) => None,
+    }
+}
+
+// The kinds of objects that the server of a session offers, whose selector this is, or `None`. The contract is about the memory.
+fn session_kinds<'a>(
+    memory: &Memory,
+    components: &'a [Component],
+    place: usize,
+    selector: u64,
+) -> Option<&'a [ObjectKind]>
+    requires { IsCoreAt place memory.now components.now }
+    ensures { (places : Places) → option_copied result
+        ≡ option_and_then (λ (s : AnOpenSession). offered_kinds (offer_of s.state)) (session_named (get
+        (state_at (world_of places memory.now components.now).states place).selectors selector)) }
+{
+    let _ = memory;
+    match components[place].session(selector) {
+        Ok((server, session)) => {
+            let _ = session;
+            components[server].kinds()
+        }
         Err(_) => None,
     }
 }

@@ -238,6 +238,11 @@ pub list_in_part : {w w' : Option (List ℕ)} {g text : List ℕ} → g ≡ [] �
 list_in_part {text = text} none part =
     record { part = part.1.out; left = part.0; parts = sym (part.1.parts ∙ ap (λ l. l ++ text) none); grows = part.1.grows }
 
+-- what holds does so on a fault
+pub on_err : {T E P : Type 0} (r : Result T E) → P → OnErr r P
+on_err (Ok done) holds = tt
+on_err (Err fault) holds = holds
+
 -- a flush fails
 pub list_cut : {w w' w'' : Option (List ℕ)} {g g' text : List ℕ} → g ≡ [] → Tells w g w' g' text → OutputsPart w' g' w'' [] → AppendsPart w w'' text
 list_cut {w = w} {w'' = w''} {g = g} {text = text} none first then =

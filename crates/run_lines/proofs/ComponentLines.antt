@@ -26,20 +26,19 @@ module _ (list : Listed) (place : ℕ) (within : place < length list.entries) wh
       let same : Some given ≡ Some (is_some (listed_at list place).reserve) = sym told ∙ ap (option_map (λ (e : ListedEntry). is_some e.reserve)) found in
       cc
 
--- a reserve is told where it is given, or has RAM or capabilities
-abbrev IsTold : Bool → Amounts → Type 0
-IsTold given reserve = (given ≡ true) ⊎ ((given ≡ false × 0 < reserve.ram) ⊎ (given ≡ false × reserve.ram ≤ 0 × 0 < reserve.caps))
+-- a reserve is printed if it is given, or has RAM or capabilities
+abbrev pub IsPrinted : Bool → Amounts → Type 0
+IsPrinted given reserve = (given ≡ true) ⊎ ((given ≡ false × 0 < reserve.ram) ⊎ (given ≡ false × reserve.ram ≤ 0 × 0 < reserve.caps))
 
--- and not where there is nothing of it
-abbrev IsUntold : Bool → Amounts → Type 0
-IsUntold given reserve = given ≡ false × reserve.ram ≤ 0 × reserve.caps ≤ 0
+-- and isn't if there is nothing of it
+abbrev pub IsUnprinted : Bool → Amounts → Type 0
+IsUnprinted given reserve = given ≡ false × reserve.ram ≤ 0 × reserve.caps ≤ 0
 
-told_if_any : (given : Bool) (ram caps : ℕ) → (given ≡ true) ⊎ ((given ≡ false × 0 < ram) ⊎ (given ≡ false × ram ≤ 0 × 0 < caps)) →
-    (given || nat_lt 0 ram || nat_lt 0 caps) ≡ true
-told_if_any given ram caps some = grind (arith, nat_tests)
+pub printed_if_any : (given : Bool) (reserve : Amounts) → IsPrinted given reserve → (given || nat_lt 0 reserve.ram || nat_lt 0 reserve.caps) ≡ true
+printed_if_any given reserve some = grind (arith, nat_tests)
 
-untold_if_none : (given : Bool) (ram caps : ℕ) → given ≡ false × ram ≤ 0 × caps ≤ 0 → (given || nat_lt 0 ram || nat_lt 0 caps) ≡ false
-untold_if_none given ram caps none = grind (arith, nat_tests)
+pub unprinted_if_none : (given : Bool) (reserve : Amounts) → IsUnprinted given reserve → (given || nat_lt 0 reserve.ram || nat_lt 0 reserve.caps) ≡ false
+unprinted_if_none given reserve none = grind (arith, nat_tests)
 
 module _ (entry : ListedEntry) (own : Account) (kept : Amounts) (beside : List ℕ) where
   -- first the account's line
@@ -52,16 +51,16 @@ module _ (entry : ListedEntry) (own : Account) (kept : Amounts) (beside : List �
 
   -- then the reserve's
   pub reserve_then : {name : List ℕ} {account : Account} {given : Bool} (reserve : Amounts) → name ≡ entry.path → account ≡ own → given ≡ is_some entry.reserve → reserve ≡ kept →
-      IsTold given reserve → component_lines_with entry own kept beside ≡ account_line_with name account beside ++ reserve_line name reserve
+      IsPrinted given reserve → component_lines_with entry own kept beside ≡ account_line_with name account beside ++ reserve_line name reserve
   reserve_then {name} {account} {given} reserve name_is account_is given_is reserve_is some =
       account_first name_is account_is
-      ∙ ap (λ b. account_line_with name account beside ++ (if b then reserve_line entry.path kept else [])) (told_is given_is reserve_is ∙ told_if_any given reserve.ram reserve.caps some)
+      ∙ ap (λ b. account_line_with name account beside ++ (if b then reserve_line entry.path kept else [])) (told_is given_is reserve_is ∙ printed_if_any given reserve some)
       ∙ (λ j. account_line_with name account beside ++ reserve_line (sym name_is j) (sym reserve_is j))
 
   -- or nothing
   pub reserve_untold : {name : List ℕ} {account : Account} {given : Bool} (reserve : Amounts) → name ≡ entry.path → account ≡ own → given ≡ is_some entry.reserve → reserve ≡ kept →
-      IsUntold given reserve → component_lines_with entry own kept beside ≡ account_line_with name account beside
+      IsUnprinted given reserve → component_lines_with entry own kept beside ≡ account_line_with name account beside
   reserve_untold {name} {account} {given} reserve name_is account_is given_is reserve_is none =
       account_first name_is account_is
-      ∙ ap (λ b. account_line_with name account beside ++ (if b then reserve_line entry.path kept else [])) (told_is given_is reserve_is ∙ untold_if_none given reserve.ram reserve.caps none)
+      ∙ ap (λ b. account_line_with name account beside ++ (if b then reserve_line entry.path kept else [])) (told_is given_is reserve_is ∙ unprinted_if_none given reserve none)
       ∙ append-nil (account_line_with name account beside)

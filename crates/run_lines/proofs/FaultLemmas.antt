@@ -1,5 +1,6 @@
 -- What is told where a play may stop, and which faults come.
-use Rattle.std.proofs.Common.{◌≡◌, ◌||◌, ◌++◌, ℕ, Bool, true, false, List, Option, Some, None, Result, Ok, Err, IfOk, OnOk, refl, ◌∙◌}
+use Rattle.std.proofs.Common.{◌≡◌, ◌||◌, ◌++◌, ℕ, Bool, true, false, List, Option, Some, Result, Ok, Err, IfOk, OnOk, refl, ◌∙◌}
+use Rattle.std.proofs.lemmas.Bool.{or_parts}
 use Rattle.std.specs.Result.{result_err}
 use Rattle.run_lines.specs.Faults.{Fails, is_write_fault, line_fault}
 use Rattle.run_lines.specs.RunOutput.{Tells}
@@ -26,18 +27,9 @@ told_then w'' g'' ys (Err fault) first then = told_at w'' ys fault first then
 
 -- ---- faults of a play
 
--- with none of two failed one of them is
-pub or_none : (a b : Bool) → a ≡ false → b ≡ false → (a || b) ≡ false
-or_none a b first second = rw (first, second) refl
-
 pub or_first : (a b : Bool) → b ≡ false → (a || b) ≡ a
 or_first true b none = refl
 or_first false b none = none
-
--- with none of both failed neither is
-pub none_of : (a b : Bool) → (a || b) ≡ false → (a ≡ false) × (b ≡ false)
-none_of false b none = (refl, none)
-none_of true b none = absurd (let e : true ≡ false = none in cc)
 
 -- a write has failed just where the fault says so
 pub fails_writing : {T : Type 0} (r : Result T LineRunFault) (failed takes : Bool) → Fails r failed takes → failed ≡ is_write_fault (result_err r)
@@ -58,7 +50,7 @@ fault_writing T Endless a b fails works = or_first a b works ∙ fails
 
 -- where it goes on all works
 pub works_on : {T : Type 0} (r : Result T LineRunFault) (reads a b : Bool) → reads ≡ false → Fails r (a || b) true → OnOk (more_unless_stopped r) (AllWork reads a b)
-works_on (Ok done) reads a b read fails = let both = none_of a b fails in record { reads = read; writes = both.0; own = both.1 }
+works_on (Ok done) reads a b read fails = let both = or_parts a b fails in record { reads = read; writes = both.0; own = both.1 }
 works_on (Err fault) reads a b read fails = tt
 
 pub ready_on : {T : Type 0} (P : Type 0) (r : Result T LineRunFault) → OnOk r P → IfOk (more_unless_stopped r) (λ going. going ≡ true → P)

@@ -94,16 +94,13 @@ expecting_is line reply is =
 
 -- ---- whether it holds
 
-same_bytes : (text : List ℕ) → bytes_eq text text ≡ true
-same_bytes text = (bytes_eq-Decides text text).1 refl
-
 bare_met : (hearing : RecordedCall) (line reply : List ℕ) (made : FilledLine) → is_bare_line line ≡ true → is_bare reply ≡ true →
     nat_le (length line + 4 + length reply) longest_line ≡ true → resolved_line None hearing.known line ≡ Call made hearing.call None →
     is_met hearing (expecting line reply) ≡ meets hearing.reply reply
 bare_met hearing line reply made is expected fits resolved =
     ap (λ l. is_met_by hearing (resolved_line None hearing.known l)) (expecting_is line reply is)
     ∙ ap (is_met_by hearing) (bare_resolves hearing.known line reply hearing.call made is expected fits resolved)
-    ∙ ap (λ t. t && meets hearing.reply reply) (same_bytes hearing.call)
+    ∙ ap (λ t. t && meets hearing.reply reply) ((bytes_eq-Decides hearing.call hearing.call).1 refl)
 
 no_expected : (expected : Option (List ℕ)) → is_none expected ≡ true → expected ≡ None
 no_expected None none = refl
@@ -128,7 +125,7 @@ bare_holds heard lines line reply of_line bare =
 -- the line that was run
 expects_by : (hearing : RecordedCall) (made : FilledLine) (expected : Option (List ℕ)) → is_expected hearing.reply expected ≡ is_met_by hearing (Call made hearing.call expected)
 expects_by hearing made None = refl
-expects_by hearing made (Some reply) = sym (ap (λ t. t && meets hearing.reply reply) (same_bytes hearing.call))
+expects_by hearing made (Some reply) = sym (ap (λ t. t && meets hearing.reply reply) ((bytes_eq-Decides hearing.call hearing.call).1 refl))
 
 pub run_met : (heard : Heard) (line : List ℕ) → IsOfLine heard → bytes_eq line heard.line.now ≡ true →
     is_expected heard.reply.now (option_copied heard.expected) ≡ is_met (recorded_call_view heard) line

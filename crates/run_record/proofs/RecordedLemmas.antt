@@ -20,7 +20,7 @@ entries_by stage TooLong = refl
 entries_by stage Skipped = refl
 entries_by stage (BadName fault) = refl
 entries_by stage (Follow directive) = refl
-entries_by stage (Misplaced column) = refl
+entries_by stage (Misplaced column why) = refl
 entries_by stage Nothing = refl
 entries_by stage (Log text) = refl
 entries_by stage (Call filled call reply) = refl
@@ -31,7 +31,8 @@ entries_behind stage line = entries_by stage (resolved_line None stage.stand.kno
 
 -- ---- the turn of a line
 
-on_ok : {E : Type 0} (r : Result Unit E) {P : Type 0} → P → OnOk r P
+-- what holds holds if all is well
+pub on_ok : {E : Type 0} (r : Result Unit E) {P : Type 0} → P → OnOk r P
 on_ok (Ok done) p = p
 on_ok (Err fault) p = tt
 
@@ -80,7 +81,7 @@ met_passed all number stage TooLong = refl
 met_passed all number stage Skipped = refl
 met_passed all number stage (BadName fault) = refl
 met_passed all number stage (Follow directive) = refl
-met_passed all number stage (Misplaced column) = refl
+met_passed all number stage (Misplaced column why) = refl
 met_passed all number stage Nothing = refl
 met_passed all number stage (Log text) = refl
 met_passed all number stage (Call filled call reply) = refl

@@ -1,5 +1,5 @@
 -- The lines that can't be parsed are reported one after another.
-use Rattle.std.proofs.Common.{◌≡◌, ℕ, List, [], ◌∷◌, ◌++◌, None, Result, Ok, Err, IfOk, OnOk, append-nil, append_assoc, ap, subst, sym, ◌∙◌}
+use Rattle.std.proofs.Common.{◌≡◌, ℕ, List, [], ◌∷◌, ◌++◌, None, Result, IfOk, OnOk, append-nil, append_assoc, ap, subst, sym, ◌∙◌}
 use Rattle.own_model.specs.World.{World}
 use Rattle.list_parser.specs.declared.fault.BootFault.{BootFault}
 use Rattle.line_steps.specs.ResolvedLines.{ResolvedLine, resolved_line}
@@ -8,10 +8,7 @@ use Rattle.run_record.specs.Recorded.{pieces_of}
 use Rattle.run_record.specs.RecordedCalls.{RecordingState, first_recording, recording_behind}
 use Rattle.run_record.specs.Unread.{Unread, unread_from, unread_in, unread_lines, unread_view}
 use Rattle.run_record.specs.declared.recording.Recording.{Recording}
-
-on_ok : {E : Type 0} (r : Result Unit E) {P : Type 0} → P → OnOk r P
-on_ok (Ok done) p = p
-on_ok (Err fault) p = tt
+use Rattle.run_record.proofs.RecordedLemmas.{on_ok}
 
 -- a line by what it is
 pub unread_by : {E : Type 0} (r : Result Unit E) (number : ℕ) (resolved shown : ResolvedLine) (before after : List Unread) → resolved ≡ shown →

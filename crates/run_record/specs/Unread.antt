@@ -33,7 +33,7 @@ abbrev pub line_by_reason : UnreadReason → ResolvedLine
 line_by_reason why.TooLong = TooLong
 line_by_reason (why.Fault fault) = BadLine fault
 line_by_reason (why.Name fault) = BadName fault
-line_by_reason (why.Misplaced column fault) = Misplaced column
+line_by_reason (why.Misplaced column fault) = Misplaced column fault
 
 abbrev pub unread_view : List UnreadLine → List Unread
 unread_view lines = map (λ (it : UnreadLine). record { number = it.number; line = line_by_reason it.why }) lines

@@ -12,3 +12,4 @@ pub mod TallyLemmas
 pub mod TextLemmas
 pub mod TurnLemmas
 pub mod WriteLemmas
+pub mod RunReportLemmas

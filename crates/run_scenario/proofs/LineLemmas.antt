@@ -1,6 +1,7 @@
 -- A line that is played: what it says is answered and told, or nothing changes, and then it is judged.
 use Rattle.std.proofs.Common.{◌≡◌, ℕ, ◌&&◌, ◌||◌, Bool, true, false, List, [], ◌∷◌, ◌++◌, append-nil, is_some, Option, Some, None, Result, Ok, Err, IfOk, OnOk, refl, sym, ◌∙◌, ap, subst}
 use Rattle.std.proofs.lemmas.Bool.{or_left}
+use Rattle.std.specs.Io.KnownBytes.{Appends}
 use Rattle.own_model.specs.LinesOfName.{said_by}
 use Rattle.own_model.specs.Transcript.{heard}
 use Rattle.own_model.specs.World.{World, world_running}
@@ -12,18 +13,19 @@ use Rattle.run_lines.specs.declared.line_run_fault.LineRunFault.{LineRunFault}
 use Rattle.run_lines.proofs.GatheredLemmas.{Tells-none}
 use Rattle.run_lines.proofs.ToldLemmas.{said_none, world_running-append}
 use Rattle.run_scenario.specs.Faults.{takes_memory}
-use Rattle.run_scenario.specs.CallAnswers.{ReportsCalls, IsAnsweredCall, IsAnsweredAs, answer_of}
+use Rattle.run_scenario.specs.CallAnswers.{AnswersIn, ReportsCalls, IsAnsweredCall, IsAnsweredAs, answer_of}
 use Rattle.run_scenario.specs.Judging.{Awaited, awaited_after, has_error, is_complained, text_in}
 use Rattle.run_scenario.specs.ScenarioRuns.{RunsLine, Point, point}
 use Rattle.line_steps.specs.ResolvedLines.{ResolvedLine}
-use Rattle.run_scenario.specs.LineSteps.{Arrives, calls_in, binds_names, stand_after}
+use Rattle.run_scenario.specs.LineSteps.{Arrives, calls_in, binds_names, resolved_at, stand_after}
+use Rattle.run_scenario.specs.RunReports.{ReportScope, ReportsLine, line_report}
 use Rattle.line_steps.specs.ResolvedLines.ResolvedLine.{TooLong, Skipped, BadName, Follow, Misplaced, Nothing, Log, Call, BadLine}
 use Rattle.run_scenario.specs.Observation.{IsAnsweredAfter, Watches}
 use Rattle.line_steps.specs.RunPosition.{RunPosition, arrived, crosses, passed}
 use Rattle.run_scenario.specs.declared.call_observer.ObservedCall.{ObservedCall}
 use Rattle.run_scenario.proofs.FailLemmas.{fails_before, fails_beside}
 use Rattle.run_scenario.proofs.PlayedLemmas.{told_of_one}
-use Rattle.run_scenario.proofs.TurnLemmas.{AnswersIn, answered_text, stands_answered}
+use Rattle.run_scenario.proofs.TurnLemmas.{answered_text, stands_answered}
 
 -- what is so is so of what succeeded
 pub on_ok : {T E : Type 0} {P : Type 0} (r : Result T E) → P → OnOk r P
@@ -102,7 +104,7 @@ takes_wider calls TooLong takes = takes
 takes_wider calls Skipped takes = takes
 takes_wider calls (BadName fault) takes = takes
 takes_wider calls (Follow directive) takes = takes
-takes_wider calls (Misplaced column) takes = takes
+takes_wider calls (Misplaced column why) takes = takes
 takes_wider calls Nothing takes = takes
 takes_wider calls (Log text) takes = takes
 takes_wider true (Call f line reply) takes = refl
@@ -122,7 +124,7 @@ told_takes only world number calls resolved (Some it) is takes = of resolved is.
     of Skipped said = unsaid said
     of (BadName fault) said = unsaid said
     of (Follow directive) said = unsaid said
-    of (Misplaced column) said = unsaid said
+    of (Misplaced column why) said = unsaid said
     of Nothing said = unsaid said
     of (Log text) said = unsaid said
     of (Call f line reply) said = ap (λ b. b || binds_names f) takes
@@ -172,3 +174,17 @@ module _ {only : Option (List ℕ)} {tells : World → List (List ℕ) → ℕ �
 pub plays_as : {only : Option (List ℕ)} {tells : World → List (List ℕ) → ℕ → List ℕ → List ℕ} {calls : Bool} {seen now_seen : World → List (List ℕ) → Type 0} {resolved here : ResolvedLine} {failed : Bool} {r : Result Bool LineRunFault} {old new : Point} →
     resolved ≡ here → RunsLine only tells calls seen now_seen resolved failed r old new → RunsLine only tells calls seen now_seen here failed r old new
 plays_as {only} {tells} {calls} {seen} {now_seen} {failed = failed} {r = r} {old = old} {new = new} is plays = subst (λ d. RunsLine only tells calls seen now_seen d failed r old new) is plays
+
+-- what is written for a line, by its answer
+pub reports_line : (scope : ReportScope) (only : Option (List ℕ)) (old : World) (stand : RunPosition) (line : List ℕ) (awaited : Awaited) (e e' : Option (List ℕ)) (resolved : ResolvedLine) (o : Option ObservedCall) (r : Result Bool LineRunFault) → resolved ≡ resolved_at only stand line →
+    IsAnsweredCall only old stand.number (calls_in resolved) o → OnOk r (Appends e e' (line_report scope stand line resolved (answer_of o) awaited)) → OnOk r (ReportsLine scope only old stand line awaited e e')
+reports_line scope only old stand line awaited e e' resolved o (Ok done) is answered written = (
+  line_report scope stand line resolved (answer_of o) awaited,
+  record {
+    answer = answer_of o;
+    answers = subst (λ it. AnswersIn only old (calls_in it) (answer_of o)) is (answers_in only old stand.number (calls_in resolved) o answered);
+    is = ap (λ it. line_report scope stand line it (answer_of o) awaited) is;
+  },
+  written,
+)
+reports_line scope only old stand line awaited e e' resolved o (Err fault) is answered written = tt

@@ -1,6 +1,9 @@
 -- A play from line to line: what was played, and what it leaves at its end.
 use Rattle.std.proofs.Common.{◌≡◌, ◌||◌, ℕ, ◌≤◌, List, [], ◌∷◌, ◌++◌, length, Option, Some, None, IfNone, Result, Ok, Err, IfOk, OnOk, is_some, Bool, true, false, ⊎_elim, refl, sym, ◌∙◌, ap, subst, append-nil}
+use Rattle.std.proofs.lemmas.Bool.{or_from, or_parts}
 use Rattle.std.specs.Result.{result_err}
+use Rattle.std.specs.Io.KnownBytes.{Appends}
+use Rattle.own_model.specs.Listed.{Listed}
 use Rattle.own_model.specs.LinesOfName.{said_by}
 use Rattle.own_model.specs.StartList.{Entry}
 use Rattle.own_model.specs.World.{World}
@@ -10,15 +13,19 @@ use Rattle.run_lines.specs.RunOutput.{OutputsUnless}
 use Rattle.run_lines.specs.LineRuns.{EndsAs, EndsFor, Continues, PlaysAll as PlaysLines, HandlesLine}
 use Rattle.run_lines.specs.declared.line_run_fault.LineRunFault.{LineRunFault}
 use Rattle.run_lines.specs.declared.line_run_fault.LineRunFault.TheVariants.{ReadFault, WriteFault, TooManyLines, NoMemory}
-use Rattle.run_lines.proofs.FaultLemmas.{none_of, or_none}
 use Rattle.run_lines.proofs.ToldLemmas.{left_none, said_none}
 use Rattle.run_scenario.specs.Faults.{takes_memory}
 use Rattle.run_scenario.specs.RunCalls.{calls_answered, calls_of_steps, text_of_calls, text_of_steps}
 use Rattle.run_scenario.specs.ScenarioRuns.{ClosesAs, CountsErrors, CountsOne, LeadsSteps, RunsAll, RunsLine, Point, Remains, StopsSteps, TakesMemoryFor, Tallies, Tally, counted, most_lines, tally}
-use Rattle.run_scenario.specs.Judging.{Awaited, awaited_after, has_error}
+use Rattle.run_scenario.specs.Judging.{Awaited, awaited_after, awaited_behind, has_error}
+use Rattle.run_scenario.specs.Reports.{left_over_report}
+use Rattle.run_scenario.specs.RunReports.{ReportScope, ReportsLine, WritesAllReports, WritesReports, scope_of}
+use Rattle.run_scenario.specs.Writes.{start_at}
+use Rattle.view_diagnostics.specs.Diagnostics.{SubjectAt}
 use Rattle.run_scenario.specs.LineSteps.{LineStep, call_of, left_behind, next_stand, resolved_at, stand_behind, turn_of, turns_of}
 use Rattle.run_scenario.specs.Observation.{Watches}
 use Rattle.line_steps.specs.RunPosition.{RunPosition, crosses}
+use Rattle.run_scenario.proofs.RunReportLemmas.{reports_closed, reports_more}
 use Rattle.run_scenario.proofs.TallyLemmas.{errors_counted, tallies_more, tallies_none}
 use Rattle.run_scenario.proofs.PlayedLemmas.{answered_more, answered-one, calls_of_steps-one, left_more, stand_more, told_more, text_of_steps-one, turns_more}
 
@@ -66,23 +73,24 @@ module _ (only : Option (List ℕ)) (start mid : World) (first stand : RunPositi
       (tallies_more only start mid begun now next (turns_of only start first xs) (turn_of only stand line) error left led steps.judged steps.expects steps.counts)
   tallied begun now next (Err fault) led steps = tt
 
-  goes_on : {A : Type 0} (calls : Bool) (seen : List (List ℕ) → Type 0) (last : World) (next : RunPosition) (begun then : Tally) (judged : Result Bool LineRunFault) (write_failed : Bool) → A → last ≡ left_behind only mid stand line →
+  goes_on : {A : Type 0} (calls : Bool) (reports seen : List (List ℕ) → Type 0) (last : World) (next : RunPosition) (begun then : Tally) (judged : Result Bool LineRunFault) (write_failed : Bool) → A → last ≡ left_behind only mid stand line →
       OnOk judged (seen (earlier ++ said_by only (call_of only stand line))) → OnOk judged (next ≡ next_stand only mid stand line) →
-      OnOk judged (Tallies only start begun then (turns_of only start first (xs ++ line ∷ []))) → Fails judged write_failed (takes_memory calls (resolved_at only stand line) || crosses stand) →
-      Continues (λ lines. A × LeadsSteps only start last first next begun then seen lines) (λ fault lines. A × StopsSteps calls only start last first fault lines) (xs ++ line ∷ []) (counted judged)
-  goes_on calls seen last next begun then (Ok complained) write_failed a world sees after tallies fails = (
+      OnOk judged (Tallies only start begun then (turns_of only start first (xs ++ line ∷ []))) → OnOk judged (reports (xs ++ line ∷ [])) → Fails judged write_failed (takes_memory calls (resolved_at only stand line) || crosses stand) →
+      Continues (λ lines. A × LeadsSteps only start last first next begun then reports seen lines) (λ fault lines. A × StopsSteps calls only start last first fault lines) (xs ++ line ∷ []) (counted judged)
+  goes_on calls reports seen last next begun then (Ok complained) write_failed a world sees after tallies reported fails = (
     a,
     record {
       world_is = world_next last world;
       stands = after ∙ stand_more only start mid first stand xs (line ∷ []) left stands;
       tallies = tallies;
+      reported = reported;
       sees = seen_next seen sees;
     },
   )
-  goes_on calls seen last next begun then (Err ReadFault) write_failed a world sees after tallies fails = absurd fails
-  goes_on calls seen last next begun then (Err WriteFault) write_failed a world sees after tallies fails = (a, record { world_is = world_next last world; takes = tt })
-  goes_on calls seen last next begun then (Err TooManyLines) write_failed a world sees after tallies fails = absurd fails
-  goes_on calls seen last next begun then (Err NoMemory) write_failed a world sees after tallies fails = (
+  goes_on calls reports seen last next begun then (Err ReadFault) write_failed a world sees after tallies reported fails = absurd fails
+  goes_on calls reports seen last next begun then (Err WriteFault) write_failed a world sees after tallies reported fails = (a, record { world_is = world_next last world; takes = tt })
+  goes_on calls reports seen last next begun then (Err TooManyLines) write_failed a world sees after tallies reported fails = absurd fails
+  goes_on calls reports seen last next begun then (Err NoMemory) write_failed a world sees after tallies reported fails = (
     a,
     record {
       world_is = world_next last world;
@@ -91,16 +99,16 @@ module _ (only : Option (List ℕ)) (start mid : World) (first stand : RunPositi
   )
 
   -- what is told of it is told behind what was told of those, and it leads on
-  pub bench_plays : {A : Type 0} (tells : List (List ℕ) → ℕ → List ℕ → List ℕ) (calls : Bool) (seen : List (List ℕ) → Type 0) (last : World) (next : RunPosition) (begun then : Tally) (judged : Result Bool LineRunFault) (write_failed : Bool) (w w' : Option (List ℕ)) (g g' : List ℕ) → A →
+  pub bench_plays : {A : Type 0} (tells : List (List ℕ) → ℕ → List ℕ → List ℕ) (calls : Bool) (reports seen : List (List ℕ) → Type 0) (last : World) (next : RunPosition) (begun then : Tally) (judged : Result Bool LineRunFault) (write_failed : Bool) (w w' : Option (List ℕ)) (g g' : List ℕ) → A →
       last ≡ left_behind only mid stand line → OutputsUnless judged w g w' g' (text_of_calls tells earlier stand.number (said_by only (call_of only stand line))) →
       OnOk judged (seen (earlier ++ said_by only (call_of only stand line))) → OnOk judged (next ≡ next_stand only mid stand line) →
-      OnOk judged (Tallies only start begun then (turns_of only start first (xs ++ line ∷ []))) → Fails judged write_failed (takes_memory calls (resolved_at only stand line) || crosses stand) →
-      HandlesLine (λ lines. text_of_steps tells only [] (turns_of only start first lines)) (λ lines. A × LeadsSteps only start last first next begun then seen lines) (λ fault lines. A × StopsSteps calls only start last first fault lines) xs line (counted judged) w g w' g'
-  bench_plays tells calls seen last next begun then judged write_failed w w' g g' a world told sees after tallies fails = record {
+      OnOk judged (Tallies only start begun then (turns_of only start first (xs ++ line ∷ []))) → OnOk judged (reports (xs ++ line ∷ [])) → Fails judged write_failed (takes_memory calls (resolved_at only stand line) || crosses stand) →
+      HandlesLine (λ lines. text_of_steps tells only [] (turns_of only start first lines)) (λ lines. A × LeadsSteps only start last first next begun then reports seen lines) (λ fault lines. A × StopsSteps calls only start last first fault lines) xs line (counted judged) w g w' g'
+  bench_plays tells calls reports seen last next begun then judged write_failed w w' g g' a world told sees after tallies reported fails = record {
     piece = text_of_steps tells only earlier (turn_of only stand line ∷ []);
     more = sym (told_more only tells start mid first stand [] xs (line ∷ []) left stands);
     tells = tells_counted _ judged (subst (OutputsUnless judged w g w' g') (text_of_steps-one only tells earlier (turn_of only stand line)) told);
-    goes_on = goes_on calls seen last next begun then judged write_failed a world sees after tallies fails;
+    goes_on = goes_on calls reports seen last next begun then judged write_failed a world sees after tallies reported fails;
   }
     where
       tells_counted : (text : List ℕ) (r : Result Bool LineRunFault) → OutputsUnless r w g w' g' text → OutputsUnless (counted r) w g w' g' text
@@ -113,50 +121,67 @@ sees_on (Ok x) seen start world calls watches = watches.sees
 sees_on (Err fault) seen start world calls watches = tt
 
 -- a player that is the one before is the one that began, if that was
-pub remains_on : {N R T : Type 0} {name mid_name now_name : N} {run mid_run now_run : R} {tells mid_tells now_tells : T} {holds mid_holds now_holds : List ℕ} → Remains name mid_name run mid_run tells mid_tells holds mid_holds →
-    Remains mid_name now_name mid_run now_run mid_tells now_tells mid_holds now_holds → Remains name now_name run now_run tells now_tells holds now_holds
+pub remains_on : {N R S T : Type 0} {name mid_name now_name : N} {run mid_run now_run : R} {subject mid_subject now_subject : S} {tells mid_tells now_tells : T} {holds mid_holds now_holds : List ℕ} → Remains name mid_name run mid_run subject mid_subject tells mid_tells holds mid_holds →
+    Remains mid_name now_name mid_run now_run mid_subject now_subject mid_tells now_tells mid_holds now_holds → Remains name now_name run now_run subject now_subject tells now_tells holds now_holds
 remains_on led stays =
-    record { name_is = stays.name_is ∙ led.name_is; run_is = stays.run_is ∙ led.run_is; tells_is = stays.tells_is ∙ led.tells_is; holds_is = stays.holds_is ∙ led.holds_is }
+    record { name_is = stays.name_is ∙ led.name_is; run_is = stays.run_is ∙ led.run_is; subject_is = stays.subject_is ∙ led.subject_is; tells_is = stays.tells_is ∙ led.tells_is; holds_is = stays.holds_is ∙ led.holds_is }
 
 -- and its machine is the list's still
 pub listed_on : {R : Type 0} (entries_at : R → List Entry) (only : Option (List ℕ)) (calls : List (List ℕ)) {at run : R} (old : World) {new : World} → new ≡ after_all only old calls → old.entries ≡ entries_at at → run ≡ at → new.entries ≡ entries_at run
 listed_on entries_at only calls old leaves listed run_is = ap (λ (w : World). w.entries) leaves ∙ listed ∙ ap entries_at (sym run_is)
 
 -- the same for a player that is the one that began
-pub bench_line : {R A : Type 0} (only_of : R → Option (List ℕ)) (seen_old seen_new : R → World → List (List ℕ) → Type 0) {at run : R} {telling now_telling : World → List (List ℕ) → ℕ → List ℕ → List ℕ} (start : World) {first : RunPosition} (xs : List (List ℕ)) (line : List ℕ)
-    (calls : Bool) (judged : Result Bool LineRunFault) {failed : Bool} {old new : Point} {begun : Tally} (errors now_errors : ℕ) → IfOk judged (λ error. CountsOne error errors now_errors) →
-    A → run ≡ at → now_telling ≡ telling → LeadsSteps (only_of at) start old.world first old.stand begun (tally errors old.awaited) (seen_old at start) xs →
-    RunsLine (only_of run) now_telling calls (seen_old run) (seen_new run) (resolved_at (only_of run) old.stand line) failed judged old new →
-    HandlesLine (λ lines. text_of_steps (telling start) (only_of at) [] (turns_of (only_of at) start first lines)) (λ lines. A × LeadsSteps (only_of at) start new.world first new.stand begun (tally now_errors new.awaited) (seen_new at start) lines)
-    (λ fault lines. A × StopsSteps calls (only_of at) start new.world first fault lines) xs line (counted judged) old.written old.gathered new.written new.gathered
-bench_line only_of seen_old seen_new {at} {run} {telling} {now_telling} start {first} xs line calls judged {failed} {old} {new} {begun} errors now_errors counts kept run_is tells_is led plays =
-    bench_plays (only_of at) start old.world first old.stand xs line led.world_is led.stands (telling start) calls (seen_new at start) new.world new.stand begun (tally now_errors new.awaited) judged failed old.written new.written old.gathered new.gathered kept
-    here.hears.world (here.hears.told start _ watches) (sees_on judged _ _ _ _ (here.hears.sees start _ watches)) here.stands
-    (tallied (only_of at) start old.world first old.stand xs line led.world_is led.stands begun (tally errors old.awaited) (tally now_errors new.awaited) judged led.tallies (steps judged here.judged here.expects counts)) here.failing
-  where
-    steps : (judged : Result Bool LineRunFault) → IfOk judged (λ error. error ≡ has_error (only_of at) old.world (resolved_at (only_of at) old.stand line) old.awaited) →
-        OnOk judged (new.awaited ≡ awaited_after old.stand.number (resolved_at (only_of at) old.stand line) old.awaited) → IfOk judged (λ error. CountsOne error errors now_errors) →
-        StepsTally (only_of at) old.world old.stand line (tally errors old.awaited) (tally now_errors new.awaited) judged
-    steps (Ok error) judged expects counts = record { judged = judged; expects = expects; counts = counts }
-    steps (Err fault) judged expects counts = tt
+module _ {R A : Type 0} (only_of : R → Option (List ℕ)) (list_of : R → Listed) (seen_old seen_new : R → World → List (List ℕ) → Type 0) where
+  pub bench_line : {at run : R} {subject mid_subject : SubjectAt} {telling now_telling : World → List (List ℕ) → ℕ → List ℕ → List ℕ} (start : World) {first : RunPosition} (xs : List (List ℕ)) (line : List ℕ)
+      (calls : Bool) (judged : Result Bool LineRunFault) {failed : Bool} {old new : Point} {begun : Tally} (errors now_errors : ℕ) (e e' e'' : Option (List ℕ)) → IfOk judged (λ error. CountsOne error errors now_errors) →
+      A → run ≡ at → mid_subject ≡ subject → now_telling ≡ telling →
+      LeadsSteps (only_of at) start old.world first old.stand begun (tally errors old.awaited) (WritesReports (scope_of subject (list_of at)) (start_at (only_of at) start first begun.awaited) e e') (seen_old at start) xs →
+      RunsLine (only_of run) now_telling calls (seen_old run) (seen_new run) (resolved_at (only_of run) old.stand line) failed judged old new →
+      OnOk judged (ReportsLine (scope_of mid_subject (list_of run)) (only_of run) old.world old.stand line old.awaited e' e'') →
+      HandlesLine (λ lines. text_of_steps (telling start) (only_of at) [] (turns_of (only_of at) start first lines))
+      (λ lines. A × LeadsSteps (only_of at) start new.world first new.stand begun (tally now_errors new.awaited) (WritesReports (scope_of subject (list_of at)) (start_at (only_of at) start first begun.awaited) e e'') (seen_new at start) lines)
+      (λ fault lines. A × StopsSteps calls (only_of at) start new.world first fault lines) xs line (counted judged) old.written old.gathered new.written new.gathered
+  bench_line {at} {run} {subject} {mid_subject} {telling} {now_telling} start {first} xs line calls judged {failed} {old} {new} {begun} errors now_errors e e' e'' counts kept run_is subject_is tells_is led plays reported =
+      bench_plays (only_of at) start old.world first old.stand xs line led.world_is led.stands (telling start) calls (WritesReports scope (start_at (only_of at) start first begun.awaited) e e'') (seen_new at start) new.world new.stand begun (tally now_errors new.awaited) judged failed old.written new.written old.gathered new.gathered kept
+      here.hears.world (here.hears.told start _ watches) (sees_on judged _ _ _ _ (here.hears.sees start _ watches)) here.stands
+      (tallied (only_of at) start old.world first old.stand xs line led.world_is led.stands begun (tally errors old.awaited) (tally now_errors new.awaited) judged led.tallies (steps judged here.judged here.expects counts))
+      (reports judged reported) here.failing
+    where
+      scope : ReportScope
+      scope = scope_of subject (list_of at)
 
-    here : RunsLine (only_of at) telling calls (seen_old at) (seen_new at) (resolved_at (only_of at) old.stand line) failed judged old new
-    here =
-        subst (λ t. RunsLine (only_of at) t calls (seen_old at) (seen_new at) (resolved_at (only_of at) old.stand line) failed judged old new) tells_is
-        (subst (λ r. RunsLine (only_of r) now_telling calls (seen_old r) (seen_new r) (resolved_at (only_of r) old.stand line) failed judged old new) run_is plays)
+      reports : (judged : Result Bool LineRunFault) → OnOk judged (ReportsLine (scope_of mid_subject (list_of run)) (only_of run) old.world old.stand line old.awaited e' e'') →
+          OnOk judged (WritesReports scope (start_at (only_of at) start first begun.awaited) e e'' (xs ++ line ∷ []))
+      reports (Ok error) reported =
+          let own : ReportsLine scope (only_of at) old.world old.stand line old.awaited e' e'' =
+          subst (λ s. ReportsLine (scope_of s (list_of at)) (only_of at) old.world old.stand line old.awaited e' e'') subject_is
+          (subst (λ r. ReportsLine (scope_of mid_subject (list_of r)) (only_of r) old.world old.stand line old.awaited e' e'') run_is reported) in
+          reports_more scope (only_of at) start old.world first old.stand begun.awaited old.awaited xs line led.world_is led.stands led.tallies.awaits e e' e'' own.0 led.reported own.1 own.2
+      reports (Err fault) reported = tt
 
-    watches : Watches (seen_old at) start (calls_answered (only_of at) (turns_of (only_of at) start first xs)) old.world
-    watches = record { leads = led.world_is; sees = led.sees }
+      steps : (judged : Result Bool LineRunFault) → IfOk judged (λ error. error ≡ has_error (only_of at) old.world (resolved_at (only_of at) old.stand line) old.awaited) →
+          OnOk judged (new.awaited ≡ awaited_after old.stand.number (resolved_at (only_of at) old.stand line) old.awaited) → IfOk judged (λ error. CountsOne error errors now_errors) →
+          StepsTally (only_of at) old.world old.stand line (tally errors old.awaited) (tally now_errors new.awaited) judged
+      steps (Ok error) judged expects counts = record { judged = judged; expects = expects; counts = counts }
+      steps (Err fault) judged expects counts = tt
+
+      here : RunsLine (only_of at) telling calls (seen_old at) (seen_new at) (resolved_at (only_of at) old.stand line) failed judged old new
+      here =
+          subst (λ t. RunsLine (only_of at) t calls (seen_old at) (seen_new at) (resolved_at (only_of at) old.stand line) failed judged old new) tells_is
+          (subst (λ r. RunsLine (only_of r) now_telling calls (seen_old r) (seen_new r) (resolved_at (only_of r) old.stand line) failed judged old new) run_is plays)
+
+      watches : Watches (seen_old at) start (calls_answered (only_of at) (turns_of (only_of at) start first xs)) old.world
+      watches = record { leads = led.world_is; sees = led.sees }
 
 -- at first no line is
-pub leads_none : (only : Option (List ℕ)) (world : World) (first : RunPosition) (begun : Tally) (seen : List (List ℕ) → Type 0) → seen [] → LeadsSteps only world world first first begun begun seen []
-leads_none only world first begun seen sees = record { world_is = sym (left_none only world); stands = refl; tallies = tallies_none only world begun; sees = subst seen (sym (said_none only)) sees }
+pub leads_none : (only : Option (List ℕ)) (world : World) (first : RunPosition) (begun : Tally) (reports seen : List (List ℕ) → Type 0) → reports [] → seen [] → LeadsSteps only world world first first begun begun reports seen []
+leads_none only world first begun reports seen reported sees = record { world_is = sym (left_none only world); stands = refl; tallies = tallies_none only world begun; reported = reported; sees = subst seen (sym (said_none only)) sees }
 
 -- ---- the end
 
-module _ (A : Type 0) (calls : Bool) (only : Option (List ℕ)) (old new : World) (first next : RunPosition) (begun then : Tally) (seen : List (List ℕ) → Type 0) where
+module _ (A : Type 0) (calls : Bool) (only : Option (List ℕ)) (old new : World) (first next : RunPosition) (begun then : Tally) (reports seen : List (List ℕ) → Type 0) where
   abbrev leads : List (List ℕ) → Type 0
-  leads lines = A × LeadsSteps only old new first next begun then seen lines
+  leads lines = A × LeadsSteps only old new first next begun then reports seen lines
 
   abbrev stops : LineRunFault → List (List ℕ) → Type 0
   stops fault lines = A × StopsSteps calls only old new first fault lines
@@ -164,12 +189,12 @@ module _ (A : Type 0) (calls : Bool) (only : Option (List ℕ)) (old new : World
   -- what is known however it ends
   ends_at : (lines : List (List ℕ)) (fault : Option LineRunFault) → EndsAs leads stops fault lines →
       A × (new ≡ after_all only old (calls_of_steps (turns_of only old first lines))) × TakesMemoryFor calls fault (turns_of only old first lines) × IfNone fault (Tallies only old begun then (turns_of only old first lines))
-      × IfNone fault (seen (calls_answered only (turns_of only old first lines)))
-  ends_at lines None ended = (ended.0, ended.1.world_is, tt, ended.1.tallies, ended.1.sees)
-  ends_at lines (Some ReadFault) ended = (ended.0, ended.1.world_is, tt, tt, tt)
-  ends_at lines (Some WriteFault) ended = ⊎_elim (λ on. (on.0, on.1.world_is, tt, tt, tt)) (λ stopped. (stopped.0, stopped.1.world_is, tt, tt, tt)) ended
-  ends_at lines (Some TooManyLines) ended = (ended.0, ended.1.world_is, tt, tt, tt)
-  ends_at lines (Some NoMemory) ended = (ended.0, ended.1.world_is, ended.1.takes, tt, tt)
+      × IfNone fault (seen (calls_answered only (turns_of only old first lines))) × IfNone fault (reports lines × (then.awaited ≡ awaited_behind begun.awaited (turns_of only old first lines)))
+  ends_at lines None ended = (ended.0, ended.1.world_is, tt, ended.1.tallies, ended.1.sees, (ended.1.reported, ended.1.tallies.awaits))
+  ends_at lines (Some ReadFault) ended = (ended.0, ended.1.world_is, tt, tt, tt, tt)
+  ends_at lines (Some WriteFault) ended = ⊎_elim (λ on. (on.0, on.1.world_is, tt, tt, tt, tt)) (λ stopped. (stopped.0, stopped.1.world_is, tt, tt, tt, tt)) ended
+  ends_at lines (Some TooManyLines) ended = (ended.0, ended.1.world_is, tt, tt, tt, tt)
+  ends_at lines (Some NoMemory) ended = (ended.0, ended.1.world_is, ended.1.takes, tt, tt, tt)
 
   module _ (tells : List (List ℕ) → ℕ → List ℕ → List ℕ) {fault : Option LineRunFault} {count : ℕ} {front : List ℕ} {input rest : Option (List ℕ)} {failed : Bool} {w w' : Option (List ℕ)}
       (plays : PlaysLines (λ lines. text_of_steps tells only [] (turns_of only old first lines)) leads stops fault count most_lines front input rest failed w w') where
@@ -180,7 +205,7 @@ module _ (A : Type 0) (calls : Bool) (only : Option (List ℕ)) (old new : World
     world_left = (ends_at plays.given fault plays.ends_as).1
 
     -- the turns of the lines were played
-    pub turns_played : RunsAll tells calls seen (Tallies only old begun then) only first fault count old new front input rest failed w w'
+    pub turns_played : RunsAll tells calls seen (Tallies only old begun then) (λ lines. reports lines × (then.awaited ≡ awaited_behind begun.awaited (turns_of only old first lines))) only first fault count old new front input rest failed w w'
     turns_played = record {
       given = plays.given;
       readable = plays.readable;
@@ -190,6 +215,7 @@ module _ (A : Type 0) (calls : Bool) (only : Option (List ℕ)) (old new : World
       takes = (ends_at plays.given fault plays.ends_as).2;
       counted = plays.counted;
       complained = (ends_at plays.given fault plays.ends_as).3;
+      reported = (ends_at plays.given fault plays.ends_as).5;
       few = plays.few;
       sees = (ends_at plays.given fault plays.ends_as).4;
     }
@@ -209,14 +235,14 @@ closes_as (Err NoMemory) a b fails = absurd (let e : false ≡ true = fails.1 in
 
 -- complaints can be told where no fault came
 pub complaints_work : (fault : Option LineRunFault) (k a : Bool) → (k || a) ≡ is_write_fault fault → IfNone fault (a ≡ false)
-complaints_work None k a writing = (none_of k a writing).1
+complaints_work None k a writing = (or_parts k a writing).1
 complaints_work (Some fault) k a writing = tt
 
 -- what is complained of then may not be told
-pub plays_closed : {tells : List (List ℕ) → ℕ → List ℕ → List ℕ} {calls : Bool} {seen : List (List ℕ) → Type 0} {counts closed : List LineStep → Type 0} {only : Option (List ℕ)} {first : RunPosition} {count : ℕ} {old new : World} {front : List ℕ} {input rest : Option (List ℕ)} {failed : Bool} {w w' : Option (List ℕ)}
-    (fault ended : Option LineRunFault) (a b : Bool) → ClosesAs fault ended a b → IfNone ended ((turns : List LineStep) → counts turns → closed turns) →
-    RunsAll tells calls seen counts only first fault count old new front input rest failed w w' → RunsAll tells calls seen closed only first ended count old new front input rest failed w w'
-plays_closed None None a b closes more plays = record {
+pub plays_closed : {tells : List (List ℕ) → ℕ → List ℕ → List ℕ} {calls : Bool} {seen : List (List ℕ) → Type 0} {counts closed : List LineStep → Type 0} {reports all : List (List ℕ) → Type 0} {only : Option (List ℕ)} {first : RunPosition} {count : ℕ} {old new : World} {front : List ℕ} {input rest : Option (List ℕ)} {failed : Bool} {w w' : Option (List ℕ)}
+    (fault ended : Option LineRunFault) (a b : Bool) → ClosesAs fault ended a b → IfNone ended ((turns : List LineStep) → counts turns → closed turns) → IfNone ended ((lines : List (List ℕ)) → reports lines → all lines) →
+    RunsAll tells calls seen counts reports only first fault count old new front input rest failed w w' → RunsAll tells calls seen closed all only first ended count old new front input rest failed w w'
+plays_closed None None a b closes more last plays = record {
   given = plays.given;
   readable = plays.readable;
   world = plays.world;
@@ -225,10 +251,11 @@ plays_closed None None a b closes more plays = record {
   takes = tt;
   counted = plays.counted;
   complained = more _ plays.complained;
+  reported = last _ plays.reported;
   few = plays.few;
   sees = plays.sees;
 }
-plays_closed {input = input} {rest = rest} {failed = failed} None (Some fault) a b closes more plays =
+plays_closed {input = input} {rest = rest} {failed = failed} None (Some fault) a b closes more last plays =
     rw closes.0 (record {
       given = plays.given;
       readable = plays.readable;
@@ -238,10 +265,11 @@ plays_closed {input = input} {rest = rest} {failed = failed} None (Some fault) a
       takes = tt;
       counted = tt;
       complained = tt;
+      reported = tt;
       few = plays.few;
       sees = tt;
     })
-plays_closed (Some fault) ended a b closes more plays =
+plays_closed (Some fault) ended a b closes more last plays =
     rw closes.0 (record {
       given = plays.given;
       readable = plays.readable;
@@ -251,6 +279,7 @@ plays_closed (Some fault) ended a b closes more plays =
       takes = plays.takes;
       counted = tt;
       complained = tt;
+      reported = tt;
       few = plays.few;
       sees = tt;
     })
@@ -261,10 +290,16 @@ pub closed_counts : (only : Option (List ℕ)) (start : World) (begun : Tally) (
 closed_counts only start begun errors now_errors awaited None counts = λ turns led. errors_counted only start begun (tally errors awaited) turns now_errors led counts
 closed_counts only start begun errors now_errors awaited (Some fault) counts = tt
 
+-- and reported
+pub closed_reports : (scope : ReportScope) (only : Option (List ℕ)) (start : World) (first : RunPosition) (begun awaited : Awaited) (w w' w'' : Option (List ℕ)) (ended : Option LineRunFault) → IfNone ended (Appends w' w'' (left_over_report scope.subject awaited)) →
+    IfNone ended ((lines : List (List ℕ)) → WritesReports scope (start_at only start first begun) w w' lines × (awaited ≡ awaited_behind begun (turns_of only start first lines)) → WritesAllReports scope (start_at only start first begun) w w'' lines)
+closed_reports scope only start first begun awaited w w' w'' None reported = λ lines led. reports_closed scope only start first begun awaited w w' w'' lines led.1 led.0 reported
+closed_reports scope only start first begun awaited w w' w'' (Some fault) reported = tt
+
 -- whether a write failed
 pub closed_writing : (fault ended : Option LineRunFault) (k a b : Bool) → (k || a) ≡ is_write_fault fault → ClosesAs fault ended a b → (k || b) ≡ is_write_fault ended
-closed_writing None None k a b writing closes = or_none k b (none_of k a writing).0 closes
-closed_writing None (Some fault) k a b writing closes = rw (closes.0, closes.1, (none_of k a writing).0) refl
+closed_writing None None k a b writing closes = or_from k b (or_parts k a writing).0 closes
+closed_writing None (Some fault) k a b writing closes = rw (closes.0, closes.1, (or_parts k a writing).0) refl
 closed_writing (Some fault) ended k a b writing closes = rw (closes.0, closes.1) writing
 
 -- whether a read failed, and what was kept

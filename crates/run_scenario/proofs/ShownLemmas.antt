@@ -1,6 +1,6 @@
 -- The bytes that digits stand for, one after another.
 use Rattle.std.proofs.Common.{◌≡◌, ℕ, ◌+◌, ◌*◌, ◌/◌, ◌<◌, ◌&&◌, ◌||◌, Bool, true, false, cond, List, [], ◌∷◌, ◌++◌, length, take, drop, get_or, arith, refl, sym, ◌∙◌, ap, append-nil, suc, Option, Some, None, Ok}
-use Rattle.std.specs.Prelude.{IsSome, nat_lt}
+use Rattle.std.specs.Prelude.{nat_lt}
 use Rattle.std.specs.List.{list_all}
 use Rattle.std.specs.Option.{option_map, unwrap_or}
 use Rattle.std.proofs.Math.Seq.{take-suc}
@@ -23,11 +23,6 @@ use Rattle.run_scenario.proofs.CellLemmas.{escaped-append, escaped_nothing}
 -- bytes are half as many as their digits
 pub bytes_counted : (hex : List ℕ) → bytes_of_hex hex ≡ Some (hex_bytes hex) → length (hex_bytes hex) ≡ length hex / 2
 bytes_counted hex formed = let twice = bytes_of_digits hex (hex_bytes hex) formed in omega (arith, twice)
-
--- digits that stand for bytes stand for these
-pub formed_of : (bytes : Option (List ℕ)) → IsSome bytes → bytes ≡ Some (unwrap_or bytes [])
-formed_of None some = absurd (cc)
-formed_of (Some bytes) some = refl
 
 -- two digits are decoded to the byte at their place
 pub pair_decoded : (digits : List ℕ) (place : ℕ) → bytes_of_hex digits ≡ Some (hex_bytes digits) → place < length digits / 2 →

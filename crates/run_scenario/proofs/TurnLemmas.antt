@@ -21,7 +21,7 @@ use Rattle.line_friendly.specs.Expected.{meets}
 use Rattle.line_steps.specs.ResolvedLines.{ResolvedLine, is_skipped, resolved_by, resolved_content, resolved_filled}
 use Rattle.line_steps.specs.ResolvedLines.ResolvedLine.{TooLong, Skipped, BadName, Follow, Misplaced, Nothing, Log, Call, BadLine}
 use Rattle.line_steps.specs.ResolvedViews.{resolved_view}
-use Rattle.run_scenario.specs.CallAnswers.{IsAnsweredCall, TakesStep}
+use Rattle.run_scenario.specs.CallAnswers.{AnswersIn, IsAnsweredCall, TakesStep}
 use Rattle.run_lines.specs.Answer.{IsAnswer}
 use Rattle.run_scenario.specs.Judging.{AnswerText, answer_to, text_in}
 use Rattle.run_scenario.specs.LineSteps.{AreBare, Arrives, bare_content, bare_line, calls_in, learnt_by, learnt_from, left_behind, next_stand, plain_line, resolved_at, stand_after, stand_with, turns_from, turns_of}
@@ -58,12 +58,6 @@ learnt_none : (known : NameTable) (f : FilledLine) (reply : List ℕ) → f.hole
 learnt_none known f reply none =
     ap (λ (holes : List BoundName). cond (meets reply f.expected) (learnt_of known reply f.expected holes) known) none ∙ same_known (meets reply f.expected) known
 
--- the one of these calls that is answered has this answer in this world, or none is answered
-abbrev pub AnswersIn : Option (List ℕ) → World → List (List ℕ) → Option LineAnswer → Type 0
-AnswersIn only world calls (Some answer) =
-    (call : List ℕ) × (said_by only calls ≡ call ∷ []) × IsAnswer world (heard world.entries call) answer
-AnswersIn only world calls None = said_by only calls ≡ []
-
 module _ (only : Option (List ℕ)) (world : World) where
   -- so its text is known
   pub answered_text : (calls : List (List ℕ)) (answer : Option LineAnswer) → AnswersIn only world calls answer → text_in answer ≡ answer_to world (said_by only calls)
@@ -85,7 +79,7 @@ module _ (only : Option (List ℕ)) (world : World) where
   stands_answered stand Skipped answer answers = refl
   stands_answered stand (BadName fault) answer answers = refl
   stands_answered stand (Follow directive) answer answers = refl
-  stands_answered stand (Misplaced column) answer answers = refl
+  stands_answered stand (Misplaced column why) answer answers = refl
   stands_answered stand Nothing answer answers = refl
   stands_answered stand (Log text) answer answers = refl
   stands_answered stand (Call f line reply) answer answers = ap (λ known. record stand { known = known }) (learns_answer stand.known f (line ∷ []) answer answers)
@@ -97,7 +91,7 @@ module _ (only : Option (List ℕ)) (world : World) where
   next_number stand Skipped = refl
   next_number stand (BadName fault) = refl
   next_number stand (Follow directive) = refl
-  next_number stand (Misplaced column) = refl
+  next_number stand (Misplaced column why) = refl
   next_number stand Nothing = refl
   next_number stand (Log text) = refl
   next_number stand (Call f line reply) = refl
@@ -108,7 +102,7 @@ module _ (only : Option (List ℕ)) (world : World) where
   same_ahead stand Skipped = refl
   same_ahead stand (BadName fault) = refl
   same_ahead stand (Follow directive) = refl
-  same_ahead stand (Misplaced column) = refl
+  same_ahead stand (Misplaced column why) = refl
   same_ahead stand Nothing = refl
   same_ahead stand (Log text) = refl
   same_ahead stand (Call f line reply) = refl
@@ -120,7 +114,7 @@ due_behind stand TooLong answer = refl
 due_behind stand Skipped answer = refl
 due_behind stand (BadName fault) answer = refl
 due_behind stand (Follow directive) answer = refl
-due_behind stand (Misplaced column) answer = refl
+due_behind stand (Misplaced column why) answer = refl
 due_behind stand Nothing answer = refl
 due_behind stand (Log text) answer = refl
 due_behind stand (Call f line reply) answer = refl

@@ -20,6 +20,8 @@ use Rattle.run_scenario.specs.Faults.{fault_before, unplayed}
 use Rattle.run_lines.specs.Faults.{is_write_fault}
 use Rattle.run_scenario.specs.Judging.{Awaited, errors_of, nothing_awaited}
 use Rattle.run_scenario.specs.RunCalls.{text_of_calls, text_of_steps}
+use Rattle.run_scenario.specs.RunReports.{ReportScope, WritesAllReports, scope_of}
+use Rattle.view_diagnostics.specs.Diagnostics.{SubjectAt}
 use Rattle.run_scenario.specs.ScenarioRuns.{CountsErrors, RunsAll, TakesMemoryFor, most_lines, tally}
 use Rattle.run_lines.specs.LineRuns.{EndsFor, WritesOutput}
 use Rattle.run_scenario.specs.LineSteps.{LineStep, calls_in, turns_of}
@@ -58,10 +60,10 @@ module _ {w w' : Option (List ℕ)} {gathered front : List ℕ} (w'' : Option (L
   told_behind (Some NoMemory) then = some_behind then
 
 -- so a play behind a front is one that tells it
-pub plays_behind : {tells : List (List ℕ) → ℕ → List ℕ → List ℕ} {calls : Bool} {seen : List (List ℕ) → Type 0} {counts : List LineStep → Type 0} {only : Option (List ℕ)} {first : RunPosition} {fault : Option LineRunFault} {count : ℕ} {old new : World}
+pub plays_behind : {tells : List (List ℕ) → ℕ → List ℕ → List ℕ} {calls : Bool} {seen : List (List ℕ) → Type 0} {counts : List LineStep → Type 0} {reports : List (List ℕ) → Type 0} {only : Option (List ℕ)} {first : RunPosition} {fault : Option LineRunFault} {count : ℕ} {old new : World}
     {gathered front : List ℕ} {input rest : Option (List ℕ)} {failed : Bool} {w w' w'' : Option (List ℕ)} →
-    Tells w [] w' gathered front → RunsAll tells calls seen counts only first fault count old new gathered input rest failed w' w'' →
-    RunsAll tells calls seen counts only first fault count old new front input rest failed w w''
+    Tells w [] w' gathered front → RunsAll tells calls seen counts reports only first fault count old new gathered input rest failed w' w'' →
+    RunsAll tells calls seen counts reports only first fault count old new front input rest failed w w''
 plays_behind {fault = fault} {w'' = w''} begun plays = record {
   given = plays.given;
   readable = plays.readable;
@@ -71,6 +73,7 @@ plays_behind {fault = fault} {w'' = w''} begun plays = record {
   takes = plays.takes;
   counted = plays.counted;
   complained = plays.complained;
+  reported = plays.reported;
   few = plays.few;
   sees = plays.sees;
 }
@@ -81,9 +84,9 @@ unplayed_all None failed = tt
 unplayed_all (Some text) failed = (lines_of text, refl, (omega arith, record { read = []; left = text; is_left = refl; parts = refl; whole = inl (omega arith) }))
 
 -- a front that can't be told is a fault before any line
-pub front_cut : {tells : List (List ℕ) → ℕ → List ℕ → List ℕ} {calls : Bool} {seen : List (List ℕ) → Type 0} {counts : List LineStep → Type 0} {only : Option (List ℕ)} (first : RunPosition) (count : ℕ) (world : World) {gathered front : List ℕ}
+pub front_cut : {tells : List (List ℕ) → ℕ → List ℕ → List ℕ} {calls : Bool} {seen : List (List ℕ) → Type 0} {counts : List LineStep → Type 0} {reports : List (List ℕ) → Type 0} {only : Option (List ℕ)} (first : RunPosition) (count : ℕ) (world : World) {gathered front : List ℕ}
     (input : Option (List ℕ)) (failed : Bool) {w w' : Option (List ℕ)} → gathered ≡ [] → OutputsPart w gathered w' front →
-    RunsAll tells calls seen counts only first (Some WriteFault) count world world front input input failed w w'
+    RunsAll tells calls seen counts reports only first (Some WriteFault) count world world front input input failed w w'
 front_cut {only = only} first count world {front = front} input failed none part = record {
   given = [];
   readable = none_readable;
@@ -98,6 +101,7 @@ front_cut {only = only} first count world {front = front} input failed none part
   takes = tt;
   counted = tt;
   complained = tt;
+  reported = tt;
   few = omega arith;
   sees = tt;
 }
@@ -154,6 +158,12 @@ counted_still None None count count' w w' behind n is same after = same ∙ is
 counted_still None (Some fault) count count' w w' behind n is same after = tt
 counted_still (Some fault) f' count count' w w' behind n is same after = rw after.0 tt
 
+-- what was reported
+reported_still : (f f' : Option LineRunFault) (w w' : Option (List ℕ)) (behind : List ℕ) (A : Type 0) → IfNone f A → WritesAfter f f' w w' behind → IfNone f' A
+reported_still None None w w' behind A reported after = reported
+reported_still None (Some fault) w w' behind A reported after = tt
+reported_still (Some fault) f' w w' behind A reported after = rw after.0 tt
+
 -- how many errors there were
 errors_are : (only : Option (List ℕ)) (start : World) (first : RunPosition) (awaited : Awaited) (lines : List (List ℕ)) (errors : ℕ) → length lines ≤ most_lines →
     (f : Option LineRunFault) → IfNone f (CountsErrors only start (tally 0 awaited) errors (turns_of only start first lines)) →
@@ -163,13 +173,13 @@ errors_are only start first awaited lines errors few None counts =
 errors_are only start first awaited lines errors few (Some fault) counts = tt
 
 -- what a play wrote and what was written behind it
-pub played_from : {told behind : List LineStep → List ℕ} {calls : Bool} {tells : List (List ℕ) → ℕ → List ℕ → List ℕ} {seen : List (List ℕ) → Type 0} {only : Option (List ℕ)} {first : RunPosition} {start last : World}
+pub played_from : {told behind : List LineStep → List ℕ} {calls : Bool} {tells : List (List ℕ) → ℕ → List ℕ → List ℕ} {seen reports : List (List ℕ) → Type 0} {only : Option (List ℕ)} {first : RunPosition} {start last : World}
     {awaited : Awaited}
     {front : List ℕ} {input rest w w' w'' : Option (List ℕ)} {failed : Bool} (played ended : ScenarioEnd)
-    (plays : RunsAll tells calls seen (CountsErrors only start (tally 0 awaited) played.complaints) only first played.fault played.lines start last front input rest failed w w') →
+    (plays : RunsAll tells calls seen (CountsErrors only start (tally 0 awaited) played.complaints) reports only first played.fault played.lines start last front input rest failed w w') →
     front ++ text_of_steps tells only [] (turns_of only start first plays.given) ≡ told (turns_of only start first plays.given) →
-    Closes played ended w' w'' (behind (turns_of only start first plays.given)) → IsRunFrom (start_at only start first awaited) told behind calls ended input rest failed w w''
-played_from {told = told} {behind = behind} {calls = calls} {only = only} {first = first} {start = start} {awaited = awaited} {input = input} {rest = rest} {w = w} {w' = w'} {w'' = w''} {failed = failed} played ended plays same closes =
+    Closes played ended w' w'' (behind (turns_of only start first plays.given)) → IsRunFrom (start_at only start first awaited) told behind calls reports ended input rest failed w w''
+played_from {told = told} {behind = behind} {calls = calls} {reports = reports} {only = only} {first = first} {start = start} {awaited = awaited} {input = input} {rest = rest} {w = w} {w' = w'} {w'' = w''} {failed = failed} played ended plays same closes =
     let turns = turns_of only start first plays.given in
     record {
       given = plays.given;
@@ -180,6 +190,7 @@ played_from {told = told} {behind = behind} {calls = calls} {only = only} {first
       complained =
           counted_still played.fault ended.fault played.complaints ended.complaints w' w'' (behind turns) (errors_of only start awaited turns)
           (errors_are only start first awaited plays.given played.complaints plays.few played.fault plays.complained) closes.complaints closes.writes;
+      reported = reported_still played.fault ended.fault w' w'' (behind turns) (reports plays.given) plays.reported closes.writes;
       writes =
           writes_both played.fault ended.fault input rest plays.given failed w w' w'' (told turns) (behind turns) plays.ends
           (subst (WritesOutput played.fault w w') same plays.told) closes.writes;
@@ -187,17 +198,25 @@ played_from {told = told} {behind = behind} {calls = calls} {only = only} {first
 
 -- on the machine of a list
 pub played_on : (listed : Listed) {calls : Bool} (only : Option (List ℕ)) (first : RunPosition) (told behind : World → List LineStep → List ℕ) (ending : ScenarioEnd) {start : World} {begun : RunPosition}
-    {awaited : Awaited} (input rest : Option (List ℕ)) (failed : Bool) (w w' : Option (List ℕ)) →
-    start ≡ world_of listed → begun ≡ first → awaited ≡ nothing_awaited → IsRunFrom (start_at only start begun awaited) (told start) (behind start) calls ending input rest failed w w' →
-    IsRunFrom (start_on only first listed) (told (world_of listed)) (behind (world_of listed)) calls ending input rest failed w w'
-played_on listed {calls = calls} only first told behind ending {start = start} {begun = begun} {awaited = awaited} input rest failed w w' starts begins none played =
-    subst (λ world. IsRunFrom (start_at only world first nothing_awaited) (told world) (behind world) calls ending input rest failed w w') starts
-    (subst (λ stand. IsRunFrom (start_at only start stand nothing_awaited) (told start) (behind start) calls ending input rest failed w w') begins
-    (subst (λ expected. IsRunFrom (start_at only start begun expected) (told start) (behind start) calls ending input rest failed w w') none played))
+    {awaited : Awaited} {subject noted : SubjectAt} {list : Listed} (e e' : Option (List ℕ)) (input rest : Option (List ℕ)) (failed : Bool) (w w' : Option (List ℕ)) →
+    start ≡ world_of listed → begun ≡ first → awaited ≡ nothing_awaited → noted ≡ subject →
+    IsRunFrom (start_at only start begun awaited) (told start) (behind start) calls (WritesAllReports (scope_of noted list) (start_at only start begun awaited) e e') ending input rest failed w w' →
+    IsRunFrom (start_on only first listed) (told (world_of listed)) (behind (world_of listed)) calls (WritesAllReports (scope_of subject list) (start_on only first listed) e e') ending input rest failed w w'
+played_on listed {calls = calls} only first told behind ending {start = start} {begun = begun} {awaited = awaited} {subject = subject} {noted = noted} {list = list} e e' input rest failed w w' starts begins none about played =
+    subst (λ s. IsRunFrom (start_on only first listed) (told (world_of listed)) (behind (world_of listed)) calls (WritesAllReports (scope_of s list) (start_on only first listed) e e') ending input rest failed w w') about
+    (subst (λ world. IsRunFrom (start_at only world first nothing_awaited) (told world) (behind world) calls (WritesAllReports (scope_of noted list) (start_at only world first nothing_awaited) e e') ending input rest failed w w') starts
+    (subst (λ stand. IsRunFrom (start_at only start stand nothing_awaited) (told start) (behind start) calls (WritesAllReports (scope_of noted list) (start_at only start stand nothing_awaited) e e') ending input rest failed w w') begins
+    (subst (λ expected. IsRunFrom (start_at only start begun expected) (told start) (behind start) calls (WritesAllReports (scope_of noted list) (start_at only start begun expected) e e') ending input rest failed w w') none played)))
+
+-- what the errors hold is what they hold at the end
+pub reported_at : {start first : RunStart} {told behind : List LineStep → List ℕ} {calls : Bool} {scope : ReportScope} {e e1 e2 : Option (List ℕ)} {ending : ScenarioEnd} {input rest : Option (List ℕ)} {failed : Bool} {w w' : Option (List ℕ)} →
+    IsRunFrom start told behind calls (WritesAllReports scope first e e1) ending input rest failed w w' → e2 ≡ e1 → IsRunFrom start told behind calls (WritesAllReports scope first e e2) ending input rest failed w w'
+reported_at {start = start} {first = first} {told = told} {behind = behind} {calls = calls} {scope = scope} {e = e} {ending = ending} {input = input} {rest = rest} {failed = failed} {w = w} {w' = w'} played same =
+    subst (λ held. IsRunFrom start told behind calls (WritesAllReports scope first e held) ending input rest failed w w') (sym same) played
 
 -- ---- within the bounds, and with no failed device, only want of room is a cause to stop
-pub caused : {start : RunStart} {told behind : List LineStep → List ℕ} {calls : Bool} {ending : ScenarioEnd} {input rest : Option (List ℕ)} {failed : Bool} {w w' : Option (List ℕ)} (write_failed : Bool) →
-    IsRunFrom start told behind calls ending input rest failed w w' → write_failed ≡ is_write_fault ending.fault →
+pub caused : {start : RunStart} {told behind : List LineStep → List ℕ} {calls : Bool} {reports : List (List ℕ) → Type 0} {ending : ScenarioEnd} {input rest : Option (List ℕ)} {failed : Bool} {w w' : Option (List ℕ)} (write_failed : Bool) →
+    IsRunFrom start told behind calls reports ending input rest failed w w' → write_failed ≡ is_write_fault ending.fault →
     IfSome ending.fault (λ fault. fault ≢ NoMemory → IfSome input (λ text. HasCause text most_lines failed write_failed))
 caused {ending = ending} {input = input} {rest = rest} {failed = failed} write_failed played fails = of ending.fault input played.ends fails
   where
@@ -207,8 +226,8 @@ caused {ending = ending} {input = input} {rest = rest} {failed = failed} write_f
     of (Some fault) (Some text) ends is = λ other. within_bounds fault most_lines played.given ends.0 text rest failed write_failed ends.1 ends.2 is other
 
 -- or a device had failed before
-pub ends_for_some_cause : {X : Type 0} {start : RunStart} {told : List LineStep → List ℕ} {behind : X → List LineStep → List ℕ} {calls : Bool} {ending : ScenarioEnd} {input rest : Option (List ℕ)} {failed : Bool} {w w' : Option (List ℕ)} (read_before write_before write_failed : Bool) →
-    (fault_before read_before write_before ≡ None → (x : X) × IsRunFrom start told (behind x) calls ending input rest failed w w') →
+pub ends_for_some_cause : {X : Type 0} {start : RunStart} {told : List LineStep → List ℕ} {behind : X → List LineStep → List ℕ} {calls : Bool} {reports : List (List ℕ) → Type 0} {ending : ScenarioEnd} {input rest : Option (List ℕ)} {failed : Bool} {w w' : Option (List ℕ)} (read_before write_before write_failed : Bool) →
+    (fault_before read_before write_before ≡ None → (x : X) × IsRunFrom start told (behind x) calls reports ending input rest failed w w') →
     IfSome (fault_before read_before write_before) (λ fault. (ending ≡ unplayed fault) × (failed ≡ read_before)) → write_failed ≡ is_write_fault ending.fault →
     IfSome ending.fault (λ fault. fault ≢ NoMemory → IfSome input (λ text. HasCause text most_lines failed write_failed))
 ends_for_some_cause false false write_failed played before fails = caused write_failed (played refl).1 fails
@@ -218,8 +237,8 @@ ends_for_some_cause {input = input} {failed = failed} read_before true write_fai
     rw before.0 (λ other. cause_unwritten input most_lines failed write_failed is)
 
 -- where what stands behind it is known
-pub ends_for_cause : {start : RunStart} {told behind : List LineStep → List ℕ} {calls : Bool} {ending : ScenarioEnd} {input rest : Option (List ℕ)} {failed : Bool} {w w' : Option (List ℕ)} (read_before write_before write_failed : Bool) →
-    (fault_before read_before write_before ≡ None → IsRunFrom start told behind calls ending input rest failed w w') →
+pub ends_for_cause : {start : RunStart} {told behind : List LineStep → List ℕ} {calls : Bool} {reports : List (List ℕ) → Type 0} {ending : ScenarioEnd} {input rest : Option (List ℕ)} {failed : Bool} {w w' : Option (List ℕ)} (read_before write_before write_failed : Bool) →
+    (fault_before read_before write_before ≡ None → IsRunFrom start told behind calls reports ending input rest failed w w') →
     IfSome (fault_before read_before write_before) (λ fault. (ending ≡ unplayed fault) × (failed ≡ read_before)) → write_failed ≡ is_write_fault ending.fault →
     IfSome ending.fault (λ fault. fault ≢ NoMemory → IfSome input (λ text. HasCause text most_lines failed write_failed))
 ends_for_cause {behind = behind} read_before write_before write_failed played =

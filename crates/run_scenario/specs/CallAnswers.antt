@@ -29,6 +29,12 @@ abbrev pub IsAnsweredCall : Option (List ℕ) → World → ℕ → List (List �
 IsAnsweredCall only world number calls (Some it) = IsAnsweredAs only world number calls it
 IsAnsweredCall only world number calls None = said_by only calls ≡ []
 
+-- the one of these calls that is answered has this answer in this world, or none is answered
+abbrev pub AnswersIn : Option (List ℕ) → World → List (List ℕ) → Option LineAnswer → Type 0
+AnswersIn only world calls (Some answer) =
+    (call : List ℕ) × (said_by only calls ≡ call ∷ []) × IsAnswer world (heard world.entries call) answer
+AnswersIn only world calls None = said_by only calls ≡ []
+
 -- the answer to a call
 abbrev pub answer_of : Option ObservedCall → Option LineAnswer
 answer_of o = option_map (λ it. it.answer) o

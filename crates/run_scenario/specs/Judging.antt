@@ -79,7 +79,7 @@ awaited_after number resolved awaited = awaited
 abbrev pub is_complained : ResolvedLine → Option AnswerText → Awaited → Bool
 is_complained TooLong answer awaited = true
 is_complained (BadName fault) answer awaited = true
-is_complained (Misplaced column) answer awaited = true
+is_complained (Misplaced column why) answer awaited = true
 is_complained (Call filled line reply) answer awaited = is_other (is_passed filled.line) reply answer awaited
 is_complained (BadLine fault) answer awaited = true
 is_complained resolved answer awaited = false

@@ -12,3 +12,4 @@ pub mod Texts
 pub mod LineSteps
 pub mod Observation
 pub mod Writes
+pub mod RunReports

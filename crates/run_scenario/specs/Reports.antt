@@ -3,14 +3,22 @@ use Rattle.std.specs.Prelude.{ℕ, ◌+◌, ◌-◌, ◌&&◌, Bool, not, is_som
 use Rattle.std.specs.List.{find}
 use Rattle.std.specs.Option.{option_copied, option_map}
 use Rattle.std.specs.Str.{bytes_eq}
+use Rattle.std.specs.Str.Lossy.{utf8_lossy}
 use Rattle.own_model.specs.Listed.{Listed, ListedEntry}
 use Rattle.list_parser.specs.Depth.{is_init}
 use Rattle.line_friendly.specs.Expected.{meets}
 use Rattle.line_friendly.specs.Forms.{is_one_edit}
 use Rattle.line_friendly.specs.Friendly.{end_of, is_passed}
+use Rattle.line_friendly.specs.Messages.{line_message}
+use Rattle.line_friendly.specs.declared.fault.FriendlyFault.{FriendlyFault}
 use Rattle.line_names.specs.Filling.{source_column}
+use Rattle.line_names.specs.Messages.{directive_message, name_message}
 use Rattle.line_names.specs.NameTable.{NameTable}
+use Rattle.line_names.specs.Tokens.{token_at}
+use Rattle.line_names.specs.declared.directive_fault.DirectiveFault.{DirectiveFault}
+use Rattle.line_names.specs.declared.fault.NameFault.{NameFault}
 use Rattle.line_steps.specs.ResolvedLines.{start_column}
+use Rattle.line_steps.specs.declared.resolved_line.ScenarioCall.{ScenarioCall}
 use Rattle.run_lines.specs.declared.line_answer.LineAnswer.{LineAnswer}
 use Rattle.view_diagnostics.specs.Diagnostics.{SubjectAt, diagnostic}
 use Rattle.view_diagnostics.specs.declared.diagnostics.Severity.TheVariants.{Error}
@@ -19,6 +27,7 @@ use Rattle.view_diagnostics.specs.declared.place.FilePlace.TheVariants.{Byte}
 use Rattle.run_scenario.specs.Complaints.{log_lines_pieces, reply_pieces, unknown_pieces}
 use Rattle.run_scenario.specs.Judging.{Awaited, is_unknown_call}
 use Rattle.run_scenario.specs.declared.source_line.JudgedLine.{JudgedLine}
+use Rattle.run_scenario.specs.declared.source_line.SourceLine.{SourceLine}
 
 -- a line that is checked: its number, its bytes before and after substitution, and its expected reply, if it has one
 pub record CheckedLine : Type 0 where
@@ -33,6 +42,15 @@ checked asked = record {
   given = asked.given.line.now;
   line = asked.line.now;
   reply = option_copied asked.reply;
+}
+
+-- the same of a line that makes a call
+abbrev pub checked_call : SourceLine → ScenarioCall → CheckedLine
+checked_call given call = record {
+  number = given.number;
+  given = given.line.now;
+  line = call.filled.line.now;
+  reply = option_copied call.reply;
 }
 
 -- ---- places
@@ -96,3 +114,27 @@ left_over_at subject (Some line) = diagnostic subject (Byte line 1) Error (codes
 
 abbrev pub left_over_report : SubjectAt → Awaited → List ℕ
 left_over_report subject awaited = left_over_at subject awaited.first
+
+-- ---- lines without a call
+
+-- the token of a line at a column, as text
+abbrev pub token_text : List ℕ → ℕ → List ℕ
+token_text line column = utf8_lossy (token_at line column)
+
+-- a line that can't be parsed
+abbrev pub bad_line_report : SubjectAt → ℕ → List ℕ → FriendlyFault → List ℕ
+bad_line_report subject number line fault =
+    diagnostic subject (Byte number fault.column) Error (line_message fault.reason (token_text line fault.column) ∷ [])
+
+-- a name that can't be filled
+abbrev pub bad_name_report : SubjectAt → ℕ → List ℕ → NameFault → List ℕ
+bad_name_report subject number line fault =
+    diagnostic subject (Byte number fault.column) Error (name_message fault.reason (token_text line fault.column) ∷ [])
+
+-- a directive that can't be followed
+abbrev pub misplaced_report : SubjectAt → ℕ → ℕ → DirectiveFault → List ℕ
+misplaced_report subject number column why = diagnostic subject (Byte number column) Error (directive_message why ∷ [])
+
+-- a line that is too long
+abbrev pub too_long_report : SubjectAt → ℕ → List ℕ
+too_long_report subject number = diagnostic subject (Byte number 1) Error (codes "line of more than 8192 bytes" ∷ [])

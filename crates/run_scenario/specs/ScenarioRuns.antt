@@ -16,11 +16,13 @@ use Rattle.run_scenario.specs.Judging.{Awaited, awaited_after, awaited_behind, e
 use Rattle.run_scenario.specs.RunCalls.{calls_answered, calls_of_steps, text_of_steps}
 use Rattle.run_scenario.specs.LineSteps.{LineStep, calls_in, stand_after, stand_behind, turns_of}
 
--- a line handler is the one that began: its sink of errors, its run, the text that it writes and what it was made with
-pub record Remains {N R T : Type 0} (name now_name : N) (run now_run : R) (tells now_tells : T) (holds now_holds : List ℕ)
-    : Type 0 where
+-- a line handler is the one that began: its sink of errors, its run, the subject of its diagnostics, the text that it writes and what
+-- it was made with
+pub record Remains {N R S T : Type 0} (name now_name : N) (run now_run : R) (subject now_subject : S) (tells now_tells : T)
+    (holds now_holds : List ℕ) : Type 0 where
   pub name_is : now_name ≡ name
   pub run_is : now_run ≡ run
+  pub subject_is : now_subject ≡ subject
   pub tells_is : now_tells ≡ tells
   pub holds_is : now_holds ≡ holds
 
@@ -38,12 +40,14 @@ pub record Tallies (only : Option (List ℕ)) (start : World) (old new : Tally) 
   pub counts : old.errors + errors_in only start old.awaited turns < 2 ^ 64 →
       new.errors ≡ old.errors + errors_in only start old.awaited turns
 
--- lines lead from one world to another, from a first position to this one, their calls were observed, and their errors counted
+-- lines lead from one world to another, from a first position to this one, their calls were observed, and their errors counted and
+-- reported
 pub record LeadsSteps (only : Option (List ℕ)) (start world : World) (first stand : RunPosition) (tally now_tally : Tally)
-    (seen : List (List ℕ) → Type 0) (lines : List (List ℕ)) : Type 0 where
+    (reports : List (List ℕ) → Type 0) (seen : List (List ℕ) → Type 0) (lines : List (List ℕ)) : Type 0 where
   pub world_is : world ≡ after_all only start (calls_of_steps (turns_of only start first lines))
   pub stands : stand ≡ stand_behind only start first lines
   pub tallies : Tallies only start tally now_tally (turns_of only start first lines)
+  pub reported : reports lines
   pub sees : seen (calls_answered only (turns_of only start first lines))
 
 -- if the host was out of memory, the last of these lines took some
@@ -118,7 +122,7 @@ CountsErrors only start tally errors turns =
 
 -- a scenario is run from its first position to its end or to a fault, after a text
 pub record RunsAll (tells : List (List ℕ) → ℕ → List ℕ → List ℕ) (calls : Bool) (seen : List (List ℕ) → Type 0)
-    (counts : List LineStep → Type 0) (only : Option (List ℕ)) (first : RunPosition) (fault : Option LineRunFault) (count : ℕ)
+    (counts : List LineStep → Type 0) (reports : List (List ℕ) → Type 0) (only : Option (List ℕ)) (first : RunPosition) (fault : Option LineRunFault) (count : ℕ)
     (old new : World) (front : List ℕ) (input rest : Option (List ℕ)) (failed : Bool) (written now_written : Option (List ℕ))
     : Type 0 where
   pub given : List (List ℕ)
@@ -129,5 +133,6 @@ pub record RunsAll (tells : List (List ℕ) → ℕ → List ℕ → List ℕ) (
   pub takes : TakesMemoryFor calls fault (turns_of only old first given)
   pub counted : IfNone fault (count ≡ length given)
   pub complained : IfNone fault (counts (turns_of only old first given))
+  pub reported : IfNone fault (reports given)
   pub few : length given ≤ most_lines
   pub sees : IfNone fault (seen (calls_answered only (turns_of only old first given)))

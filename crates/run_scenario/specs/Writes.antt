@@ -50,9 +50,9 @@ abbrev pub steps_from : RunStart → List (List ℕ) → List LineStep
 steps_from start lines = turns_of start.only start.world start.stand lines
 
 -- a scenario was run, from its first line on, to its end or to a fault that has a cause, and this was written: the text for its
--- lines, and the text after it, by the steps of the lines. If there is no fault, its lines and its errors are counted. It is given
--- whether the text for calls takes memory of the host
-pub record IsRunFrom (start : RunStart) (told behind : List LineStep → List ℕ) (calls : Bool) (ending : ScenarioEnd)
+-- lines, and the text after it, by the steps of the lines. If there is no fault, its lines and its errors are counted, and the errors
+-- are reported. It is given whether the text for calls takes memory of the host
+pub record IsRunFrom (start : RunStart) (told behind : List LineStep → List ℕ) (calls : Bool) (reports : List (List ℕ) → Type 0) (ending : ScenarioEnd)
     (input rest : Option (List ℕ)) (failed : Bool) (written now_written : Option (List ℕ)) : Type 0 where
   pub given : List (List ℕ)
   pub readable : AreReadable given
@@ -61,6 +61,7 @@ pub record IsRunFrom (start : RunStart) (told behind : List LineStep → List �
   pub counted : IfNone ending.fault (ending.lines ≡ length given)
   pub complained : IfNone ending.fault
       (ending.complaints ≡ errors_of start.only start.world start.awaited (steps_from start given))
+  pub reported : IfNone ending.fault (reports given)
   pub writes : WritesBoth ending.fault input given written now_written (told (steps_from start given)) (behind (steps_from start given))
 
 -- after a run that reached its end this is written, or a part of it if a write failed; after any other run nothing

@@ -6,10 +6,10 @@ ghost use Rattle.pd_core.specs.Answer.{quotas_account};
 ghost use Rattle.run_lines.specs.RunOutput.{OutputsUnless};
 ghost use Rattle.run_scenario.specs.Cells.{account_cells, cell_text};
 
-use crate::text::{add, add_number};
 use arrayvec::ArrayVec;
 use core_calls::Quotas;
 use run_lines::{DeviceFault, Sink, WriteBuffer};
+use text_codec::{add, add_number};
 
 /// Gathers one more cell with a text, in quotes if it needs them. The error is a failed write.
 pub fn put_cell<K: Sink>(

@@ -34,5 +34,6 @@ pub use scenario_end::{ScenarioEnd, exit_status};
 pub use scenario_input::ScenarioInput;
 pub use scenario_runner::ScenarioRunner;
 pub use scenario_state::ScenarioState;
-pub use text::{add, add_number, caller_of, put_number, put_three, said_in};
+pub use text::{caller_of, put_number, put_three, said_in};
+pub use text_codec::{add, add_number};
 pub use theorems::bare_lines_stay;

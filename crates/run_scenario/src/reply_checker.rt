@@ -11,7 +11,7 @@ ghost use Rattle.view_diagnostics.specs.declared.diagnostics.Severity.TheVariant
 ghost use Rattle.view_diagnostics.specs.declared.place.FilePlace.TheVariants.{Byte as AByte};
 ghost use Rattle.run_scenario.specs.Complaints.{WritesUnless};
 ghost use Rattle.run_scenario.specs.Judging.{awaited_more, is_other, is_unknown_call, nothing_awaited, text_in};
-ghost use Rattle.run_scenario.specs.Reports.{answer_report, call_report, checked, left_over_report, reply_column, silent_report, without_last};
+ghost use Rattle.run_scenario.specs.Reports.{answer_report, bad_line_report, bad_name_report, call_report, checked, left_over_report, misplaced_report, reply_column, silent_report, too_long_report, without_last};
 ghost use Rattle.run_lines.specs.declared.line_run_fault.LineRunFault.TheVariants.{NoMemory as NoRoom};
 
 use crate::complaint::{report, report_log_lines, report_reply, report_unknown};
@@ -195,10 +195,8 @@ impl<'a> ReplyChecker<'a> {
     ) -> Result<bool, LineRunFault>
         requires { E.has_failed sink.old ≡ false }
         ensures told { IfOk result (λ complained. complained ≡ true) }
-        ensures writes { (message : List ℕ) ×
-            WritesUnless result (E.contents sink.old) (E.contents sink.new)
-            (diagnostic (subject_at self.now.scenario)
-            (AByte given.entry.number fault.column) AnError (message ∷ [])) }
+        ensures writes { WritesUnless result (E.contents sink.old) (E.contents sink.new)
+            (bad_line_report (subject_at self.now.scenario) given.entry.number given.entry.line.now fault) }
         ensures works { OnOk result (E.has_failed sink.new ≡ false) }
         ensures failing { Fails result (E.has_failed sink.new) true }
     {
@@ -216,10 +214,8 @@ impl<'a> ReplyChecker<'a> {
     ) -> Result<bool, LineRunFault>
         requires { E.has_failed sink.old ≡ false }
         ensures told { IfOk result (λ complained. complained ≡ true) }
-        ensures writes { (message : List ℕ) ×
-            WritesUnless result (E.contents sink.old) (E.contents sink.new)
-            (diagnostic (subject_at self.now.scenario)
-            (AByte given.entry.number fault.column) AnError (message ∷ [])) }
+        ensures writes { WritesUnless result (E.contents sink.old) (E.contents sink.new)
+            (bad_name_report (subject_at self.now.scenario) given.entry.number given.entry.line.now fault) }
         ensures works { OnOk result (E.has_failed sink.new ≡ false) }
         ensures failing { Fails result (E.has_failed sink.new) true }
     {
@@ -238,10 +234,8 @@ impl<'a> ReplyChecker<'a> {
     ) -> Result<bool, LineRunFault>
         requires { E.has_failed sink.old ≡ false }
         ensures told { IfOk result (λ complained. complained ≡ true) }
-        ensures writes { (message : List ℕ) ×
-            WritesUnless result (E.contents sink.old) (E.contents sink.new)
-            (diagnostic (subject_at self.now.scenario)
-            (AByte given.entry.number column) AnError (message ∷ [])) }
+        ensures writes { WritesUnless result (E.contents sink.old) (E.contents sink.new)
+            (misplaced_report (subject_at self.now.scenario) given.entry.number column why) }
         ensures works { OnOk result (E.has_failed sink.new ≡ false) }
         ensures failing { Fails result (E.has_failed sink.new) false }
     {
@@ -253,8 +247,7 @@ impl<'a> ReplyChecker<'a> {
         requires { E.has_failed sink.old ≡ false }
         ensures told { IfOk result (λ complained. complained ≡ true) }
         ensures writes { WritesUnless result (E.contents sink.old) (E.contents sink.new)
-            (diagnostic (subject_at self.now.scenario) (AByte number 1) AnError
-            (codes "line of more than 8192 bytes" ∷ [])) }
+            (too_long_report (subject_at self.now.scenario) number) }
         ensures works { OnOk result (E.has_failed sink.new ≡ false) }
         ensures failing { Fails result (E.has_failed sink.new) false }
     {

@@ -1,11 +1,16 @@
 //! The run of a scenario: lines in the friendly form are read, answered, reported and checked.
 ghost use Rattle.std.specs.Prelude.{◌≡◌, ◌≤◌, ◌||◌, [], IfSome, IfNone, None, false, is_some};
+ghost use Rattle.std.specs.Io.KnownBytes.{Appends};
 ghost use Rattle.std.specs.Option.{option_copied};
 ghost use Rattle.own_model.specs.Listed.{start_list_of};
 ghost use Rattle.own_model.specs.StartList.{entries_of};
 ghost use Rattle.run_lines.specs.Faults.{is_write_fault};
 ghost use Rattle.run_scenario.specs.Faults.{fault_before, unplayed};
+ghost use Rattle.run_scenario.specs.Reports.{left_over_report};
+ghost use Rattle.run_scenario.specs.RunReports.{WritesAllReports, scope_of};
 ghost use Rattle.run_scenario.specs.ScenarioRuns.{ClosesAs, CountsErrors, CountsOne, RunsAll, tally};
+ghost use Rattle.run_scenario.specs.Writes.{start_at};
+ghost use Rattle.view_diagnostics.specs.Diagnostics.{subject_at};
 
 use crate::call_observer::CallObserver;
 use crate::reply_checker::ReplyChecker;
@@ -32,6 +37,11 @@ pub fn play<R: Router + Drop, W: CallObserver, S: Source, K: Sink, E: Sink>(
         (W.sees bench.new.watch.now bench.old.run.now.list.now core.old)
         (CountsErrors (option_copied bench.old.run.now.only) core.old
         (tally bench.old.complained bench.old.notes.now.critic.expected) result.complaints)
+        (WritesAllReports
+        (scope_of (subject_at bench.old.notes.now.critic.scenario) bench.old.run.now.list.now)
+        (start_at (option_copied bench.old.run.now.only) core.old bench.old.notes.now.stand
+        bench.old.notes.now.critic.expected)
+        (E.contents bench.old.complaints.now) (E.contents bench.new.complaints.now))
         (option_copied bench.old.run.now.only) bench.old.notes.now.stand result.fault result.lines core.old
         core.new front.now
         (S.remaining reader.old) (S.remaining reader.new) (S.has_failed reader.new)
@@ -107,6 +117,8 @@ fn close<E: Sink>(
     ensures closes { ClosesAs fault result (E.has_failed complaints.old) (E.has_failed complaints.new) }
     ensures counts { IfNone result
         (CountsOne (is_some critic.old.expected.first) complained.old complained.new) }
+    ensures reports { IfNone result (Appends (E.contents complaints.old) (E.contents complaints.new)
+        (left_over_report (subject_at critic.old.scenario) critic.old.expected)) }
 {
     match fault {
         Some(fault) => Some(fault),

@@ -1,5 +1,5 @@
 //! Runs scenarios in the friendly form.
-ghost use Rattle.std.specs.Prelude.{◌≡◌, ◌≤◌, ◌||◌, [], IfOk, false, length};
+ghost use Rattle.std.specs.Prelude.{◌≡◌, ◌≤◌, ◌||◌, [], IfOk, OnOk, false, length};
 ghost use Rattle.std.specs.Option.{option_copied};
 ghost use Rattle.own_model.specs.Listed.{start_list_of};
 ghost use Rattle.own_model.specs.StartList.{entries_of};
@@ -9,6 +9,9 @@ ghost use Rattle.run_lines.specs.Next.{OutputsWork};
 ghost use Rattle.run_scenario.specs.RunCalls.{text_of_steps};
 ghost use Rattle.run_scenario.specs.ScenarioRuns.{CountsOne, LeadsSteps, RunsLine, Remains, StopsSteps, counted, point, tally};
 ghost use Rattle.run_scenario.specs.LineSteps.{resolved_at, turns_of};
+ghost use Rattle.run_scenario.specs.RunReports.{ReportsLine, WritesReports, scope_of};
+ghost use Rattle.run_scenario.specs.Writes.{start_at};
+ghost use Rattle.view_diagnostics.specs.Diagnostics.{subject_at};
 ghost use Rattle.line_steps.specs.ResolvedLines.{is_skipped};
 
 use crate::call_observer::CallObserver;
@@ -68,6 +71,8 @@ impl<W: CallObserver, E: Sink> ScenarioRunner<'_, '_, '_, '_, '_, '_, '_, W, E> 
             (E.has_failed self.old.complaints.now) }
         ensures remains { Remains self.old.complaints.ghost_name self.new.complaints.ghost_name
             self.old.run.now self.new.run.now
+            (subject_at self.old.notes.now.critic.scenario)
+            (subject_at self.new.notes.now.critic.scenario)
             (W.tells self.old.watch.now) (W.tells self.new.watch.now)
             (W.holds self.old.watch.now) (W.holds self.new.watch.now) }
         ensures plays { RunsLine (option_copied self.old.run.now.only) (W.tells self.old.watch.now)
@@ -81,6 +86,11 @@ impl<W: CallObserver, E: Sink> ScenarioRunner<'_, '_, '_, '_, '_, '_, '_, W, E> 
             (point core.new self.new.notes.now.stand self.new.notes.now.critic.expected
             (K.contents writer.new) gathered.new) }
         ensures uncounted { self.new.complained ≡ self.old.complained }
+        ensures reports { OnOk result (ReportsLine
+            (scope_of (subject_at self.old.notes.now.critic.scenario) self.old.run.now.list.now)
+            (option_copied self.old.run.now.only) core.old self.old.notes.now.stand line.now
+            self.old.notes.now.critic.expected (E.contents self.old.complaints.now)
+            (E.contents self.new.complaints.now)) }
     {
         match plain_call(line) {
             Some(call) if !is_skipped(self.run.only, line) => {
@@ -109,6 +119,8 @@ impl<W: CallObserver, E: Sink> ScenarioRunner<'_, '_, '_, '_, '_, '_, '_, W, E> 
             (E.has_failed self.old.complaints.now) }
         ensures remains { Remains self.old.complaints.ghost_name self.new.complaints.ghost_name
             self.old.run.now self.new.run.now
+            (subject_at self.old.notes.now.critic.scenario)
+            (subject_at self.new.notes.now.critic.scenario)
             (W.tells self.old.watch.now) (W.tells self.new.watch.now)
             (W.holds self.old.watch.now) (W.holds self.new.watch.now) }
         ensures plays { RunsLine (option_copied self.old.run.now.only) (W.tells self.old.watch.now)
@@ -122,6 +134,11 @@ impl<W: CallObserver, E: Sink> ScenarioRunner<'_, '_, '_, '_, '_, '_, '_, W, E> 
             (point core.new self.new.notes.now.stand self.new.notes.now.critic.expected
             (K.contents writer.new) gathered.new) }
         ensures uncounted { self.new.complained ≡ self.old.complained }
+        ensures reports { OnOk result (ReportsLine
+            (scope_of (subject_at self.old.notes.now.critic.scenario) self.old.run.now.list.now)
+            (option_copied self.old.run.now.only) core.old self.old.notes.now.stand line.now
+            self.old.notes.now.critic.expected (E.contents self.old.complaints.now)
+            (E.contents self.new.complaints.now)) }
     {
         let list = self.run.list;
         let heard = answer_plain(self.run, core, &self.notes.stand, line, call, self.rooms);
@@ -145,6 +162,8 @@ impl<W: CallObserver, E: Sink> ScenarioRunner<'_, '_, '_, '_, '_, '_, '_, W, E> 
             (E.has_failed self.old.complaints.now) }
         ensures remains { Remains self.old.complaints.ghost_name self.new.complaints.ghost_name
             self.old.run.now self.new.run.now
+            (subject_at self.old.notes.now.critic.scenario)
+            (subject_at self.new.notes.now.critic.scenario)
             (W.tells self.old.watch.now) (W.tells self.new.watch.now)
             (W.holds self.old.watch.now) (W.holds self.new.watch.now) }
         ensures plays { RunsLine (option_copied self.old.run.now.only) (W.tells self.old.watch.now)
@@ -158,6 +177,11 @@ impl<W: CallObserver, E: Sink> ScenarioRunner<'_, '_, '_, '_, '_, '_, '_, W, E> 
             (point core.new self.new.notes.now.stand self.new.notes.now.critic.expected
             (K.contents writer.new) gathered.new) }
         ensures uncounted { self.new.complained ≡ self.old.complained }
+        ensures reports { OnOk result (ReportsLine
+            (scope_of (subject_at self.old.notes.now.critic.scenario) self.old.run.now.list.now)
+            (option_copied self.old.run.now.only) core.old self.old.notes.now.stand line.now
+            self.old.notes.now.critic.expected (E.contents self.old.complaints.now)
+            (E.contents self.new.complaints.now)) }
     {
         let list = self.run.list;
         let turn = take_step(self.run, core, &self.notes.stand, line, self.rooms);
@@ -175,15 +199,21 @@ impl<W: CallObserver, E: Sink> LineHandler for ScenarioRunner<'_, '_, '_, '_, '_
 
     ghost leads = { λ first start bench world lines.
         Remains first.complaints.ghost_name bench.complaints.ghost_name first.run.now bench.run.now
+        (subject_at first.notes.now.critic.scenario) (subject_at bench.notes.now.critic.scenario)
         (W.tells first.watch.now) (W.tells bench.watch.now) (W.holds first.watch.now) (W.holds bench.watch.now)
         × LeadsSteps (option_copied first.run.now.only) start world first.notes.now.stand
         bench.notes.now.stand
         (tally first.complained first.notes.now.critic.expected)
         (tally bench.complained bench.notes.now.critic.expected)
+        (WritesReports (scope_of (subject_at first.notes.now.critic.scenario) first.run.now.list.now)
+        (start_at (option_copied first.run.now.only) start first.notes.now.stand
+        first.notes.now.critic.expected)
+        (E.contents first.complaints.now) (E.contents bench.complaints.now))
         (W.sees bench.watch.now first.run.now.list.now start) lines };
 
     ghost stops = { λ first start bench world fault lines.
         Remains first.complaints.ghost_name bench.complaints.ghost_name first.run.now bench.run.now
+        (subject_at first.notes.now.critic.scenario) (subject_at bench.notes.now.critic.scenario)
         (W.tells first.watch.now) (W.tells bench.watch.now) (W.holds first.watch.now) (W.holds bench.watch.now)
         × StopsSteps W.takes (option_copied first.run.now.only) start world first.notes.now.stand
         fault lines };

@@ -1,6 +1,7 @@
 //! The state of a run between two lines.
 ghost use Rattle.std.specs.Prelude.{◌≡◌, ◌||◌, IfErr, IfOk, OnErr, OnOk, false, true};
 ghost use Rattle.std.specs.Option.{option_copied};
+ghost use Rattle.std.specs.Io.KnownBytes.{Appends};
 ghost use Rattle.line_friendly.specs.Friendly.{is_passed};
 ghost use Rattle.run_lines.specs.Faults.{Fails};
 ghost use Rattle.line_names.specs.Views.{directive_view, filled_view};
@@ -10,6 +11,9 @@ ghost use Rattle.run_scenario.specs.CallAnswers.{answer_of};
 ghost use Rattle.run_scenario.specs.Judging.{awaited_after, is_complained, is_other, nothing_awaited, text_in};
 ghost use Rattle.run_scenario.specs.LineSteps.{Arrives, binds_names, learnt_by, plain_line, stand_with};
 ghost use Rattle.line_steps.specs.RunPosition.{arrived, crosses, position_following, is_due, passed};
+ghost use Rattle.run_scenario.specs.Reports.{call_report, checked_call};
+ghost use Rattle.run_scenario.specs.RunReports.{line_report, scope_of};
+ghost use Rattle.view_diagnostics.specs.Diagnostics.{subject_at};
 ghost use Rattle.run_lines.specs.declared.line_run_fault.LineRunFault.TheVariants.{NoMemory as NoRoom};
 
 use crate::call_observer::ObservedCall;
@@ -37,6 +41,7 @@ impl<'a> ScenarioState<'a> {
     pub fn new(alloc: Global, scenario: Subject<'a>, start: RunPosition<'a>) -> ScenarioState<'a>
         ensures stands { result.stand ≡ start.entry }
         ensures expects { result.critic.expected ≡ nothing_awaited }
+        ensures subject { subject_at result.critic.scenario ≡ subject_at scenario.entry }
     {
         ScenarioState {
             stand: start,
@@ -64,6 +69,11 @@ impl<'a> ScenarioState<'a> {
             (resolved_view turn.now.resolved) (answer_of turn.now.answered) self.new.stand) }
         ensures failing { Fails result (E.has_failed complaints.new)
             (takes_memory false (resolved_view turn.now.resolved) || crosses self.old.stand) }
+        ensures reports { OnOk result (Appends (E.contents complaints.old) (E.contents complaints.new)
+            (line_report (scope_of (subject_at self.old.critic.scenario) list.now) self.old.stand
+            line.now (resolved_view turn.now.resolved) (answer_of turn.now.answered)
+            self.old.critic.expected)) }
+        ensures subject { subject_at self.new.critic.scenario ≡ subject_at self.old.critic.scenario }
     {
         match self.take_turn(list, line, turn, complaints) {
             Ok(complained) => self.arrive(complained),
@@ -89,6 +99,11 @@ impl<'a> ScenarioState<'a> {
             (resolved_view turn.now.resolved) (answer_of turn.now.answered)) }
         ensures failing { Fails result (E.has_failed complaints.new)
             (takes_memory false (resolved_view turn.now.resolved)) }
+        ensures reports { OnOk result (Appends (E.contents complaints.old) (E.contents complaints.new)
+            (line_report (scope_of (subject_at self.old.critic.scenario) list.now) self.old.stand
+            line.now (resolved_view turn.now.resolved) (answer_of turn.now.answered)
+            self.old.critic.expected)) }
+        ensures subject { subject_at self.new.critic.scenario ≡ subject_at self.old.critic.scenario }
     {
         let number = self.stand.pass();
         let given = SourceLine { number, line };
@@ -136,6 +151,10 @@ impl<'a> ScenarioState<'a> {
             (plain_line line.now) (answer_of heard.now) self.new.stand) }
         ensures failing { Fails result (E.has_failed complaints.new)
             (takes_memory false (plain_line line.now) || crosses self.old.stand) }
+        ensures reports { OnOk result (Appends (E.contents complaints.old) (E.contents complaints.new)
+            (line_report (scope_of (subject_at self.old.critic.scenario) list.now) self.old.stand
+            line.now (plain_line line.now) (answer_of heard.now) self.old.critic.expected)) }
+        ensures subject { subject_at self.new.critic.scenario ≡ subject_at self.old.critic.scenario }
     {
         let number = self.stand.pass();
         let asked = JudgedLine {
@@ -172,7 +191,7 @@ impl<'a> ScenarioState<'a> {
             (self.new.stand ≡ position_following self.old.stand (directive_view directive.entry)) }
         ensures fault { IfErr result (λ fault. fault ≡ NoRoom) }
         ensures judged { IfOk result (λ complained. complained ≡ false) }
-        ensures keeps { self.new.critic.expected ≡ self.old.critic.expected }
+        ensures keeps { self.new.critic ≡ self.old.critic }
     {
         self.stand.follow(directive)?;
         Ok(false)
@@ -195,6 +214,10 @@ impl<'a> ScenarioState<'a> {
             (self.new.stand ≡ stand_with self.old.stand (call_view call.now) answer.entry) }
         ensures failing { Fails result (E.has_failed complaints.new)
             (takes_memory false (call_view call.now)) }
+        ensures reports { OnOk result (Appends (E.contents complaints.old) (E.contents complaints.new)
+            (call_report (subject_at self.old.critic.scenario) list.now self.old.stand.known
+            (checked_call given.entry call.now) answer.entry self.old.critic.expected)) }
+        ensures subject { subject_at self.new.critic.scenario ≡ subject_at self.old.critic.scenario }
     {
         let asked = JudgedLine {
             given,

@@ -1,6 +1,5 @@
 //! Pieces of text.
-ghost use Rattle.std.specs.Prelude.{◌≡◌, ◌+◌, ◌<◌, ◌≤◌, ◌++◌, [], length, false, is_err, IfSome, IfNone, Some, None};
-ghost use Rattle.arrayvec.specs.ArrayVec.{array_vec_len};
+ghost use Rattle.std.specs.Prelude.{◌≡◌, ◌<◌, ◌++◌, [], length, false, is_err, IfSome, IfNone, Some, None};
 ghost use Rattle.own_model.specs.Call.{Call as Said};
 ghost use Rattle.own_model.specs.Listed.{start_list_of};
 ghost use Rattle.own_model.specs.StartList.{entries_of};
@@ -10,7 +9,6 @@ ghost use Rattle.run_lines.specs.RunOutput.{OutputsUnless};
 ghost use Rattle.line_grammar.specs.Read.{IsReadAs};
 ghost use Rattle.run_scenario.specs.Said.{caller_by, said_in};
 
-use arrayvec::ArrayVec;
 use core_calls::Call;
 use itoa::{Buffer, Integer};
 use list_parser::StartList;
@@ -49,25 +47,6 @@ pub fn put_three<K: Sink>(
     gathered.put(sink, first)?;
     gathered.put(sink, then)?;
     gathered.put(sink, last)
-}
-
-/// Appends a number in decimal digits to a text that has room for it.
-pub fn add_number<I: Integer, const N: usize>(text: &mut ArrayVec<u8, N>, number: I)
-    requires { array_vec_len text.old + I.MAX_STR_LEN ≤ N }
-    ensures items { text.new.items ≡ text.old.items ++ I.text number }
-    ensures len { array_vec_len text.new ≤ array_vec_len text.old + I.MAX_STR_LEN }
-{
-    let mut digits = Buffer::new();
-    add(text, digits.format(number).as_bytes());
-}
-
-/// Appends bytes to a text that has room for them.
-pub fn add<const N: usize>(text: &mut ArrayVec<u8, N>, more: &[u8])
-    requires { array_vec_len text.old + length more.now ≤ N }
-    ensures items { text.new.items ≡ text.old.items ++ more.now }
-    ensures len { array_vec_len text.new ≡ array_vec_len text.old + length more.now }
-{
-    let _ = text.try_extend_from_slice(more);
 }
 
 /// Returns the name and the call of an engine's line, if it is a call. `call` is what was parsed of the line.

@@ -65,6 +65,13 @@ impl<S: Service + Drop> Server<S> {
         })
     }
 
+    /// Returns the service.
+    pub fn service(&self) -> &S
+        ensures { result.now ≡ self.now.service }
+    {
+        &self.service
+    }
+
     /// Returns whether a session is open under this key.
     pub fn is_open(&self, id: SessionId) -> bool
         ensures session { result ≡ is_some (slab.get self.now.sessions id.0) }

@@ -23,7 +23,7 @@ use Rattle.server_frame.proofs.PlaceLaws.{table_has_place}
 use Rattle.server_frame.proofs.RowLaws.{IsNoRows, read_from, no_session_by_rows}
 use Rattle.server_kinds.specs.Host.{Table, offer_of, table_of, rows_by, rows_of, capacity_of, HasSession, HasPlace, Works, HasNoSessions, IsNew}
 use Rattle.server_kinds.specs.declared.any_server.AnyServer.{AnyServer}
-use Rattle.server_kinds.specs.declared.any_server.AnyServer.TheVariants.{Log, Files}
+use Rattle.server_kinds.specs.declared.any_server.AnyServer.TheVariants.{Log, Files, Declared}
 
 -- ---- rows
 
@@ -51,6 +51,7 @@ module _ (table : Table) (store : Store) (id : ℕ) where
 pub row_offer : (store : Store) (host : AnyServer) (id : ℕ) (row : Row Labelled) → get (rows_of store host) id ≡ Some row → services.offer_of row.value.state ≡ offer_of host
 row_offer store (Log server) id row there = sym (ap (λ (r : Row Labelled). services.offer_of r.value.state) (row_is (table_of (Log server)) store id row there).is)
 row_offer store (Files server) id row there = sym (ap (λ (r : Row Labelled). services.offer_of r.value.state) (row_is (table_of (Files server)) store id row there).is)
+row_offer store (Declared server) id row there = sym (ap (λ (r : Row Labelled). services.offer_of r.value.state) (row_is (table_of (Declared server)) store id row there).is)
 
 -- a session with a row is open
 pub has_session : (store : Store) (host : AnyServer) (id : ℕ) → IsSome (get (rows_of store host) id) → HasSession host id

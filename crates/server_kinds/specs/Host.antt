@@ -1,10 +1,11 @@
 -- A server of any service, as the model sees it.
-use Rattle.std.specs.Prelude.{◌≡◌, ℕ, ◌+◌, ◌*◌, ◌<◌, ◌≤◌, [], Option, None}
+use Rattle.std.specs.Prelude.{◌≡◌, ℕ, ◌+◌, ◌*◌, ◌<◌, ◌≤◌, List, [], Option, None}
 use Rattle.std.specs.FinMap.{empty}
 use Rattle.slab.specs.Slab.{Slab, ContainsKey, slab_len}
 use Rattle.own_model.specs.NatMap.{NatMap}
+use Rattle.own_model.specs.ObjectKinds.{ObjectKind}
 use Rattle.own_model.specs.Offer.{Offer}
-use Rattle.own_model.specs.Offer.Offer.{OffersLog, OffersFiles}
+use Rattle.own_model.specs.Offer.Offer.{OffersLog, OffersFiles, OffersObjects}
 use Rattle.own_model.specs.Session.{Labelled, donation_refusal}
 use Rattle.region_map.specs.Regions.{Regions}
 use Rattle.dataspace_core.specs.Share.{Share}
@@ -18,13 +19,17 @@ use Rattle.file_service.specs.SeparateBuffer.{lends_aside}
 use Rattle.session_nodes.specs.SessionBuffer.{buffer_key}
 use Rattle.file_service.specs.Session.{value_of, IsSession as IsFileSession}
 use Rattle.file_service.specs.declared.session.FileSession.{FileSession}
+use Rattle.object_service.specs.SeparateBuffer as apart
+use Rattle.object_service.specs.Session as held
+use Rattle.object_service.specs.declared.session.ObjectSession.{ObjectSession}
 use Rattle.server_kinds.specs.declared.any_server.AnyServer.{AnyServer}
-use Rattle.server_kinds.specs.declared.any_server.AnyServer.TheVariants.{Log, Files}
+use Rattle.server_kinds.specs.declared.any_server.AnyServer.TheVariants.{Log, Files, Declared}
 
 -- what the server offers to each of its sessions
 abbrev pub offer_of : AnyServer → Offer
 offer_of (Log server) = OffersLog
 offer_of (Files server) = OffersFiles
+offer_of (Declared server) = OffersObjects server.service
 
 -- what a server stores: its sessions and its map. It also has what the service stores for a session: its value to its
 -- client, its buffer, what is true of it, and that neither depends on the buffer's bytes
@@ -61,9 +66,22 @@ file_table sessions map = record {
   map = map;
 }
 
+-- a declared server stores the same, with the objects of its kinds in place of files
+abbrev pub object_table : List ObjectKind → Slab (Session ObjectSession) → Regions → Table
+object_table kinds sessions map = record {
+  State = ObjectSession;
+  value = held.value_of kinds;
+  buffer = λ session. buffer_key session.buffer;
+  kept = held.IsSession;
+  aside = apart.lends_aside kinds;
+  sessions = sessions;
+  map = map;
+}
+
 abbrev pub table_of : AnyServer → Table
 table_of (Log server) = log_table server.sessions server.map
 table_of (Files server) = file_table server.sessions server.map
+table_of (Declared server) = object_table server.service server.sessions server.map
 
 -- the sessions that it serves, by their keys
 abbrev pub rows_by : Store → Table → NatMap (Row Labelled)

@@ -4,7 +4,9 @@ ghost use Rattle.std.specs.FinMap.{get, insert};
 ghost use Rattle.std.specs.Result.{result_err};
 ghost use Rattle.own_model.specs.Account.{shortage};
 ghost use Rattle.own_model.specs.Donation.{raised};
+ghost use Rattle.own_model.specs.ObjectKinds.{AreObjectKinds};
 ghost use Rattle.own_model.specs.Offer.{offer_of_service};
+ghost use Rattle.own_model.specs.Offer.Offer.{OffersObjects};
 ghost use Rattle.own_model.specs.Session.{donation_refusal, state_at_first};
 ghost use Rattle.dataspace_core.specs.Store.{Store, account_in, ram_limits_in, caps_limits_in, RaisesPart};
 ghost use Rattle.server_frame.specs.Frame.{AtRow, row_served, sessions_of, IsServer, OpensSession, ServesSession, ClosesSession};
@@ -16,6 +18,8 @@ use core_calls::{LONGEST_LABEL, Reply};
 use dataspace_core::Memory;
 use file_service::FileService;
 use log_service::LogService;
+use object_kinds::ObjectKind;
+use object_service::ObjectService;
 use server_frame::{Effect, Server};
 use std::alloc::Global;
 use trade_base::{AccountId, Caps, DsId, NoMemory, Ram, Refusal, Service, SessionId};
@@ -27,12 +31,16 @@ pub enum AnyServer {
     Log(Server<LogService>),
     /// A server of the file service.
     Files(Server<FileService>),
+    /// A declared server.
+    Declared(Server<ObjectService>),
 }
 
 impl AnyServer {
+    ghost use Rattle.std.specs.Option.{option_copied};
+    ghost use Rattle.object_kinds.specs.Offered.{offered_kinds};
     ghost use Rattle.server_kinds.specs.Host.{offer_of, rows_of, Admits, HasSession, IsNew, Serves, StaysServer};
 
-    /// Returns a server of a service without sessions, with places for `sessions`, on a machine of `pages` pages. Returns
+    /// Returns a server of a built-in service without sessions, with places for `sessions`, on a machine of `pages` pages. Returns
     /// `NoMemory` if the host is out of memory.
     #[tactic(auto, using(crate::proofs::HostLaws::new_host))]
     pub fn boot(
@@ -59,6 +67,35 @@ impl AnyServer {
         }
     }
 
+    /// Returns a declared server without sessions, which offers objects of these kinds, as `boot` returns one of a service.
+    #[tactic(auto, using(crate::proofs::HostLaws::new_host))]
+    pub fn boot_declared(
+        alloc: Global,
+        kinds: Vec<ObjectKind>,
+        sessions: usize,
+        pages: usize,
+    ) -> Result<AnyServer, NoMemory>
+        requires kinds { AreObjectKinds kinds.items }
+        requires pages { pages ≤ 4096 }
+        ensures offer { IfOk result (λ host. offer_of host ≡ OffersObjects kinds.items) }
+        ensures new { IfOk result (λ host. (store : Store) →
+            ram_limits_in store ≡ pages * 4096 → caps_limits_in store ≤ sessions * 2 + 1 →
+            IsNew store host) }
+    {
+        let server = Server::boot(alloc, ObjectService::new(kinds), sessions, pages)?;
+        Ok(AnyServer::Declared(server))
+    }
+
+    /// Returns the kinds of objects that a declared server offers, or `None` for a server of a built-in service.
+    pub fn kinds(&self) -> Option<&[ObjectKind]>
+        ensures { option_copied result ≡ offered_kinds (offer_of self.now) }
+    {
+        match self {
+            AnyServer::Log(_) | AnyServer::Files(_) => None,
+            AnyServer::Declared(server) => Some(server.service().kinds()),
+        }
+    }
+
     /// Returns whether a session is open under this key.
     pub fn is_open(&self, id: SessionId) -> bool
         ensures { (store : Store) → result ≡ is_some (get (rows_of store self.now) id.0) }
@@ -66,6 +103,7 @@ impl AnyServer {
         match self {
             AnyServer::Log(server) => server.is_open(id),
             AnyServer::Files(server) => server.is_open(id),
+            AnyServer::Declared(server) => server.is_open(id),
         }
     }
 
@@ -78,6 +116,7 @@ impl AnyServer {
         match self {
             AnyServer::Log(server) => server.account(id),
             AnyServer::Files(server) => server.account(id),
+            AnyServer::Declared(server) => server.account(id),
         }
     }
 
@@ -90,6 +129,7 @@ impl AnyServer {
         match self {
             AnyServer::Log(server) => server.buffer(id),
             AnyServer::Files(server) => server.buffer(id),
+            AnyServer::Declared(server) => server.buffer(id),
         }
     }
 
@@ -120,6 +160,7 @@ impl AnyServer {
         match self {
             AnyServer::Log(server) => open(server, memory, client, label, ram, caps),
             AnyServer::Files(server) => open(server, memory, client, label, ram, caps),
+            AnyServer::Declared(server) => open(server, memory, client, label, ram, caps),
         }
     }
 
@@ -148,6 +189,7 @@ impl AnyServer {
         match self {
             AnyServer::Log(server) => server.upgrade(memory, id, ram, caps),
             AnyServer::Files(server) => server.upgrade(memory, id, ram, caps),
+            AnyServer::Declared(server) => server.upgrade(memory, id, ram, caps),
         }
     }
 
@@ -173,6 +215,7 @@ impl AnyServer {
         match self {
             AnyServer::Log(server) => server.serve(memory, id, request, reply),
             AnyServer::Files(server) => server.serve(memory, id, request, reply),
+            AnyServer::Declared(server) => server.serve(memory, id, request, reply),
         }
     }
 
@@ -186,6 +229,7 @@ impl AnyServer {
         match self {
             AnyServer::Log(server) => server.close(memory, id),
             AnyServer::Files(server) => server.close(memory, id),
+            AnyServer::Declared(server) => server.close(memory, id),
         }
     }
 }
@@ -209,6 +253,7 @@ fn open<S: server_frame::Service + Drop>(
         OpensSession client.0 ram.0 caps.0 id.0 (S.first server.old.service label.now) memory.old memory.new
         (sessions_of (S.value server.old.service) S.buffer server.old.sessions memory.old server.old.map)
         (sessions_of (S.value server.new.service) S.buffer server.new.sessions memory.new server.new.map)) }
+    ensures service { server.new.service ≡ server.old.service }
     ensures places { server.new.sessions.capacity ≡ server.old.sessions.capacity }
     ensures machine { ram_limits_in memory.new ≡ ram_limits_in memory.old }
     ensures err { OnErr result (server.new ≡ server.old) }

@@ -7,3 +7,4 @@ mod any_server;
 pub use any_server::AnyServer;
 pub use file_service::FileService;
 pub use log_service::LogService;
+pub use object_service::ObjectService;

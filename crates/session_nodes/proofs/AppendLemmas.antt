@@ -1,5 +1,5 @@
 -- A node that is stored, a link that is set, and a node appended after the last one.
-use Rattle.std.proofs.Common.{rules, ◌≡◌, ◌≢◌, ℕ, ◌-◌, true, false, cond, eqb, List, [], ◌∷◌, ◌++◌, length, refl, sym, ap, subst, ◌∙◌, ⊎_elim, arith}
+use Rattle.std.proofs.Common.{rules, ◌≡◌, ◌≢◌, ℕ, ◌-◌, true, false, cond, eqb, List, [], ◌∷◌, ◌++◌, drop, length, refl, sym, ap, subst, ◌∙◌, ⊎_elim, arith}
 use Rattle.std.proofs.lemmas.Bool.{cases_eq}
 use Rattle.std.proofs.lemmas.Bool.Decides.{nat_tests}
 use Rattle.std.specs.Option.{unwrap_or}
@@ -9,7 +9,7 @@ use Rattle.own_model.specs.OwnHeap.{OwnHeap, chunk_with, offset_of}
 use Rattle.own_model.proofs.NatMapLemmas.{get-insert}
 use Rattle.sliced_heap.specs.Chain.{is_listed}
 use Rattle.session_nodes.specs.Calls.{HasBytes}
-use Rattle.session_nodes.specs.Order.{node_at, link_in, HoldsNode, StandAt}
+use Rattle.session_nodes.specs.Order.{node_at, link_in, user_at, HoldsNode, StandAt}
 use Rattle.session_nodes.specs.Index.{KeepsPlace}
 use Rattle.session_nodes.specs.Node.{StoredNode, node_of}
 use Rattle.session_nodes.specs.NodeList.{LinksTo, KeepsNode, IsFresh}
@@ -29,6 +29,9 @@ module _ (nodes later : OwnHeap) (block : ℕ) (payload : List ℕ) (stored : la
   pub stored_node : (b : ℕ) → b ≢ block → node_at later b ≡ node_at nodes b
   stored_node b other = ap (λ o. node_of (unwrap_or o [])) (stored_payload b other)
 
+  pub stored_user : (b : ℕ) → b ≢ block → user_at later b ≡ user_at nodes b
+  stored_user b other = ap (λ o. drop 96 (unwrap_or o [])) (stored_payload b other)
+
   pub stored_there : (b : ℕ) → b ≢ block → HasBytes nodes.payloads b 0 96 → HasBytes later.payloads b 0 96
   stored_there b other was = search (rules, stored_payload)
 
@@ -36,9 +39,9 @@ module _ (nodes later : OwnHeap) (block : ℕ) (payload : List ℕ) (stored : la
   stored_rest = stored ∙ ap (λ p. record nodes { payloads = p }) (sym (ap (λ (n : OwnHeap). n.payloads) stored))
 
   -- so a node with another link is all that has changed
-  pub stored_links : (first target : ℕ) → block ≢ 0 → node_at later block ≡ record (node_at nodes block) { next = target } → HasBytes later.payloads block 0 96 → KeepsPlace nodes later block →
+  pub stored_links : (first target : ℕ) → block ≢ 0 → node_at later block ≡ record (node_at nodes block) { next = target } → HasBytes later.payloads block 0 96 → KeepsPlace nodes later block → user_at later block ≡ user_at nodes block →
       LinksTo first block target first nodes later
-  stored_links first target some is there place = record {
+  stored_links first target some is there place user = record {
     linked = link_some first later block some ∙ ap (λ (n : StoredNode). n.next) is;
     links = λ b other. ap (λ (n : StoredNode). cond (eqb b 0) first n.next) (stored_node b other);
     rest = stored_rest;
@@ -49,6 +52,7 @@ module _ (nodes later : OwnHeap) (block : ℕ) (payload : List ℕ) (stored : la
           content = ap (λ (n : StoredNode). n.content) is;
           there = there;
           place = place;
+          user = user;
         }))
         (λ (other : b ≢ block). record {
           name = ap (λ (n : StoredNode). n.name) (stored_node b other);
@@ -56,6 +60,7 @@ module _ (nodes later : OwnHeap) (block : ℕ) (payload : List ℕ) (stored : la
           content = ap (λ (n : StoredNode). n.content) (stored_node b other);
           there = stored_there b other was;
           place = place_same nodes later b (stored_payload b other);
+          user = stored_user b other;
         })
         (cases_eq b block);
   }
@@ -110,6 +115,7 @@ module _ (first last : ℕ) (nodes mid later : OwnHeap) (contents : NatMap (List
         there = file.there;
         chunk = chunk_same (b - 16);
         offset = offset_same (b - 16);
+        user = file.user ∙ stored_user nodes mid block payload stored b other;
         bytes = λ some. refl;
       }
 

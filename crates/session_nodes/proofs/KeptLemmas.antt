@@ -1,5 +1,5 @@
 -- Nodes that stay while others are created, changed and freed.
-use Rattle.std.proofs.Common.{rules, ◌≡◌, ◌≢◌, ℕ, zero, suc, ◌<◌, ◌≤◌, true, false, cond, eqb, List, [], ◌∷◌, ◌++◌, length, take, Option, refl, sym, ap, subst, ◌∙◌, arith}
+use Rattle.std.proofs.Common.{rules, ◌≡◌, ◌≢◌, ℕ, zero, suc, ◌-◌, ◌<◌, ◌≤◌, true, false, cond, eqb, List, [], ◌∷◌, ◌++◌, length, take, Option, refl, sym, ap, subst, ◌∙◌, inl, inr, arith}
 use Rattle.std.proofs.lemmas.Bool.{cases_eq}
 use Rattle.std.proofs.lemmas.Bool.Decides.{nat_tests}
 use Rattle.std.specs.Prelude.{IsSome}
@@ -7,6 +7,7 @@ use Rattle.std.specs.Option.{unwrap_or}
 use Rattle.std.specs.FinMap.{get, remove, len}
 use Rattle.own_model.specs.NatMap.{NatMap}
 use Rattle.own_model.specs.OwnHeap.{OwnHeap, chunk_with, offset_of}
+use Rattle.own_model.specs.Sliced.{sliced_header, sliced_size}
 use Rattle.own_model.proofs.NatMapLemmas.{some_of, get-remove}
 use Rattle.own_model.proofs.Totals.{len-remove_at}
 use Rattle.sliced_heap.specs.Chain.{is_listed, has_no_repeat}
@@ -57,6 +58,7 @@ stays_then nodes mid later contents between after b first second = record {
   there = second.there;
   chunk = second.chunk ∙ first.chunk;
   offset = second.offset ∙ first.offset;
+  user = second.user ∙ first.user;
   bytes = λ some. ap (get after) (sym first.content) ∙ second.bytes (subst (λ n. 0 < n) (sym first.size) some) ∙ ap (get between) first.content ∙ first.bytes some;
 }
 
@@ -73,7 +75,18 @@ module _ (nodes later : OwnHeap) (contents after : NatMap (List ℕ)) (b : ℕ) 
   same_bytes = search (rules, bytes_by)
 
   pub is_node : length nodes.shape.chunks ≤ length later.shape.chunks → HoldsNode nodes contents b → HoldsNode later after b
-  is_node more is = search rules
+  is_node more is = record {
+    there = stays.there;
+    place = omega (arith, stays.chunk, more, is.place);
+    content = λ some.
+        let was : 0 < (node_at nodes b).size = subst (λ n. 0 < n) stays.size some in
+        let has = is.content was in
+        record {
+          payload = has.payload;
+          there = ap (get after) stays.content ∙ stays.bytes was ∙ has.there;
+          long = has.long ∙ ap (λ n. sliced_size n - sliced_header) (sym stays.size);
+        };
+  }
 
 -- ---- the last one
 
@@ -111,7 +124,16 @@ module _ (first last : ℕ) (nodes later : OwnHeap) (contents after : NatMap (Li
     own_later b t other some_x some_b same = grind (arith, nat_tests)
 
     apart_set : (a b : ℕ) → is_listed blocks a ≡ true → is_listed blocks b ≡ true → 0 < (node_at later a).size → 0 < (node_at later b).size → (node_at later a).content ≡ (node_at later b).content → a ≡ b
-    apart_set a b s t some_a some_b same = search (rules, own_later, cases_eq, apart_stays)
+    apart_set a b s t some_a some_b same = elim (cases_eq a x) [
+      | inl at_a ↦ elim (cases_eq b x) [
+        | inl at_b ↦ at_a ∙ sym at_b
+        | inr other ↦ absurd (own_later b t other (subst (λ y. 0 < (node_at later y).size) at_a some_a) some_b (ap (λ y. (node_at later y).content) (sym at_a) ∙ same))
+      ]
+      | inr other ↦ elim (cases_eq b x) [
+        | inl at_b ↦ absurd (own_later a s other (subst (λ y. 0 < (node_at later y).size) at_b some_b) some_a (ap (λ y. (node_at later y).content) (sym at_b) ∙ sym same))
+        | inr apart ↦ apart_stays a b (stays a s other) (stays b t apart) s t some_a some_b same
+      ]
+    ]
 
     pub stand_set : StandAt first last later after blocks
     stand_set = search (rules, leads_kept, is_node, cases_eq, apart_set)

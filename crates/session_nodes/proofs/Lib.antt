@@ -39,6 +39,7 @@ pub mod SourceLemmas
 pub mod SearchLemmas
 pub mod TailNodeLemmas
 pub mod AppendLemmas
+pub mod UserLemmas
 pub mod EnterLemmas
 pub mod TakenLemmas
 pub mod SeekLemmas
@@ -48,3 +49,4 @@ pub mod SetLemmas
 pub mod ReplaceLemmas
 pub mod RemoveLemmas
 pub mod DropLemmas
+pub mod BufferRequestLemmas

@@ -21,7 +21,7 @@ use Rattle.session_nodes.proofs.FurnishedLemmas.{nodes_are}
 use Rattle.session_nodes.proofs.NodePlaceLemmas.{one_payload}
 
 module _ {heap : Heap} {sliced : SlicedHeap} {store : Store} {regions : Regions} (f : HasSoundHeaps heap sliced store regions) (address : ℕ)
-    (has : HasBytes (heap_in heap (holding_of sliced store regions)).payloads address 0 96) (into count : ℕ) (some : 1 ≤ count) (few : into + count ≤ 96) where
+    {size : ℕ} (has : HasBytes (heap_in heap (holding_of sliced store regions)).payloads address 0 size) (into count : ℕ) (some : 1 ≤ count) (few : into + count ≤ size) where
   abbrev payload : List ℕ
   payload = payload_in (heap_in heap (holding_of sliced store regions)).payloads address
 
@@ -62,3 +62,9 @@ module _ {heap : Heap} {sliced : SlicedHeap} {store : Store} {regions : Regions}
         ap (λ (l : List ℕ). slice_range l offset (offset + count)) node_paid.bytes_are
         ∙ payload_read heap store regions ds offset (address + into) count held
         ∙ (λ i. slice_range (same_payload i) (far i) (far i + count))
+
+  -- where a payload's bytes are held, the node's are found
+  pub finds_held : (ds base : ℕ) →
+      ((bytes : List ℕ) (from n : ℕ) → get (heap_at heap store regions).payloads address ≡ Some bytes → 1 ≤ n → from + n ≤ length bytes → HoldsRange heap store regions ds (base + from) (address + from) n) →
+      FindsNode heap store regions ds (base + into) address into count
+  finds_held ds base held = finds_node ds (base + into) (held payload into count payload_there some (omega (arith, has.within, few)))

@@ -21,7 +21,7 @@ use Rattle.session_nodes.proofs.NodeFoundLemmas.{same_at, same_payload}
 use Rattle.session_nodes.proofs.NodeStoreLemmas.{pokes, poked_account, poked_changes}
 
 module _ {heap : Heap} {sliced : SlicedHeap} {store : Store} {regions : Regions} (f : HasSoundHeaps heap sliced store regions) (address : ℕ)
-    (has : HasBytes (heap_in heap (holding_of sliced store regions)).payloads address 0 96) (into ds offset : ℕ) (bytes : List ℕ) (some : 1 ≤ length bytes) (few : into + length bytes ≤ 96)
+    {size : ℕ} (has : HasBytes (heap_in heap (holding_of sliced store regions)).payloads address 0 size) (into ds offset : ℕ) (bytes : List ℕ) (some : 1 ≤ length bytes) (few : into + length bytes ≤ size)
     (held : HoldsRange heap store regions ds offset (address + into) (length bytes)) (are : are_bytes bytes ≡ true) {new : Store}
     (becomes : PartBecomes (heap_payer heap) (part_with_bytes (part (heap_payer heap) store) ds offset bytes) store new) where
   changes : ChangesNodes (payer_of sliced) heap store regions heap new regions
@@ -44,5 +44,5 @@ module _ {heap : Heap} {sliced : SlicedHeap} {store : Store} {regions : Regions}
   payload_now : get (heap_in heap (holding_of sliced new regions)).payloads address ≡ Some (with_part (payload_in (heap_in heap (holding_of sliced store regions)).payloads address) into bytes)
   payload_now = search (rules, stored_is, get-insert_same)
 
-  pub stored_there : HasBytes (heap_in heap (holding_of sliced new regions)).payloads address 0 96
+  pub stored_there : HasBytes (heap_in heap (holding_of sliced new regions)).payloads address 0 size
   stored_there = search (rules, payload_now, length-with_part)

@@ -1,5 +1,5 @@
 -- A node that is removed: the one before it is linked to the one behind it, and the others stay.
-use Rattle.std.proofs.Common.{rules, ◌≡◌, ◌≢◌, ℕ, ◌-◌, ◌<◌, true, false, cond, eqb, List, [], ◌∷◌, ◌++◌, length, refl, ap, ◌∙◌, arith}
+use Rattle.std.proofs.Common.{rules, ◌≡◌, ◌≢◌, ℕ, ◌-◌, ◌<◌, true, false, cond, eqb, List, [], ◌∷◌, ◌++◌, drop, length, refl, ap, ◌∙◌, arith}
 use Rattle.std.proofs.lemmas.Bool.Decides.{nat_tests}
 use Rattle.std.specs.Option.{unwrap_or}
 use Rattle.std.specs.FinMap.{get}
@@ -9,7 +9,8 @@ use Rattle.own_model.specs.NatMap.{NatMap}
 use Rattle.own_model.specs.OwnHeap.{OwnHeap, chunk_with, offset_of}
 use Rattle.own_model.proofs.NatMapLemmas.{get-remove}
 use Rattle.sliced_heap.specs.Chain.{is_listed}
-use Rattle.session_nodes.specs.Order.{node_at, link_in, StandAt}
+use Rattle.session_nodes.specs.Calls.{HasBytes}
+use Rattle.session_nodes.specs.Order.{node_at, link_in, user_at, StandAt}
 use Rattle.session_nodes.specs.Links.{last_of}
 use Rattle.session_nodes.specs.Node.{StoredNode, node_of}
 use Rattle.session_nodes.specs.NodeList.{IsFound, LinksTo}
@@ -46,8 +47,11 @@ module _ (first last : ℕ) (nodes mid later : OwnHeap) (contents after : NatMap
   left_node : (b : ℕ) → b ≢ address → node_at later b ≡ node_at mid b
   left_node b other = ap (λ o. node_of (unwrap_or o [])) (left_payload b other)
 
+  left_user : (b : ℕ) → b ≢ address → HasBytes nodes.payloads b 0 96 → user_at later b ≡ user_at nodes b
+  left_user b other was = ap (λ o. drop 96 (unwrap_or o [])) (left_payload b other) ∙ (links.files b was).user
+
   left_stays : OthersStay nodes later contents after all address
-  left_stays b t other = let apart = not_old first last nodes contents name previous address node found b t other in grind (arith, nat_tests, left_node, left_payload, chunk_same, offset_same, apart)
+  left_stays b t other = let apart = not_old first last nodes contents name previous address node found b t other in grind (arith, nat_tests, left_node, left_payload, left_user, chunk_same, offset_same, apart)
 
   left_link : (b : ℕ) → b ≢ address → link_in first_later later b ≡ link_in first_later mid b
   left_link b other = ap (λ (n : StoredNode). cond (eqb b 0) first_later n.next) (left_node b other)

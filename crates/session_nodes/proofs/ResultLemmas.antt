@@ -39,3 +39,8 @@ err_case (Err e) mapped d Q cases variant is = (e, (refl, cases))
 -- what is so of the error
 pub err_and : {X D : Type 0} (r : Result X D) (d : D) (P : D → Type 0) → r ≡ Err d → IsErrAnd r P → P d
 err_and r d P is so = subst (λ q. IsErrAnd q P) is so
+
+-- what is Ok after its error was mapped was Ok before
+pub was_ok : {T E D : Type 0} (self : Result T E) (mapped : Result T D) (x : T) (Q : E → Type 0) → MatchResult self (λ y. mapped ≡ Ok y) Q → is_ok mapped ≡ is_ok self → mapped ≡ Ok x → self ≡ Ok x
+was_ok (Ok y) mapped x Q cases variant is = let e : y ≡ x = cc in ap Ok e
+was_ok (Err e) mapped x Q cases variant is = absurd (true≢false (ap is_ok (sym is) ∙ variant))

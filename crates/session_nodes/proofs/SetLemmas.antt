@@ -9,7 +9,7 @@ use Rattle.session_nodes.specs.Calls.{HasBytes}
 use Rattle.session_nodes.specs.Order.{node_at, nodes_from, HasContent, HoldsNode, StandAt}
 use Rattle.session_nodes.specs.Node.{StoredNode}
 use Rattle.session_nodes.specs.NodeList.{IsFound, Sets}
-use Rattle.session_nodes.proofs.AppendLemmas.{stored_node, stored_there, stored_rest}
+use Rattle.session_nodes.proofs.AppendLemmas.{stored_node, stored_user, stored_there, stored_rest}
 use Rattle.session_nodes.specs.Order.{OthersStay}
 use Rattle.session_nodes.proofs.KeptLemmas.{stand_set, blocks_are, ChunksStay, OffsetsStay}
 use Rattle.session_nodes.proofs.SearchLemmas.{in_blocks, not_old}
@@ -45,6 +45,7 @@ module _ (first last : ℕ) (nodes later : OwnHeap) (contents after : NatMap (Li
         there = stored_there nodes later address payload stored b other (found.stand.each b t).there;
         chunk = chunk_same (b - 16);
         offset = offset_same (b - 16);
+        user = stored_user nodes later address payload stored b other;
         bytes = λ some_b. gone (node_at nodes b).content (λ some. not_old first last nodes contents name previous address node found b t other some_b some);
       }
 

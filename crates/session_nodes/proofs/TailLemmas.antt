@@ -5,7 +5,7 @@ use Rattle.std.proofs.lemmas.Bool.Decides.{nat_tests}
 use Rattle.std.proofs.lemmas.List.{length-take-le}
 use Rattle.trade_base.specs.Bytes.{with_bytes}
 use Rattle.trade_base.specs.Word.{word_of, word_bytes}
-use Rattle.trade_base.proofs.ElsewhereLemmas.{range_before, range_after}
+use Rattle.trade_base.proofs.ElsewhereLemmas.{drop_after, range_before, range_after}
 use Rattle.own_model.specs.OwnState.{with_part}
 use Rattle.own_model.proofs.ByteLemmas.{length-with_part, with_part-within}
 use Rattle.own_model.proofs.NatMapLemmas.{get-insert, get-insert_same}
@@ -70,10 +70,11 @@ module _ (old new : Stock) (block offset : ℕ) (bytes : List ℕ) (far : 64 ≤
       there = ap is_some here ∙ sym has.there;
       long = ap length (ap (λ o. unwrap_or o []) here) ∙ length-with_part p offset bytes;
       front = ap (take 64) tail_payload ∙ range_before p offset bytes 0 64 far (omega (arith, fits, has.within));
+      user = ap (drop 96) tail_payload ∙ drop_after p offset bytes 96 fits (omega (arith, fits, has.within));
     })
     | inr other ↦
         let e = tail_others b other in
-        record { there = ap is_some e; long = ap (λ o. length (unwrap_or o [])) e; front = ap (λ o. take 64 (unwrap_or o [])) e }
+        record { there = ap is_some e; long = ap (λ o. length (unwrap_or o [])) e; front = ap (λ o. take 64 (unwrap_or o [])) e; user = ap (λ o. drop 96 (unwrap_or o [])) e }
   ]
 
   pub tails_stored : ChangesTails old new

@@ -40,6 +40,7 @@ module _ (first last : ℕ) (old new : Stock) (tails : ChangesTails old new) (bl
         there = tail_there old.nodes new.nodes b (tails.fronts b) (stand.each b t).there;
         chunk = ap (λ (s : Stock). chunk_with s.nodes (b - 16)) tails.rest;
         offset = ap (λ (s : Stock). offset_of s.nodes (b - 16)) tails.rest;
+        user = (tails.fronts b).user;
         bytes = λ some. refl;
       }
 

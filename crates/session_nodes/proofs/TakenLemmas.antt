@@ -1,5 +1,5 @@
 -- A block that is allocated for a new node: the other nodes stay, and it is where the model has it.
-use Rattle.std.proofs.Common.{◌≡◌, ◌≢◌, ℕ, ◌+◌, ◌-◌, ◌^◌, ◌<◌, ◌≤◌, true, false, List, [], ◌∷◌, length, Option, Some, None, is_some, refl, sym, ap, subst, ◌∙◌, arith}
+use Rattle.std.proofs.Common.{◌≡◌, ◌≢◌, ℕ, ◌+◌, ◌-◌, ◌^◌, ◌<◌, ◌≤◌, true, false, List, [], ◌∷◌, drop, length, Option, Some, None, is_some, refl, sym, ap, subst, ◌∙◌, arith}
 use Rattle.std.proofs.lemmas.Bool.Decides.{nat_tests}
 use Rattle.std.proofs.lemmas.Option.{none-some}
 use Rattle.std.specs.Option.{unwrap_or}
@@ -17,8 +17,8 @@ use Rattle.own_model.proofs.ByteLemmas.{length-zeros}
 use Rattle.own_model.proofs.NatMapLemmas.{some_of, get-insert, get-insert_same}
 use Rattle.heap_core.proofs.TakesGrownLemmas.{growth_fits}
 use Rattle.sliced_heap.specs.Chain.{is_listed}
-use Rattle.session_nodes.specs.Calls.{TakesNode, TakesInHole, TakesInChunk}
-use Rattle.session_nodes.specs.Order.{node_at, StandAt}
+use Rattle.session_nodes.specs.Calls.{HasBytes, TakesNode, TakesInHole, TakesInChunk}
+use Rattle.session_nodes.specs.Order.{node_at, user_at, StandAt}
 use Rattle.session_nodes.specs.SoundHeaps.{Stock}
 use Rattle.session_nodes.specs.NodeList.{IsFresh, taken_in}
 use Rattle.session_nodes.specs.Node.{StoredNode, node_of}
@@ -31,6 +31,7 @@ pub record Takes (asked first last : ℕ) (blocks : List ℕ) (block : ℕ) (old
   pub stand : StandAt first last new.nodes new.contents blocks
   pub stay : AllStay old.nodes new.nodes old.contents new.contents blocks
   pub fresh : IsFresh first new.nodes block
+  pub room : HasBytes new.nodes.payloads block 0 asked
   pub same : (b : ℕ) → is_listed blocks b ≡ true → get new.nodes.payloads b ≡ get old.nodes.payloads b
   pub chunk : chunk_with new.nodes (block - 16) ≡ (taken_in asked old).spot.chunk
   pub offset : offset_of new.nodes (block - 16) ≡ (taken_in asked old).spot.offset
@@ -52,22 +53,30 @@ module _ (first last : ℕ) (nodes later : OwnHeap) (contents : NatMap (List ℕ
   same_node : (b : ℕ) → is_listed blocks b ≡ true → node_at later b ≡ node_at nodes b
   same_node b t = ap (λ o. node_of (unwrap_or o [])) (same_payload b t)
 
+  same_user : (b : ℕ) → is_listed blocks b ≡ true → user_at later b ≡ user_at nodes b
+  same_user b t = ap (λ o. drop 96 (unwrap_or o [])) (same_payload b t)
+
   pub taken_stays : AllStay nodes later contents contents blocks
-  taken_stays b t = grind (arith, nat_tests, same_node, same_payload)
+  taken_stays b t = grind (arith, nat_tests, same_node, same_payload, same_user)
 
   pub stand_taken : StandAt first last later contents blocks
   stand_taken = stand_kept first last nodes later contents contents blocks stand more taken_stays (λ b t. ap (λ (n : StoredNode). n.next) (same_node b t))
 
-  -- the block is none of the list
+  -- the block has a payload
+  pub room_taken : (n : ℕ) → n ≤ length payload → HasBytes later.payloads block 0 n
+  room_taken n long =
+      let there : get later.payloads block ≡ Some payload = ap (λ m. get m block) is ∙ get-insert_same nodes.payloads block payload block refl in
+      record { there = ap is_some there; within = subst (λ (o : Option (List ℕ)). 0 + n ≤ length (unwrap_or o [])) (sym there) (omega (arith, long)) }
+
+  -- and is none of the list
   pub fresh_taken : 0 < block → block < 2 ^ 64 → 96 ≤ length payload → chunk_with later (block - 16) < length later.shape.chunks → IsFresh first later block
   fresh_taken some low long place =
-      let there : get later.payloads block ≡ Some payload = ap (λ m. get m block) is ∙ get-insert_same nodes.payloads block payload block refl in
       let unlisted : is_listed blocks block ≡ false = elim (is_listed blocks block) as (λ t. is_listed blocks block ≡ t → t ≡ false) [
         | true ↦ λ t. absurd (not_it block t refl)
         | false ↦ λ _. refl
       ] refl in
       record {
-        there = record { there = ap is_some there; within = subst (λ (o : Option (List ℕ)). 0 + 96 ≤ length (unwrap_or o [])) (sym there) (omega (arith, long)) };
+        there = room_taken 96 long;
         small = low;
         place = place;
         free = ap (λ xs. is_listed (0 ∷ xs) block) (blocks_are first last later contents blocks stand_taken) ∙ grind (arith, nat_tests);
@@ -77,11 +86,11 @@ module _ (first last : ℕ) (nodes later : OwnHeap) (contents : NatMap (List ℕ
 taken_least : (size n : ℕ) → size ≤ n → size ≤ size_taken size n
 taken_least size n enough = grind (arith, nat_tests)
 
-long_taken : (asked size : ℕ) → 96 ≤ asked → block_size asked ≤ size → 96 ≤ length (zeros (size_taken (block_size asked) size - 16))
-long_taken asked size least enough =
+long_taken : (asked size : ℕ) → block_size asked ≤ size → asked ≤ length (zeros (size_taken (block_size asked) size - 16))
+long_taken asked size enough =
     let e = length-zeros (size_taken (block_size asked) size - 16) in
     let fits : asked + 16 ≤ block_size asked = omega arith in
-    omega (arith, e, fits, least, taken_least (block_size asked) size enough)
+    omega (arith, e, fits, taken_least (block_size asked) size enough)
 
 module _ (asked first last : ℕ) (least : 96 ≤ asked) (blocks : List ℕ) (block : ℕ) (low : block < 2 ^ 64) (old : Stock) (stand : StandAt first last old.nodes old.contents blocks) (has : HasPlaces old.nodes)
     (free : get old.nodes.payloads block ≡ None) where
@@ -105,7 +114,8 @@ module _ (asked first last : ℕ) (least : 96 ≤ asked) (blocks : List ℕ) (bl
         stay = taken_stays first last old.nodes later old.contents blocks stand block payload free is chunk offset (omega (arith, count));
         same = same_payload first last old.nodes later old.contents blocks stand block payload free is chunk offset (omega (arith, count));
         fresh = fresh_taken first last old.nodes later old.contents blocks stand block payload free is chunk offset (omega (arith, count))
-            (omega (arith, t.at)) low (long_taken asked hole.size least enough) (omega (arith, here, place.0, count));
+            (omega (arith, t.at)) low (omega (arith, least, long_taken asked hole.size enough)) (omega (arith, here, place.0, count));
+        room = room_taken first last old.nodes later old.contents blocks stand block payload free is chunk offset (omega (arith, count)) asked (long_taken asked hole.size enough);
         chunk = here ∙ ap (λ (t : BlockTaken). t.spot.chunk) taken;
         offset = into ∙ ap (λ (t : BlockTaken). t.spot.offset) taken;
         shape = ap (λ (t : BlockTaken). t.shape) taken;
@@ -137,7 +147,8 @@ module _ (asked first last : ℕ) (least : 96 ≤ asked) (blocks : List ℕ) (bl
         stay = taken_stays first last old.nodes later old.contents blocks stand block payload free is chunk offset more;
         same = same_payload first last old.nodes later old.contents blocks stand block payload free is chunk offset more;
         fresh = fresh_taken first last old.nodes later old.contents blocks stand block payload free is chunk offset more
-            (omega (arith, t.at)) low (long_taken asked growth.bytes least fits) (omega (arith, place.0, place.1.0));
+            (omega (arith, t.at)) low (omega (arith, least, long_taken asked growth.bytes fits)) (omega (arith, place.0, place.1.0));
+        room = room_taken first last old.nodes later old.contents blocks stand block payload free is chunk offset more asked (long_taken asked growth.bytes fits);
         chunk = place.1.0 ∙ ap (λ (t : BlockTaken). t.spot.chunk) taken;
         offset = place.1.1 ∙ ap (λ (t : BlockTaken). t.spot.offset) taken;
         shape = ap (λ (t : BlockTaken). t.shape) taken;

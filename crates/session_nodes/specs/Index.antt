@@ -8,7 +8,7 @@ use Rattle.own_model.specs.OwnHeap.{OwnHeap}
 use Rattle.heap_core.specs.Words.{are_bytes}
 use Rattle.sliced_heap.specs.Chain.{is_listed, has_no_repeat}
 use Rattle.session_nodes.specs.Calls.{payload_in, HasBytes}
-use Rattle.session_nodes.specs.Order.{node_at, nodes_from, StandAt}
+use Rattle.session_nodes.specs.Order.{node_at, nodes_from, user_at, StandAt}
 use Rattle.session_nodes.specs.SoundHeaps.{Stock, stock, HasSoundHeaps, KeepsSession}
 use Rattle.dataspace_core.specs.Store.{Store}
 use Rattle.region_map.specs.Regions.{Regions}
@@ -121,6 +121,7 @@ pub record KeepsFront (nodes later : OwnHeap) (block : ℕ) : Type 0 where
   pub there : is_some (get later.payloads block) ≡ is_some (get nodes.payloads block)
   pub long : length (payload_in later.payloads block) ≡ length (payload_in nodes.payloads block)
   pub front : take 64 (payload_in later.payloads block) ≡ take 64 (payload_in nodes.payloads block)
+  pub user : user_at later block ≡ user_at nodes block
 
 -- nothing of any payload has changed except its tail
 abbrev pub KeepsFronts : OwnHeap → OwnHeap → Type 0

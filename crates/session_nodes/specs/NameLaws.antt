@@ -14,7 +14,7 @@ pub tails_then : (old between new : Stock) → ChangesTails old between → Chan
 tails_then old between new first second = record {
   rest = second.rest ∙ ap (λ (s : Stock). record s { nodes = record s.nodes { payloads = new.nodes.payloads } }) first.rest;
   fronts = λ b. let one = first.fronts b in let two = second.fronts b in
-      record { there = two.there ∙ one.there; long = two.long ∙ one.long; front = two.front ∙ one.front };
+      record { there = two.there ∙ one.there; long = two.long ∙ one.long; front = two.front ∙ one.front; user = two.user ∙ one.user };
 }
 
 pub tree_then : (old between new : Stock) → ChangesTree old between → ChangesTree between new → ChangesTree old new
@@ -25,7 +25,7 @@ tree_then old between new first second = record {
 
 pub tree_same : (old : Stock) → ChangesTree old old
 tree_same old = record {
-  tails = record { rest = refl; fronts = λ b. record { there = refl; long = refl; front = refl } };
+  tails = record { rest = refl; fronts = λ b. record { there = refl; long = refl; front = refl; user = refl } };
   previous = λ b. refl;
 }
 

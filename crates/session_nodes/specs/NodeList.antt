@@ -11,12 +11,12 @@ use Rattle.dataspace_core.specs.Share.{Share}
 use Rattle.heap_core.specs.Heap.{heap_in}
 use Rattle.sliced_heap.specs.Chain.{is_listed}
 use Rattle.sliced_heap.specs.Sliced.{sliced_of}
-use Rattle.session_nodes.specs.Calls.{HasBytes}
+use Rattle.session_nodes.specs.Calls.{node_stored, HasBytes}
 use Rattle.session_nodes.specs.Index.{AreListed, IsNamed, KeepsPlace, LeadsBack, previous_at}
 use Rattle.session_nodes.specs.Links.{last_of}
 use Rattle.session_nodes.specs.Node.{StoredNode}
 use Rattle.session_nodes.specs.Node.{value_of as node_value}
-use Rattle.session_nodes.specs.Order.{node_at, link_in, nodes_from, AllStay, OthersStay, StandAt}
+use Rattle.session_nodes.specs.Order.{node_at, link_in, nodes_from, user_at, AllStay, OthersStay, StandAt}
 use Rattle.session_nodes.specs.SoundHeaps.{Stock}
 use Rattle.session_nodes.specs.declared.node_list.FoundNode.{FoundNode}
 use Rattle.session_nodes.specs.declared.node_list.NodeList.{NodeList}
@@ -63,6 +63,7 @@ pub record KeepsNode (nodes later : OwnHeap) (block : ℕ) : Type 0 where
   pub content : (node_at later block).content ≡ (node_at nodes block).content
   pub there : HasBytes later.payloads block 0 96
   pub place : KeepsPlace nodes later block
+  pub user : user_at later block ≡ user_at nodes block
 
 -- a holder is linked to another block, and else all nodes are as they were
 pub record LinksTo (first holder block later_first : ℕ) (nodes later : OwnHeap) : Type 0 where
@@ -103,6 +104,8 @@ pub record Appends (list later : NodeList) (address : ℕ) (name : List ℕ) (ol
   pub stay : AllStay old.nodes new.nodes old.contents new.contents (nodes_in list old)
   pub name_is : (node_at new.nodes address).name ≡ name
   pub empty : (node_at new.nodes address).size ≡ 0
+  pub there : HasBytes new.nodes.payloads address 0 96
+  pub user : user_at new.nodes address ≡ user_at old.nodes address
   pub rest : new.nodes ≡ record old.nodes { payloads = new.nodes.payloads }
   pub account : new.account ≡ old.account
 
@@ -117,6 +120,7 @@ pub record Creates (list later : NodeList) (asked address : ℕ) (name : List �
   pub stay : AllStay old.nodes new.nodes old.contents new.contents (nodes_in list old)
   pub name_is : (node_at new.nodes address).name ≡ name
   pub empty : (node_at new.nodes address).size ≡ 0
+  pub room : HasBytes new.nodes.payloads address 0 asked
   pub chunk : chunk_with new.nodes (address - header) ≡ (taken_in asked old).spot.chunk
   pub offset : offset_of new.nodes (address - header) ≡ (taken_in asked old).spot.offset
   pub shape : new.nodes.shape ≡ (taken_in asked old).shape
@@ -135,6 +139,7 @@ pub record Replaces (list later : NodeList) (address content size : ℕ) (old ne
   pub kept : HasNodes later new
   pub listed : nodes_in later new ≡ nodes_in list old
   pub sets : Sets old.nodes new.nodes old.contents new.contents (nodes_in list old) address content size
+  pub user : user_at new.nodes address ≡ user_at old.nodes address
   pub bytes : 0 < size → get new.contents content ≡ get old.contents content
   pub account : new.account ≡ credited old.account (content_ram (node_at old.nodes address).size) (content_caps (node_at old.nodes address).size)
 
@@ -149,3 +154,11 @@ pub record Removes (list later : NodeList) (address : ℕ) (old new : Stock) : T
   pub stay : AllStay old.nodes new.nodes old.contents new.contents (before ++ behind)
   pub shape : new.nodes.shape ≡ shape_given (chunk_with old.nodes (address - header)) (offset_of old.nodes (address - header)) old.nodes.shape
   pub account : new.account ≡ credited old.account (content_ram (node_at old.nodes address).size) (content_caps (node_at old.nodes address).size)
+
+-- bytes have been put over a block after those of its node, and nothing else has changed
+pub record PutsUser (list : NodeList) (address offset : ℕ) (bytes : List ℕ) (old new : Stock) : Type 0 where
+  pub kept : HasNodes list new
+  pub listed : nodes_in list new ≡ nodes_in list old
+  pub others : OthersStay old.nodes new.nodes old.contents new.contents (nodes_in list old) address
+  pub node_is : node_at new.nodes address ≡ node_at old.nodes address
+  pub is : new ≡ node_stored address offset bytes old

@@ -1,5 +1,5 @@
 -- The nodes of a session in the order of their creation, each with the content that it names.
-use Rattle.std.specs.Prelude.{◌≡◌, ℕ, ◌-◌, ◌≢◌, ◌<◌, ◌==◌, true, if◌then◌else◌, List, length, take, Some}
+use Rattle.std.specs.Prelude.{◌≡◌, ℕ, ◌-◌, ◌≢◌, ◌<◌, ◌==◌, true, if◌then◌else◌, List, drop, length, take, Some}
 use Rattle.std.specs.FinMap.{get, len}
 use Rattle.own_model.specs.Heap.{header}
 use Rattle.own_model.specs.NatMap.{NatMap}
@@ -13,6 +13,10 @@ use Rattle.session_nodes.specs.Node.{StoredNode, node_of}
 -- the node whose block's payload starts at an address
 abbrev pub node_at : OwnHeap → ℕ → StoredNode
 node_at nodes address = node_of (payload_in nodes.payloads address)
+
+-- the bytes of a block after those of its node, which are its user's
+abbrev pub user_at : OwnHeap → ℕ → List ℕ
+user_at nodes address = drop 96 (payload_in nodes.payloads address)
 
 -- the link of a holder: the session, which is number 0, has the first one, and each node has the next one
 abbrev pub link_in : ℕ → OwnHeap → ℕ → ℕ
@@ -58,6 +62,7 @@ pub record Stays (nodes later : OwnHeap) (contents after : NatMap (List ℕ)) (b
   pub there : HasBytes later.payloads b 0 96
   pub chunk : chunk_with later (b - 16) ≡ chunk_with nodes (b - 16)
   pub offset : offset_of later (b - 16) ≡ offset_of nodes (b - 16)
+  pub user : user_at later b ≡ user_at nodes b
   pub bytes : 0 < (node_at nodes b).size → get after (node_at nodes b).content ≡ get contents (node_at nodes b).content
 
 -- the nodes of these blocks stay

@@ -3,6 +3,7 @@
 //! `NodeList::new(heap)` has no node yet.
 #![tactic(auto)]
 
+mod buffer_requests;
 mod contents;
 mod links;
 mod name_tree;
@@ -15,6 +16,7 @@ mod session_buffer;
 mod session_heaps;
 mod write_source;
 
+pub use buffer_requests::error_of;
 pub use contents::ContentRange;
 pub use node::{LONGEST_NAME, NODE_SIZE, Node};
 pub use node_list::{FoundNode, NodeList};

@@ -1,9 +1,10 @@
 //! The nodes of a session: how they are removed, and how a node gets another content.
-ghost use Rattle.std.specs.Prelude.{◌≡◌, ◌≢◌, ◌<◌, ◌≤◌, ◌==◌, if◌then◌else◌};
+ghost use Rattle.std.specs.Prelude.{◌≡◌, ◌≢◌, ◌+◌, ◌<◌, ◌≤◌, ◌==◌, true, length, if◌then◌else◌};
+ghost use Rattle.sliced_heap.specs.Chain.{is_listed};
 ghost use Rattle.session_nodes.specs.Calls.{HasBytes};
 ghost use Rattle.session_nodes.specs.Index.{ChangesTails, previous_at};
 ghost use Rattle.session_nodes.specs.Node.{value_of as node_value};
-ghost use Rattle.session_nodes.specs.NodeList.{Finds, HasNodes, IsListed, IsOwn, LinksTo, Removes, Replaces, Unlists};
+ghost use Rattle.session_nodes.specs.NodeList.{nodes_in, Finds, HasNodes, IsListed, IsOwn, LinksTo, PutsUser, Removes, Replaces, Unlists};
 ghost use Rattle.session_nodes.specs.Order.{HasContent};
 ghost use Rattle.session_nodes.specs.SessionHeaps.{stock_of, AreSoundHeaps, KeepsHeaps};
 
@@ -71,6 +72,33 @@ impl NodeList {
         if node.size > 0 {
             self.heaps.give_content(memory, map, node.content);
         }
+    }
+
+    /// Overwrites the block of a node after the bytes of the node, from an offset on.
+    pub fn put_user(
+        &self,
+        memory: &mut Memory,
+        map: &RegionMap,
+        address: u64,
+        offset: u64,
+        bytes: &[u8],
+    )
+        requires furnished { AreSoundHeaps self.now.heaps memory.old map.now }
+        requires nodes { HasNodes self.now (stock_of self.now.heaps memory.old map.now) }
+        requires listed { is_listed
+            (nodes_in self.now (stock_of self.now.heaps memory.old map.now)) address ≡ true }
+        requires room { HasBytes (stock_of self.now.heaps memory.old map.now).nodes.payloads
+            address 0 (offset + length bytes.now) }
+        requires after { 96 ≤ offset }
+        requires some { 1 ≤ length bytes.now }
+        ensures put { PutsUser self.now address offset bytes.now
+            (stock_of self.now.heaps memory.old map.now)
+            (stock_of self.now.heaps memory.new map.now) }
+        ensures keeps { KeepsHeaps self.now.heaps self.now.heaps
+            memory.old memory.new map.now map.now }
+    {
+        self.heaps
+            .put_block_bytes(memory, map, address, offset, bytes);
     }
 
     /// Removes a node from the tree, links the next node back to the previous one, and returns the previous one.

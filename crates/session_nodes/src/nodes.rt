@@ -6,7 +6,7 @@ ghost use Rattle.own_model.specs.Growth.{heap_refusal};
 ghost use Rattle.session_nodes.specs.Calls.{payload_in, node_stored, TakesNode, GivesNode, HasBytes};
 ghost use Rattle.session_nodes.specs.Found.{FindsNode};
 ghost use Rattle.heap_core.specs.Words.{are_bytes};
-ghost use Rattle.session_nodes.specs.Order.{node_at};
+ghost use Rattle.session_nodes.specs.Order.{node_at, user_at};
 ghost use Rattle.session_nodes.specs.SessionHeaps.{stock_of, AreSoundHeaps, KeepsHeaps};
 ghost use Rattle.session_nodes.specs.Index.{IsPadded, KeepsPlace, previous_at};
 ghost use Rattle.own_model.specs.OwnState.{zeros};
@@ -115,6 +115,8 @@ impl SessionHeaps {
             (stock_of self.now memory.new map.now).nodes address }
         ensures there { HasBytes
             (stock_of self.now memory.new map.now).nodes.payloads address 0 96 }
+        ensures user { user_at (stock_of self.now memory.new map.now).nodes address
+            ≡ user_at (stock_of self.now memory.old map.now).nodes address }
         ensures keeps { KeepsHeaps self.now self.now
             memory.old memory.new map.now map.now }
     {
@@ -144,6 +146,8 @@ impl SessionHeaps {
             IsPadded (stock_of self.now memory.new map.now).nodes address }
         ensures previous { previous_at (stock_of self.now memory.new map.now).nodes address
             ≡ previous }
+        ensures user { user_at (stock_of self.now memory.new map.now).nodes address
+            ≡ user_at (stock_of self.now memory.old map.now).nodes address }
         ensures keeps { KeepsHeaps self.now self.now
             memory.old memory.new map.now map.now }
     {
@@ -168,10 +172,53 @@ impl SessionHeaps {
             ≡ node_stored address offset bytes.now (stock_of self.now memory.old map.now) }
         ensures there { HasBytes
             (stock_of self.now memory.new map.now).nodes.payloads address 0 96 }
+        ensures user { user_at (stock_of self.now memory.new map.now).nodes address
+            ≡ user_at (stock_of self.now memory.old map.now).nodes address }
         ensures keeps { KeepsHeaps self.now self.now
             memory.old memory.new map.now map.now }
     {
         let (ds, at) = self.find_node(memory, map, address);
+        memory.write(ds, at + offset, bytes);
+    }
+
+    /// Loads a word of a block that has a node, at any offset. The memory is unchanged.
+    pub fn load_block_word(
+        &self,
+        memory: &Memory,
+        map: &RegionMap,
+        address: u64,
+        offset: u64,
+    ) -> u64
+        requires furnished { AreSoundHeaps self.now memory.now map.now }
+        requires there { HasBytes
+            (stock_of self.now memory.now map.now).nodes.payloads address 0 (offset + 8) }
+        requires aligned { offset % 8 ≡ 0 }
+        ensures { result ≡ word_from (payload_in
+            (stock_of self.now memory.now map.now).nodes.payloads address) offset }
+    {
+        let (ds, at) = self.nodes.payload_at(memory, map, address);
+        memory.load_word(ds, at + offset)
+    }
+
+    /// Overwrites a block that has a node from an offset on.
+    pub(crate) fn put_block_bytes(
+        &self,
+        memory: &mut Memory,
+        map: &RegionMap,
+        address: u64,
+        offset: u64,
+        bytes: &[u8],
+    )
+        requires furnished { AreSoundHeaps self.now memory.old map.now }
+        requires there { HasBytes (stock_of self.now memory.old map.now).nodes.payloads
+            address 0 (offset + length bytes.now) }
+        requires some { 1 ≤ length bytes.now }
+        ensures stored { stock_of self.now memory.new map.now
+            ≡ node_stored address offset bytes.now (stock_of self.now memory.old map.now) }
+        ensures keeps { KeepsHeaps self.now self.now
+            memory.old memory.new map.now map.now }
+    {
+        let (ds, at) = self.nodes.payload_at(memory, map, address);
         memory.write(ds, at + offset, bytes);
     }
 

@@ -3,7 +3,8 @@ ghost use Rattle.std.specs.Prelude.{◌≡◌, None};
 ghost use Rattle.std.specs.FinMap.{empty};
 ghost use Rattle.own_model.specs.Growth.{no_chunks};
 ghost use Rattle.dataspace_core.specs.Share.{Share};
-ghost use Rattle.dataspace_core.specs.Store.{account_in};
+ghost use Rattle.core_calls.specs.Quotas.{quotas_account};
+ghost use Rattle.dataspace_core.specs.Store.{account_in, IsOpenIn};
 ghost use Rattle.heap_core.specs.Heap.{heap_in};
 ghost use Rattle.sliced_heap.specs.Heap.{payer_of, KeepsOthers};
 ghost use Rattle.sliced_heap.specs.Sliced.{IsLinked};
@@ -12,12 +13,12 @@ ghost use Rattle.session_nodes.specs.SoundHeaps.{lent_regions};
 ghost use Rattle.session_nodes.specs.SessionBuffer.{KeepsBuffer};
 ghost use Rattle.session_nodes.specs.SessionHeaps.{AreSoundHeaps, AreKept};
 
+use core_calls::Quotas;
 use dataspace_core::Memory;
 use heap_core::Heap;
 use region_map::RegionMap;
 use sliced_heap::SlicedHeap;
 use std::mem;
-use trade_base::AccountId;
 
 /// The two heaps of a session, both of its account.
 #[derive(Drop)]
@@ -40,11 +41,20 @@ impl SessionHeaps {
         SessionHeaps { nodes, contents }
     }
 
-    /// Returns the account of the session.
-    pub fn account(&self) -> AccountId
-        ensures { result.0 ≡ payer_of self.now.contents }
+    /// Returns use and limits of the session's account.
+    pub fn quotas(&self, memory: &Memory) -> Quotas
+        requires { IsOpenIn memory.now (payer_of self.now.contents) }
+        ensures { quotas_account result ≡ account_in memory.now (payer_of self.now.contents) }
     {
-        self.contents.account()
+        let account = self.contents.account();
+        let (ram_used, caps_used) = memory.used(account);
+        let (ram_limit, caps_limit) = memory.limits(account);
+        Quotas {
+            ram_used,
+            ram_limit,
+            caps_used,
+            caps_limit,
+        }
     }
 
     /// Frees the blocks of all nodes of a session without a buffer, and credits the account with all that was charged for

@@ -6,4 +6,5 @@ pub mod File
 pub mod FileReply
 pub mod Forms
 pub mod ObjectForms
+pub mod ObjectReply
 pub mod Objects

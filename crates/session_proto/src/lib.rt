@@ -13,13 +13,15 @@ mod hex_text;
 mod log;
 mod object;
 mod object_form;
+mod object_reply;
 mod pair;
 mod plain;
 mod text;
 
 pub use args::SessionArgs;
-pub use core_calls::FileError;
+pub use core_calls::{FileError, ObjectError};
 pub use file::FileRequest;
 pub use file_reply::FileReply;
 pub use log::{LogReply, LogRequest};
 pub use object::ObjectRequest;
+pub use object_reply::ObjectReply;

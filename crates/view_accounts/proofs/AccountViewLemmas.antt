@@ -23,9 +23,9 @@ use Rattle.line_steps.specs.RunPosition.{RunPosition}
 use Rattle.view_accounts.proofs.ListLemmas.{text_is}
 use Rattle.run_scenario.proofs.WriteLemmas.{closes_as, played_from, silent_turns}
 
-pub accounts_played : (watch : Accounting) (listed : Listed) {first : RunPosition} {start last : World} {awaited : Awaited} {input rest w w' w'' : Option (List ℕ)} {failed : Bool} (played ended : ScenarioEnd) → start.entries ≡ entries_of (start_list_of listed) →
-    RunsAll (λ _ _ _. []) true (SeesAccounts watch listed start) (CountsErrors None start (tally 0 awaited) played.complaints) None first played.fault played.lines start last [] input rest failed w w' → Closes played ended w' w'' (text_kept watch listed last) →
-    IsRunFrom (start_at None start first awaited) (λ _. []) (λ turns. accounts_text (sessions_kept watch) listed start (calls_answered None turns)) true ended input rest failed w w''
+pub accounts_played : (watch : Accounting) (listed : Listed) {reports : List (List ℕ) → Type 0} {first : RunPosition} {start last : World} {awaited : Awaited} {input rest w w' w'' : Option (List ℕ)} {failed : Bool} (played ended : ScenarioEnd) → start.entries ≡ entries_of (start_list_of listed) →
+    RunsAll (λ _ _ _. []) true (SeesAccounts watch listed start) (CountsErrors None start (tally 0 awaited) played.complaints) reports None first played.fault played.lines start last [] input rest failed w w' → Closes played ended w' w'' (text_kept watch listed last) →
+    IsRunFrom (start_at None start first awaited) (λ _. []) (λ turns. accounts_text (sessions_kept watch) listed start (calls_answered None turns)) true reports ended input rest failed w w''
 accounts_played watch listed {first = first} {start = start} {last = last} {w' = w'} {w'' = w''} played ended entries plays closes =
     played_from played ended plays (silent_turns None [] turns) (closes_as played ended w' w'' _ _ (same played.fault plays.sees) closes)
   where

@@ -11,6 +11,7 @@ pub mod OpenLemmas
 pub mod PeakLemmas
 pub mod RowLemmas
 pub mod RunRowLemmas
+pub mod SessionNeedLemmas
 pub mod SessionStepLemmas
 pub mod SessionTableLemmas
 pub mod TableLemmas

@@ -94,9 +94,9 @@ module _ (watch : Accounting) (listed : Listed) {start : World} {calls : List (L
     closed = (rows_kept watch listed now).closed;
   }
 
-pub rows_played : (watch : Accounting) (listed : Listed) {first : RunPosition} {start last : World} {counts : List LineStep → Type 0} {input rest w w' w'' : Option (List ℕ)} {failed : Bool} (played ended : ScenarioEnd) (rows : Result AccountRows AllocError) →
+pub rows_played : (watch : Accounting) (listed : Listed) {first : RunPosition} {start last : World} {counts : List LineStep → Type 0} {reports : List (List ℕ) → Type 0} {input rest w w' w'' : Option (List ℕ)} {failed : Bool} (played ended : ScenarioEnd) (rows : Result AccountRows AllocError) →
     start.entries ≡ entries_of (start_list_of listed) →
-    RunsAll (λ _ _ _. []) true (SeesAccounts watch listed start) counts None first played.fault played.lines start last [] input rest failed w w' → Closes played ended w' w'' (text_kept watch listed last) →
+    RunsAll (λ _ _ _. []) true (SeesAccounts watch listed start) counts reports None first played.fault played.lines start last [] input rest failed w w' → Closes played ended w' w'' (text_kept watch listed last) →
     IfOk rows (λ shown. accounts_view shown ≡ rows_kept watch listed last) → ShowsRows (sessions_kept watch) listed start (turns_of None start first) ended.fault input rows
 rows_played watch listed {first = first} {start = start} {last = last} {input = input} {rest = rest} {w' = w'} {w'' = w''} {failed = failed} played ended rows entries plays closes shows =
     by played.fault ended.fault closes.writes plays.sees plays.ends
@@ -132,8 +132,8 @@ shows_on sessions listed first {start = start} fault input rows starts begins sh
     (subst (λ stand. ShowsRows sessions listed start (turns_of None start stand) fault input rows) begins shows)
 
 -- a fault has a cause, whatever else is known of the run
-pub ends_with_rows : {X : Type 0} {start : RunStart} {told : List LineStep → List ℕ} {behind : X → List LineStep → List ℕ} {also : X → Type 0} {calls : Bool} {ending : ScenarioEnd} {input rest : Option (List ℕ)} {failed : Bool} {w w' : Option (List ℕ)} (read_before write_before write_failed : Bool) →
-    (fault_before read_before write_before ≡ None → (x : X) × (IsRunFrom start told (behind x) calls ending input rest failed w w' × also x)) →
+pub ends_with_rows : {X : Type 0} {start : RunStart} {told : List LineStep → List ℕ} {behind : X → List LineStep → List ℕ} {also : X → Type 0} {calls : Bool} {reports : List (List ℕ) → Type 0} {ending : ScenarioEnd} {input rest : Option (List ℕ)} {failed : Bool} {w w' : Option (List ℕ)} (read_before write_before write_failed : Bool) →
+    (fault_before read_before write_before ≡ None → (x : X) × (IsRunFrom start told (behind x) calls reports ending input rest failed w w' × also x)) →
     IfSome (fault_before read_before write_before) (λ fault. (ending ≡ unplayed fault) × (failed ≡ read_before)) → write_failed ≡ is_write_fault ending.fault →
     IfSome ending.fault (λ fault. fault ≢ NoMemory → IfSome input (λ text. HasCause text most_lines failed write_failed))
 ends_with_rows {behind = behind} read_before write_before write_failed played =

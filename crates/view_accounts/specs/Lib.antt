@@ -8,6 +8,7 @@ pub mod PeakList
 pub mod Peaks
 pub mod Rows
 pub mod RunRows
+pub mod SessionNeeds
 pub mod SessionTable
 pub mod Table
 pub mod TableRows

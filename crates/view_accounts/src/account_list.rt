@@ -15,8 +15,10 @@ ghost use Rattle.run_lines.specs.Machine.{world_of};
 ghost use Rattle.run_scenario.specs.Faults.{fault_before, unplayed};
 ghost use Rattle.run_scenario.specs.RunCalls.{calls_answered};
 ghost use Rattle.run_scenario.specs.LineSteps.{turns_of};
+ghost use Rattle.run_scenario.specs.RunReports.{WritesAllReports, scope_of};
 ghost use Rattle.run_scenario.specs.Writes.{Closes, IsRunFrom, nothing_told, start_at, start_on, turns_on};
 ghost use Rattle.run_lines.specs.declared.line_run_fault.LineRunFault.TheVariants.{NoMemory as NoRoom};
+ghost use Rattle.view_diagnostics.specs.Diagnostics.{subject_at};
 
 use crate::account_rows::AccountRows;
 use crate::accounting::Accounting;
@@ -59,7 +61,11 @@ pub fn accounts<S: Source, K: Sink, E: Sink>(
     ensures played { IfOk result (λ accounts. fault_before (S.has_failed reader.old)
         (K.has_failed writer.old || E.has_failed complaints.old) ≡ None →
         (sessions : OfSessions) × (IsRunFrom (start_on None play.entry.start play.entry.list.now)
-        nothing_told (accounts_behind sessions play.entry.list.now) true accounts.ending
+        nothing_told (accounts_behind sessions play.entry.list.now) true
+        (WritesAllReports (scope_of (subject_at play.entry.scenario) play.entry.list.now)
+        (start_on None play.entry.start play.entry.list.now)
+        (E.contents complaints.old) (E.contents complaints.new))
+        accounts.ending
         (S.remaining reader.old) (S.remaining reader.new)
         (S.has_failed reader.new) (K.contents writer.old) (K.contents writer.new)
         × ShowsRows sessions play.entry.list.now (world_of play.entry.list.now)
@@ -121,7 +127,13 @@ fn run_accounting<R: Router + Drop, S: Source, K: Sink, E: Sink>(
         stage.entry.notes.critic.expected) (λ _. [])
         (λ turns. accounts_text sessions stage.entry.run.list.now stage.entry.core
         (calls_answered None turns))
-        true result.ending (S.remaining reader.old) (S.remaining reader.new)
+        true
+        (WritesAllReports
+        (scope_of (subject_at stage.entry.notes.critic.scenario) stage.entry.run.list.now)
+        (start_at None stage.entry.core stage.entry.notes.stand
+        stage.entry.notes.critic.expected)
+        (E.contents complaints.old) (E.contents complaints.new))
+        result.ending (S.remaining reader.old) (S.remaining reader.new)
         (S.has_failed reader.new) (K.contents writer.old) (K.contents writer.new)
         × ShowsRows sessions stage.entry.run.list.now stage.entry.core
         (turns_of None stage.entry.core stage.entry.notes.stand) result.ending.fault

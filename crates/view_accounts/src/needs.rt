@@ -109,7 +109,7 @@ impl Needs {
         };
         match entry.binary() {
             Binary::Script => self.script(place),
-            Binary::Server(_) => AccountNeed::of(Budget { ram: 0, caps: 0 }),
+            Binary::Server(_) | Binary::Declared(_) => AccountNeed::of(Budget { ram: 0, caps: 0 }),
             Binary::Init => AccountNeed::of(self.below(list, Some(entry.path()))),
         }
     }
@@ -197,7 +197,7 @@ fn meter_of(account: Quotas) -> AccountMeter
 fn counts_below(init: Option<&[u8]>, entry: &ListEntry) -> bool
     ensures { result ≡ counts_below (option_copied init.entry) entry.now }
 {
-    entry.binary() == Binary::Script
+    entry.is_script()
         && match init {
             Some(init) => lies_below(init, entry.path()),
             None => true,

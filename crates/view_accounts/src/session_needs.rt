@@ -1,6 +1,10 @@
 //! The needs of sessions, of open ones and of closed ones.
-ghost use Rattle.std.specs.Prelude.{◌≡◌, ◌<◌, length};
+ghost use Rattle.std.specs.Prelude.{◌≡◌, ◌<◌, ◌==◌, ℕ, length, true, false, None, OnOk};
+ghost use Rattle.core_calls.specs.Call.{model_call};
 ghost use Rattle.view_accounts.specs.Meters.{needed_of_session};
+ghost use Rattle.view_accounts.specs.Peaks.{session_at};
+ghost use Rattle.view_accounts.specs.SessionNeeds.{Asks, Begins, ChangesAt, Ends, EndsAll, HearsCall, Opens, Raises, is_done, opened_in};
+ghost use Rattle.view_accounts.specs.SessionTable.{value_at};
 
 use crate::peaks::{Peaks, SessionPeak};
 use crate::session_table::SessionTable;
@@ -47,7 +51,9 @@ pub(crate) struct SessionNeeds {
 
 impl SessionNeeds {
     /// Returns the sessions before the first line: none.
-    pub(crate) fn new(alloc: Global) -> SessionNeeds {
+    pub(crate) fn new(alloc: Global) -> SessionNeeds
+        ensures { (component selector : ℕ) → value_at result.opened component selector ≡ None }
+    {
         SessionNeeds {
             alloc,
             opened: SessionTable::new(alloc),
@@ -77,20 +83,23 @@ impl SessionNeeds {
         peaks: &Peaks,
     ) -> Result<(), AllocError>
         requires { component < length core.now.entries }
+        ensures { OnOk result ((c q : ℕ) → HearsCall core.now component (model_call call.entry)
+            reply.entry.outcome reply.entry.text.now c q
+            (value_at self.old.opened c q) (value_at self.new.opened c q)) }
     {
         match call {
             Call::Open { .. } => self.begin(core, component, reply.outcome),
             Call::CallSession { selector, request } => {
-                self.ask(core, component, selector, Some(request), reply)
+                self.ask(core, component, selector, request, reply)
             }
-            Call::Upgrade { selector, .. } => self.ask(core, component, selector, None, reply),
+            Call::Upgrade { selector, .. } => self.raise(core, component, selector),
             Call::Close(selector) => self.end(component, selector, reply.outcome, peaks),
             Call::Exit => self.end_all(component, reply.outcome, peaks),
             _ => Ok(()),
         }
     }
 
-    // Keeps the session whose selector a component got.
+    // Keeps the session whose selector a component got, if it got one.
     fn begin<R: Router + Drop>(
         &mut self,
         core: &Core<R>,
@@ -98,15 +107,34 @@ impl SessionNeeds {
         outcome: Outcome,
     ) -> Result<(), AllocError>
         requires { component < length core.now.entries }
+        ensures { OnOk result ((c q : ℕ) → Opens core.now component (opened_in outcome) c q
+            (value_at self.old.opened c q) (value_at self.new.opened c q)) }
     {
-        let Outcome::Selected(selector) = outcome else {
-            return Ok(());
-        };
-        let selector = u64::from(selector.0);
+        match outcome {
+            Outcome::Selected(selector) => {
+                self.begin_under(core, component, u64::from(selector.0))
+            }
+            _ => Ok(()),
+        }
+    }
+
+    // Keeps the session under a selector of a component, if one is open there.
+    fn begin_under<R: Router + Drop>(
+        &mut self,
+        core: &Core<R>,
+        component: usize,
+        selector: u64,
+    ) -> Result<(), AllocError>
+        requires { component < length core.now.entries }
+        ensures { OnOk result ((c q : ℕ) → ChangesAt component selector
+            (Begins (session_at component selector core.now)) c q
+            (value_at self.old.opened c q) (value_at self.new.opened c q)) }
+    {
         let Some(account) = core.session_account(component, selector) else {
             return Ok(());
         };
-        let meter = SessionMeter::new(self.alloc, account);
+        let kinds = core.session_kinds(component, selector);
+        let meter = SessionMeter::new(self.alloc, account, kinds)?;
         let session = MeteredSession {
             earlier: self.count,
             need: meter.least(),
@@ -116,16 +144,19 @@ impl SessionNeeds {
         self.opened.set(component, selector, session)
     }
 
-    // Observes a request of a session, or an upgrade of it.
+    // Observes a request of a session.
     fn ask<R: Router + Drop>(
         &mut self,
         core: &Core<R>,
         component: usize,
         selector: u64,
-        request: Option<&[u8]>,
+        request: &[u8],
         reply: Answer<'_>,
     ) -> Result<(), AllocError>
         requires { component < length core.now.entries }
+        ensures { OnOk result ((c q : ℕ) → ChangesAt component selector
+            (Asks request.now reply.entry.text.now (session_at component selector core.now)) c q
+            (value_at self.old.opened c q) (value_at self.new.opened c q)) }
     {
         let Some(account) = core.session_account(component, selector) else {
             return Ok(());
@@ -133,10 +164,30 @@ impl SessionNeeds {
         let Some(mut session) = self.opened.take(component, selector) else {
             return Ok(());
         };
-        match request {
-            Some(request) => session.meter.hear(request, reply, account)?,
-            None => session.meter.raise(account),
-        }
+        session.meter.hear(request, reply, account)?;
+        session.need = session.meter.least();
+        self.opened.set(component, selector, session)
+    }
+
+    // Observes an upgrade of a session.
+    fn raise<R: Router + Drop>(
+        &mut self,
+        core: &Core<R>,
+        component: usize,
+        selector: u64,
+    ) -> Result<(), AllocError>
+        requires { component < length core.now.entries }
+        ensures { OnOk result ((c q : ℕ) → ChangesAt component selector
+            (Raises (session_at component selector core.now)) c q
+            (value_at self.old.opened c q) (value_at self.new.opened c q)) }
+    {
+        let Some(account) = core.session_account(component, selector) else {
+            return Ok(());
+        };
+        let Some(mut session) = self.opened.take(component, selector) else {
+            return Ok(());
+        };
+        session.meter.raise(account);
         session.need = session.meter.least();
         self.opened.set(component, selector, session)
     }
@@ -148,7 +199,10 @@ impl SessionNeeds {
         selector: u64,
         outcome: Outcome,
         peaks: &Peaks,
-    ) -> Result<(), AllocError> {
+    ) -> Result<(), AllocError>
+        ensures { OnOk result ((c q : ℕ) → ChangesAt component selector (Ends (is_done outcome)) c q
+            (value_at self.old.opened c q) (value_at self.new.opened c q)) }
+    {
         let Outcome::Done = outcome else {
             return Ok(());
         };
@@ -164,11 +218,26 @@ impl SessionNeeds {
         component: usize,
         outcome: Outcome,
         peaks: &Peaks,
-    ) -> Result<(), AllocError> {
+    ) -> Result<(), AllocError>
+        ensures { OnOk result ((c q : ℕ) → EndsAll component (is_done outcome) c
+            (value_at self.old.opened c q) (value_at self.new.opened c q)) }
+    {
         let Outcome::Done = outcome else {
             return Ok(());
         };
-        let mut ended = ended_of(self.alloc, self.opened.take_all(component))?;
+        let ended = ended_of(self.alloc, self.opened.take_all(component))?;
+        self.keep_all_closed(component, ended, peaks)
+    }
+
+    // Keeps sessions of a component as closed, in the order in which they were opened.
+    fn keep_all_closed(
+        &mut self,
+        component: usize,
+        mut ended: Vec<Ended>,
+        peaks: &Peaks,
+    ) -> Result<(), AllocError>
+        ensures same { self.new.opened ≡ self.old.opened }
+    {
         ended.sort_unstable_by_key(|session| session.earlier);
         for session in ended {
             self.keep_closed(peaks.session(component, session.selector), session.need)?;
@@ -177,11 +246,9 @@ impl SessionNeeds {
     }
 
     // Keeps a session as closed, as it was until then.
-    fn keep_closed(
-        &mut self,
-        session: Option<&SessionPeak>,
-        need: Budget,
-    ) -> Result<(), AllocError> {
+    fn keep_closed(&mut self, session: Option<&SessionPeak>, need: Budget) -> Result<(), AllocError>
+        ensures same { self.new.opened ≡ self.old.opened }
+    {
         if let Some(session) = session {
             self.closed.push(ClosedSession {
                 session: copied(self.alloc, session)?,

@@ -1,3 +1,4 @@
+mod ServiceLemmas
 mod CoverLemmas
 mod TableLemmas
 mod PlaceLemmas

@@ -1,21 +1,24 @@
 -- The coverage of a machine by the answered calls of a scenario: which of its rows are met.
-use Rattle.std.specs.Prelude.{ℕ, ◌+◌, ◌&&◌, ◌||◌, zero, suc, Bool, false, List, [], ◌∷◌, ◌++◌, map, length, Option, Some, None}
+use Rattle.std.specs.Prelude.{ℕ, ◌+◌, ◌&&◌, ◌==◌, ◌||◌, zero, suc, Bool, true, false, List, [], ◌∷◌, ◌++◌, if◌then◌else◌, map, length, nat_lt, Option, Some, None}
 use Rattle.std.specs.List.{flat_map, list_any}
-use Rattle.std.specs.Option.{option_copied}
+use Rattle.std.specs.Option.{option_and_then, option_copied, option_map}
 use Rattle.std.specs.Str.{bytes_eq}
 use Rattle.trade_base.specs.Refusal.{refusal_name}
-use Rattle.own_model.specs.Listed.{Listed, ListedEntry, ListedRule}
+use Rattle.trade_base.specs.Service.{services}
+use Rattle.own_model.specs.Listed.{Listed, ListedEntry, ListedRule, offers, services_of}
 use Rattle.own_model.specs.Call.{Spoken, parsed_call}
+use Rattle.list_parser.specs.Depth.{runs_script}
 use Rattle.run_exchanges.specs.Exchange.{Exchange}
 use Rattle.view_coverage.specs.Forms.{form_of, forms, is_form_of, refusals_of}
-use Rattle.view_coverage.specs.Requests.{errors_of, is_asked, is_error, request_word, requests}
-use Rattle.view_coverage.specs.Rules.{decided_by, is_rule}
+use Rattle.view_coverage.specs.Requests.{errors_of, is_asked, is_error, object_requests, request_word, requests}
+use Rattle.view_coverage.specs.Rules.{SessionRequest, is_rule, request_of, rules_of_request}
 use Rattle.view_coverage.specs.declared.request_forms.CoverageRequest.{CoverageRequest}
 use Rattle.view_coverage.specs.declared.event.CoverageEvent.{CoverageEvent}
-use Rattle.view_coverage.specs.declared.event.CoverageEvent.TheVariants.{Refused, Failed, Decided}
+use Rattle.view_coverage.specs.declared.event.CoverageEvent.TheVariants.{Refused, Failed, Decided, Requested}
 use Rattle.view_coverage.specs.declared.event.RouteOwner.{RouteOwner}
 use Rattle.view_coverage.specs.declared.event.RouteOwner.TheVariants.{Own, Inner, Machine}
 use Rattle.view_coverage.specs.declared.event.RulePlace.{RulePlace}
+use Rattle.view_coverage.specs.declared.event.ScriptService.{ScriptService}
 use Rattle.view_coverage.specs.declared.call_forms.CoverageCall.{CoverageCall}
 use Rattle.view_coverage.specs.declared.row.CallEvidence.{CallEvidence}
 use Rattle.view_coverage.specs.declared.row.CoverageRow.{CoverageRow}
@@ -35,25 +38,53 @@ answer_of exchange = record { line = exchange.line; reply = exchange.reply }
 abbrev pub has_rule : List RulePlace → RulePlace → Bool
 has_rule rules rule = list_any (is_rule rule) rules
 
--- the evidence of an answered line: its reply, and the rules that decided its session request. It has the form of the call and
--- the first word of the request, if the line has these.
+-- a session request of a script, with the number of its service, is one of a script for a service
+abbrev pub is_request : ScriptService → Option ScriptService → Bool
+is_request asked None = false
+is_request asked (Some request) = asked.client == request.client && asked.service == request.service
+
+-- the number of the service of a name among these, the first of which has this number, if one has the name
+abbrev pub service_number : List ℕ → ℕ → List (List ℕ) → Option ℕ
+service_number name number [] = None
+service_number name number (service ∷ services) =
+    if bytes_eq service name then Some number else service_number name (number + 1) services
+
+-- the script and the service of a session request, if the list has the service
+abbrev pub asked_by : Listed → SessionRequest → Option ScriptService
+asked_by list request =
+    option_map (λ number. record { client = request.client; service = number })
+    (service_number request.service 0 (services_of list.entries))
+
+abbrev pub asked_in : Listed → Option SessionRequest → Option ScriptService
+asked_in list request = option_and_then (asked_by list) request
+
+-- the evidence of an answered line: its reply, and the rules that decided its session request. It has the form of the call, the
+-- first word of the request, and the script and the service of the session request, if the line has these.
 pub record Evidence : Type 0 where
   pub form : Option CoverageCall
   pub word : Option (List ℕ)
   pub reply : List ℕ
+  pub asked : Option ScriptService
   pub rules : List RulePlace
 
 abbrev pub evidence_in : CallEvidence → Evidence
-evidence_in it = record { form = it.form; word = option_copied it.word; reply = it.answer.text.now; rules = it.rules.now }
+evidence_in it = record {
+  form = it.form;
+  word = option_copied it.word;
+  reply = it.answer.text.now;
+  asked = it.asked;
+  rules = it.rules.now;
+}
 
 -- the evidence of a line, by its call, if it has one, and by its reply
 abbrev pub evidence_of : Listed → Option Spoken → List ℕ → Evidence
-evidence_of list None reply = record { form = None; word = None; reply = reply; rules = [] }
+evidence_of list None reply = record { form = None; word = None; reply = reply; asked = None; rules = [] }
 evidence_of list (Some said) reply = record {
   form = form_of said.call;
   word = request_word said.call;
   reply = reply;
-  rules = decided_by list said reply;
+  asked = asked_in list (request_of list said reply);
+  rules = rules_of_request list (request_of list said reply);
 }
 
 abbrev pub evidence : Listed → Answer → Evidence
@@ -64,6 +95,7 @@ abbrev pub shown_with : Evidence → CoverageEvent → Bool
 shown_with it (Refused form refusal) = is_form_of form it.form && bytes_eq it.reply (refusal_name refusal)
 shown_with it (Failed asked error) = is_asked asked it.word && is_error error it.reply
 shown_with it (Decided rule) = has_rule it.rules rule
+shown_with it (Requested asked) = is_request asked it.asked
 
 abbrev pub is_shown : Listed → CoverageEvent → Answer → Bool
 is_shown list event answer = shown_with (evidence list answer) event
@@ -110,10 +142,42 @@ calls_rows = flat_map refusal_rows forms
 abbrev pub requests_rows : List CoverageRow
 requests_rows = flat_map error_rows requests
 
--- the rows of a machine, none of them met
+-- a list declares a service: it has more than those that the machine has built in
+abbrev pub declares : List ListedEntry → Bool
+declares entries = nat_lt (length services) (length (services_of entries))
+
+-- the rows of the requests that sessions of declared servers alone have
+abbrev pub object_rows : List ListedEntry → List CoverageRow
+object_rows entries = if declares entries then flat_map error_rows object_requests else []
+
+-- an entry of the list provides a service
+abbrev pub is_provided : List ListedEntry → List ℕ → Bool
+is_provided entries service = list_any (λ entry. offers entry.home service entry) entries
+
+-- the row of a script's requests of a service, by its number and its name, if an entry provides it
+abbrev pub service_rows : List ListedEntry → ℕ → ℕ → List ℕ → List CoverageRow
+service_rows entries client number service =
+    if is_provided entries service then unmet (Requested (record { client = client; service = number })) ∷ [] else []
+
+-- those of services, the first of which has this number
+abbrev pub services_rows : List ListedEntry → ℕ → ℕ → List (List ℕ) → List CoverageRow
+services_rows entries client number [] = []
+services_rows entries client number (service ∷ services) =
+    service_rows entries client number service ++ services_rows entries client (number + 1) services
+
+-- the rows of the session requests of an entry: of a script one for each service of the list
+abbrev pub script_rows : List ListedEntry → ℕ → ListedEntry → List CoverageRow
+script_rows all number entry = if runs_script entry.binary then services_rows all number 0 (services_of all) else []
+
+abbrev pub scripts_rows : List ListedEntry → ℕ → List ListedEntry → List CoverageRow
+scripts_rows all number [] = []
+scripts_rows all number (entry ∷ entries) = script_rows all number entry ++ scripts_rows all (number + 1) entries
+
+-- the rows of a machine, none of them met: of both tables, of each rule, and of each script and service
 abbrev pub rows_of : Listed → List CoverageRow
 rows_of list =
-    calls_rows ++ requests_rows ++ route_rows Machine (length list.default_route) ++ rows_of_entries 0 list.entries
+    calls_rows ++ requests_rows ++ object_rows list.entries ++ route_rows Machine (length list.default_route) ++ rows_of_entries 0 list.entries
+    ++ scripts_rows list.entries 0 list.entries
 
 -- ---- all answers
 

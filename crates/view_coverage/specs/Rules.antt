@@ -65,7 +65,8 @@ rules_from list asks (hop ∷ hops) =
 
 -- ---- the session request of a call
 
-pub record Wish : Type 0 where
+-- by the number of the component that makes it
+pub record SessionRequest : Type 0 where
   pub client : ℕ
   pub service : List ℕ
   pub label : List ℕ
@@ -73,14 +74,15 @@ pub record Wish : Type 0 where
 abbrev pub client_of : Listed → List ℕ → Option ℕ
 client_of list name = position (λ entry. bytes_eq entry.path name) list.entries
 
-abbrev pub wish_by : Listed → List ℕ → Call → Option Wish
-wish_by list name (Open service text) =
+abbrev pub request_by : Listed → List ℕ → Call → Option SessionRequest
+request_by list name (Open service text) =
     option_map (λ client. record { client = client; service = service; label = (given text).label }) (client_of list name)
-wish_by list name call = None
+request_by list name call = None
 
-abbrev pub rules_of_request : Listed → Option Wish → List RulePlace
+abbrev pub rules_of_request : Listed → Option SessionRequest → List RulePlace
 rules_of_request list None = []
-rules_of_request list (Some wish) = rules_from list (Some wish.client) (route_steps_of list wish.client wish.service wish.label)
+rules_of_request list (Some request) =
+    rules_from list (Some request.client) (route_steps_of list request.client request.service request.label)
 
 -- ---- of an answered call
 
@@ -91,6 +93,6 @@ turned_away = BadLine ∷ UnknownComponent ∷ NotAScript ∷ Gone ∷ BadArgs �
 abbrev pub is_turned_away : List ℕ → Bool
 is_turned_away reply = list_any (λ refusal. bytes_eq reply (refusal_name refusal)) turned_away
 
--- the rules that decided the session request of a call with this reply
-abbrev pub decided_by : Listed → Spoken → List ℕ → List RulePlace
-decided_by list said reply = if is_turned_away reply then [] else rules_of_request list (wish_by list said.name said.call)
+-- the session request of a call with this reply, unless it was refused before any rule was asked
+abbrev pub request_of : Listed → Spoken → List ℕ → Option SessionRequest
+request_of list said reply = if is_turned_away reply then None else request_by list said.name said.call

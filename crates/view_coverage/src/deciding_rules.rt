@@ -1,16 +1,19 @@
-//! The rules that decide the session request of an answered call.
+//! The session request of an answered call, and the rules that decide it.
 ghost use Rattle.std.specs.Prelude.{◌≡◌, ◌∷◌, ◌++◌, ◌<◌, ◌≤◌, [], length, IfOk, IfSome, IfNone, OnOk, Some, None};
 ghost use Rattle.std.specs.List.{slice_get};
 ghost use Rattle.std.specs.Option.{option_and_then, option_map};
 ghost use Rattle.core_calls.specs.Call.{model_call};
+ghost use Rattle.own_model.specs.Listed.{services_of};
 ghost use Rattle.own_model.specs.Session.{given};
-ghost use Rattle.view_coverage.specs.Rules.{decided_by, default_of, init_of, init_place, is_turned_away, route_by, route_for, rule_in, rules_from, rules_of_request, wish_by};
+ghost use Rattle.view_coverage.specs.Covered.{asked_in, service_number};
+ghost use Rattle.view_coverage.specs.Rules.{default_of, init_of, init_place, is_turned_away, request_by, request_of, route_by, route_for, rule_in, rules_from, rules_of_request};
+ghost use Rattle.view_coverage.specs.Views.{request_view};
 
-use crate::event::{RouteOwner, RulePlace, is_refused};
+use crate::event::{RouteOwner, RulePlace, ScriptService, is_refused};
 use core_calls::{Answer, Call};
 use list_labels::RouteStep;
 use list_parser::{ListEntry, StartList};
-use list_reach::RoutePath;
+use list_reach::{RoutePath, service_name};
 use session_proto::SessionArgs;
 use std::alloc::{AllocError, Global};
 use trade_base::Refusal;
@@ -24,22 +27,30 @@ const TURNED_AWAY: [Refusal; 5] = [
     Refusal::BadArgs,
 ];
 
-/// Returns the rules that decided the session request of a component's call with this reply, list by list outward. Fails if the
-/// host is out of memory.
-pub(crate) fn decided_by(
-    alloc: Global,
+/// A session request of a component, by the component's number, the service and the label.
+#[derive(Clone, Copy)]
+pub(crate) struct SessionRequest<'a> {
+    pub(crate) client: usize,
+    pub(crate) service: &'a [u8],
+    pub(crate) label: &'a [u8],
+}
+
+/// Returns the session request of a component's call with this reply. A call that was refused before any rule was asked has none.
+pub(crate) fn request_of<'a>(
     list: &StartList,
     name: &[u8],
-    call: Call<'_>,
+    call: Call<'a>,
     answer: Answer<'_>,
-) -> Result<Vec<RulePlace>, AllocError>
-    ensures { IfOk result (λ rules. rules.items ≡ decided_by list.now
-        (record { name = name.now; call = model_call call.entry }) answer.entry.text.now) }
+) -> Option<SessionRequest<'a>>
+    ensures value { option_map request_view result ≡ request_of list.now
+        (record { name = name.now; call = model_call call.entry }) answer.entry.text.now }
+    ensures client { IfSome result (λ request. request.client < length list.now.entries) }
+    ensures label { IfSome result (λ request. length request.label.now ≤ 64) }
 {
     if is_turned_away(answer) {
-        return Ok(Vec::new(alloc));
+        return None;
     }
-    rules_of_call(alloc, list, name, call)
+    request_by(list, name, call)
 }
 
 // Returns whether an answer is one of those refusals.
@@ -51,39 +62,87 @@ fn is_turned_away(answer: Answer<'_>) -> bool
         .any(|refusal| is_refused(answer, *refusal))
 }
 
-// Returns the rules that decide the session request of a component's call, if it makes one.
-fn rules_of_call(
-    alloc: Global,
-    list: &StartList,
-    name: &[u8],
-    call: Call<'_>,
-) -> Result<Vec<RulePlace>, AllocError>
-    ensures { IfOk result (λ rules. rules.items
-        ≡ rules_of_request list.now (wish_by list.now name.now (model_call call.entry))) }
+// Returns the session request of a component's call, if it makes one.
+fn request_by<'a>(list: &StartList, name: &[u8], call: Call<'a>) -> Option<SessionRequest<'a>>
+    ensures value { option_map request_view result
+        ≡ request_by list.now name.now (model_call call.entry) }
+    ensures client { IfSome result (λ request. request.client < length list.now.entries) }
+    ensures label { IfSome result (λ request. length request.label.now ≤ 64) }
 {
     let Call::Open { service, args } = call else {
-        return Ok(Vec::new(alloc));
+        return None;
     };
     match list.find(name) {
-        Some(client) => rules_of(alloc, list, client, service, label_given(args)),
-        None => Ok(Vec::new(alloc)),
+        Some(client) => Some(SessionRequest {
+            client,
+            service,
+            label: label_given(args),
+        }),
+        None => None,
     }
+}
+
+/// Returns the script and the service of a session request, if there is one and the list has the service.
+pub(crate) fn asked_in(
+    list: &StartList,
+    request: Option<SessionRequest<'_>>,
+) -> Option<ScriptService>
+    ensures { result ≡ asked_in list.now (option_map request_view request.entry) }
+{
+    let request = request?;
+    match service_number(list, request.service) {
+        Some(service) => Some(ScriptService {
+            client: request.client,
+            service,
+        }),
+        None => None,
+    }
+}
+
+// Returns the number of a service of a list, given by its name, if the list has the service.
+#[tactic(auto, using(crate::proofs::ServiceLemmas::service_found, crate::proofs::ServiceLemmas::service_passed))]
+fn service_number(list: &StartList, name: &[u8]) -> Option<usize>
+    ensures { result
+        ≡ service_number name.now 0 (services_of list.now.entries) }
+{
+    for number in 0..list.service_count() {
+        if service_name(list, number).as_bytes() == name {
+            return Some(number);
+        }
+    }
+    None
+}
+
+/// Returns the rules that decide a session request, if there is one, list by list outward. Fails if the host is out of memory.
+pub(crate) fn rules_of_request(
+    alloc: Global,
+    list: &StartList,
+    request: Option<SessionRequest<'_>>,
+) -> Result<Vec<RulePlace>, AllocError>
+    requires client { IfSome request (λ asked. asked.client < length list.now.entries) }
+    requires label { IfSome request (λ asked. length asked.label.now ≤ 64) }
+    ensures { IfOk result (λ rules. rules.items
+        ≡ rules_of_request list.now (option_map request_view request.entry)) }
+{
+    let Some(asked) = request else {
+        return Ok(Vec::new(alloc));
+    };
+    rules_of(alloc, list, asked)
 }
 
 // The rules that decide the request of a client.
 fn rules_of(
     alloc: Global,
     list: &StartList,
-    client: usize,
-    service: &[u8],
-    label: &[u8],
+    asked: SessionRequest<'_>,
 ) -> Result<Vec<RulePlace>, AllocError>
-    requires client { client < length list.now.entries }
-    requires label { length label.now ≤ 64 }
-    ensures { IfOk result (λ rules. rules.items ≡ rules_of_request list.now
-        (Some (record { client = client; service = service.now; label = label.now }))) }
+    requires client { asked.client < length list.now.entries }
+    requires label { length asked.label.now ≤ 64 }
+    ensures { IfOk result (λ rules. rules.items
+        ≡ rules_of_request list.now (Some (request_view asked.entry))) }
 {
-    let course = RoutePath::of(alloc, list, client, service, label)?;
+    let client = asked.client;
+    let course = RoutePath::of(alloc, list, client, asked.service, asked.label)?;
     let mut rules = Vec::new(alloc);
     add_rules(&mut rules, list, client, course.hops())?;
     Ok(rules)

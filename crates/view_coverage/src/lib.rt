@@ -1,5 +1,5 @@
-//! Coverage: the rules of a start list that decide a session request in scenarios, and the refusals and errors that scenarios
-//! meet. `test` calls it, as `cover(alloc, &list, exchanges)?`.
+//! Coverage: the rules of a start list that decide a session request in scenarios, its scripts by the services that they request,
+//! and the refusals and errors that scenarios meet. `test` calls it, as `cover(alloc, &list, exchanges)?`.
 #![tactic(auto)]
 
 mod call_forms;
@@ -15,8 +15,8 @@ mod table;
 mod theorems;
 
 pub use call_forms::CoverageCall;
-pub use event::{CoverageEvent, RouteOwner, RulePlace};
-pub use report::CoverageReport;
+pub use event::{CoverageEvent, RouteOwner, RulePlace, ScriptService};
+pub use report::{CoverageCount, CoverageReport};
 pub use request_forms::CoverageRequest;
 pub use row::CoverageRow;
 pub use scenario_coverage::{Coverage, cover};

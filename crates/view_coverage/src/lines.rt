@@ -1,10 +1,11 @@
 //! The coverage of all scenarios, as lines for people.
 use crate::event::CoverageEvent;
-use crate::report::{CoverageReport, CoverageSheet, ListRules, tables_of};
+use crate::report::{CoverageReport, CoverageSheet, PartKind, PartName, tables_of};
 use crate::row::CoverageRow;
 use std::fmt;
 
-/// Writes a refusal after the form of its calls, or an error after the form of its requests.
+/// Writes a refusal after the form of its calls, or an error after the form of its requests. A rule and a service have their
+/// numbers.
 impl fmt::Display for CoverageRow {
     fn fmt<W: fmt::Write>(&self, f: &mut fmt::Formatter<W>) -> fmt::Result {
         match self.event {
@@ -21,17 +22,32 @@ impl fmt::Display for CoverageRow {
                 error.name()
             ),
             CoverageEvent::Decided(rule) => write!(f, "rule {}", rule.place),
+            CoverageEvent::Requested(asked) => write!(f, "service {}", asked.service),
         }
     }
 }
 
-/// Writes lines of comments: the rules of each start list, then both tables, and then each scenario with the rows that it meets.
+/// Writes the name of a rule, or a script's path and a service.
+impl fmt::Display for PartName {
+    fn fmt<W: fmt::Write>(&self, f: &mut fmt::Formatter<W>) -> fmt::Result {
+        match self {
+            PartName::Rule(name) => f.write_str(name.as_str()),
+            PartName::Request(path, service) => write!(f, "{} {}", path.as_str(), service.as_str()),
+        }
+    }
+}
+
+/// Writes lines of comments: the rules and the session requests of each start list, then both tables if they are reported, and
+/// then each scenario with what it meets of these.
 impl fmt::Display for CoverageReport {
     fn fmt<W: fmt::Write>(&self, f: &mut fmt::Formatter<W>) -> fmt::Result {
-        for (place, rules) in self.lists.as_slice().iter().enumerate() {
-            self.show_rules(f, place, rules)?;
+        for list in 0..self.lists.len() {
+            self.show_parts(f, list, PartKind::Rule, "rules decide a session request")?;
+            self.show_parts(f, list, PartKind::Request, "session requests are made")?;
         }
-        self.show_tables(f)?;
+        if self.calls {
+            self.show_tables(f)?;
+        }
         for sheet in self.sheets.as_slice() {
             self.show_sheet(f, sheet)?;
         }
@@ -40,37 +56,37 @@ impl fmt::Display for CoverageReport {
 }
 
 impl CoverageReport {
-    // The rules of a start list.
-    fn show_rules<W: fmt::Write>(
+    // The parts of a kind of the start list at a place, after the number of those that are covered.
+    fn show_parts<W: fmt::Write>(
         &self,
         f: &mut fmt::Formatter<W>,
         list: usize,
-        rules: &ListRules,
+        kind: PartKind,
+        verdict: &str,
     ) -> fmt::Result {
-        let path = rules.path.as_str();
-        let all = rules.rules.len();
-        let decided = self.count_decided(list, rules);
-        writeln!(
-            f,
-            "# coverage: {path}: {decided} of {all} rules decide a session request"
-        )?;
-        for rule in rules.rules.as_slice() {
-            let name = rule.name.as_str();
-            write!(f, "# coverage: {path}: {name}: ")?;
-            show_times(f, self.times_decided(list, rule.place))?;
+        let Some(path) = self.lists.get(list) else {
+            return Ok(());
+        };
+        let path = path.as_str();
+        let covered = self.count_of(list, kind, true);
+        let all = self.count_of(list, kind, false);
+        writeln!(f, "# coverage: {path}: {covered} of {all} {verdict}")?;
+        for part in self.parts.as_slice() {
+            if part.is_of(list, kind) {
+                write!(f, "# coverage: {path}: {}: ", part.name)?;
+                show_times(f, self.times_in_list(list, part.place))?;
+            }
         }
         Ok(())
     }
 
-    // The number of rules of a start list that decide a session request.
-    fn count_decided(&self, list: usize, rules: &ListRules) -> usize {
-        let mut decided = 0usize;
-        for rule in rules.rules.as_slice() {
-            if self.times_decided(list, rule.place) > 0 {
-                decided = decided.saturating_add(1);
-            }
-        }
-        decided
+    // The number of parts of a kind of the start list at a place, or only of those that are covered.
+    fn count_of(&self, list: usize, kind: PartKind, covered: bool) -> usize {
+        let sheets = self.sheets.as_slice();
+        let parts = self.parts.as_slice().iter();
+        parts
+            .filter(|part| part.is_of(list, kind) && (!covered || part.is_covered(sheets)))
+            .count()
     }
 
     // The rows of both tables.
@@ -100,7 +116,7 @@ impl CoverageReport {
         met
     }
 
-    // The rows of the tables, and the rules of its start list, that a scenario meets.
+    // What a scenario meets: rows of the tables if they are reported, and parts of its start list.
     fn show_sheet<W: fmt::Write>(
         &self,
         f: &mut fmt::Formatter<W>,
@@ -109,17 +125,15 @@ impl CoverageReport {
         write!(f, "# coverage: {}:", sheet.path.as_str())?;
         let mut parted = " ";
         for row in tables_of(sheet.rows.as_slice()) {
-            if row.met {
+            if self.calls && row.met {
                 write!(f, "{parted}{row}")?;
                 parted = ", ";
             }
         }
-        if let Some(rules) = self.lists.get(sheet.list) {
-            for rule in rules.rules.as_slice() {
-                if sheet.meets(rule.place) {
-                    write!(f, "{parted}{}", rule.name.as_str())?;
-                    parted = ", ";
-                }
+        for part in self.parts.as_slice() {
+            if part.list == sheet.list && sheet.meets(part.place) {
+                write!(f, "{parted}{}", part.name)?;
+                parted = ", ";
             }
         }
         f.write_str("\n")

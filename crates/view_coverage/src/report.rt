@@ -1,35 +1,96 @@
-//! The coverage of all scenarios: which rules decide a session request, and which refusals and errors are met, in total and by
-//! file.
-ghost use Rattle.std.specs.Prelude.{◌≡◌, ◌&&◌, ◌==◌, count_by, length, string_bytes, IfOk, IfSome, OnOk, Some};
-ghost use Rattle.std.specs.Str.{bytes_eq};
-ghost use Rattle.view_coverage.specs.Reported.{is_met_in, list_at, list_of_scenario};
+//! The coverage of all scenarios: which rules decide a session request, which script requests which service, and which refusals
+//! and errors are met, in total and by file.
+ghost use Rattle.std.specs.Prelude.{◌≡◌, ◌&&◌, ◌==◌, ◌++◌, ◌∷◌, [], count_by, if◌then◌else◌, is_some, length, map, string_bytes, IfOk, IfSome, OnOk, Some};
+ghost use Rattle.view_coverage.specs.Reported.{if_new, is_covered, is_event_of_list, is_met_in, is_met_on_table, is_of_list, list_at, list_of_scenario, numbers_of, parts_from, parts_in, parts_with, paths_in, paths_with, place_of, rows_in};
 
-use crate::event::{CoverageEvent, RouteOwner, RulePlace};
+use crate::event::{CoverageEvent, RouteOwner, RulePlace, ScriptService};
 use crate::row::CoverageRow;
 use crate::scenario_coverage::Coverage;
 use list_parser::StartList;
+use list_reach::service_name;
 use std::alloc::{AllocError, Global};
 
 /// A report on the coverage of the scenarios of some files.
 #[derive(Drop)]
 pub struct CoverageReport {
     alloc: Global,
-    pub(crate) lists: Vec<ListRules>,
+    /// Whether the text and the document have the refusals and errors too.
+    pub(crate) calls: bool,
+    /// The paths of the start lists.
+    pub(crate) lists: Vec<String>,
+    /// The parts of each start list, in the order of the start lists.
+    pub(crate) parts: Vec<CoveragePart>,
     pub(crate) sheets: Vec<CoverageSheet>,
 }
 
-/// The rules of a start list.
+/// A part of a start list that scenarios cover.
 #[derive(Drop)]
-pub(crate) struct ListRules {
-    pub path: String,
-    pub rules: Vec<NamedRule>,
+pub(crate) struct CoveragePart {
+    /// The place of the start list.
+    pub list: usize,
+    /// The place of the part's row.
+    pub place: usize,
+    pub name: PartName,
 }
 
-/// A rule by its name, and the place of its row.
+/// The kind of a part of a start list.
+#[derive(Clone, Copy, PartialEq, Eq)]
+pub(crate) enum PartKind {
+    /// A rule of a route.
+    Rule,
+    /// The session requests of a script for a service.
+    Request,
+}
+
+impl CoveragePart {
+    ghost use Rattle.std.specs.Prelude.{◌≡◌};
+    ghost use Rattle.view_coverage.specs.Reported.{is_covered};
+
+    /// Returns whether the part is of this kind, and of the start list at this place.
+    pub(crate) fn is_of(&self, list: usize, kind: PartKind) -> bool {
+        let own = match self.name {
+            PartName::Rule(_) => PartKind::Rule,
+            PartName::Request(_, _) => PartKind::Request,
+        };
+        self.list == list && own == kind
+    }
+
+    /// Returns whether one of these scenarios is of the part's start list and meets the part's row.
+    pub(crate) fn is_covered(&self, sheets: &[CoverageSheet]) -> bool
+        ensures { result ≡ is_covered sheets.now self.now }
+    {
+        sheets
+            .iter()
+            .any(|sheet| sheet.list == self.list && sheet.meets(self.place))
+    }
+}
+
+/// The name of a part of a start list.
 #[derive(Drop)]
-pub(crate) struct NamedRule {
-    pub place: usize,
-    pub name: String,
+pub(crate) enum PartName {
+    /// A rule, by its place in its route and the owner of the route.
+    Rule(String),
+    /// The session requests of the script with the first path for the service with the second name.
+    Request(String, String),
+}
+
+/// The number of rules and session requests of all start lists, and the number of those that scenarios cover.
+#[derive(Clone, Copy)]
+pub struct CoverageCount {
+    pub covered: usize,
+    pub all: usize,
+}
+
+impl CoverageCount {
+    ghost use Rattle.std.specs.Prelude.{◌≡◌};
+    ghost use Rattle.view_coverage.specs.Reported.{falls_short};
+
+    /// Returns whether fewer than this percentage are covered.
+    pub fn falls_short(self, percent: u8) -> bool
+        ensures { result ≡ falls_short percent self.covered self.all }
+    {
+        self.covered as u128 * 100 < percent as u128 * self.all as u128
+    }
 }
 
 /// The coverage of one scenario.
@@ -42,16 +103,19 @@ pub(crate) struct CoverageSheet {
 }
 
 impl CoverageReport {
-    /// Returns a report without scenarios, to which scenarios are added.
-    pub fn new(alloc: Global) -> CoverageReport {
+    /// Returns a report without scenarios, to which scenarios are added. It has the refusals and errors if `calls` is set.
+    pub fn new(alloc: Global, calls: bool) -> CoverageReport {
         CoverageReport {
             alloc,
+            calls,
             lists: Vec::new(alloc),
+            parts: Vec::new(alloc),
             sheets: Vec::new(alloc),
         }
     }
 
-    /// Adds the coverage of a scenario on the machine of a start list, each with its path. Fails if the host is out of memory.
+    /// Adds the coverage of a scenario on the machine of a start list, each with its path. A start list that is new adds its parts.
+    /// Fails if the host is out of memory.
     #[tactic(auto, using(crate::proofs::PlaceLemmas::added_on))]
     pub fn add(
         &mut self,
@@ -60,8 +124,12 @@ impl CoverageReport {
         scenario: &str,
         coverage: Coverage,
     ) -> Result<(), AllocError>
-        ensures { OnOk result
+        ensures list { OnOk result
             (list_of_scenario self.new (length self.old.sheets.items) ≡ Some path.now) }
+        ensures rows { OnOk result (rows_in self.new ≡ rows_in self.old ++ coverage.rows.items ∷ []) }
+        ensures paths { OnOk result (paths_in self.new ≡ paths_with self.old path.now) }
+        ensures parts { OnOk result
+            (parts_in self.new ≡ parts_with self.old path.now coverage.rows.items) }
     {
         let place = self.place_of(list, path, coverage.rows.as_slice())?;
         self.sheets.push(CoverageSheet {
@@ -72,8 +140,20 @@ impl CoverageReport {
         Ok(())
     }
 
-    // Returns the place of the start list of this path, which is added if it isn't there.
-    #[tactic(auto, using(crate::proofs::PlaceLemmas::last_is))]
+    /// Returns how many rules and session requests the start lists have, and how many of them their scenarios cover.
+    pub fn count(&self) -> CoverageCount
+        ensures all { result.all ≡ length self.now.parts.items }
+        ensures covered { result.covered
+            ≡ count_by (is_covered self.now.sheets.items) self.now.parts.items }
+    {
+        CoverageCount {
+            all: self.parts.len(),
+            covered: covered_in(self.sheets.as_slice(), self.parts.as_slice()),
+        }
+    }
+
+    // Returns the place of the start list of this path, which is added with its parts if it isn't there.
+    #[tactic(auto, using(crate::proofs::PlaceLemmas::found_at, crate::proofs::PlaceLemmas::last_is))]
     fn place_of(
         &mut self,
         list: &StartList,
@@ -82,36 +162,40 @@ impl CoverageReport {
     ) -> Result<usize, AllocError>
         ensures sheets { self.new.sheets ≡ self.old.sheets }
         ensures place { IfOk result (λ place. list_at self.new.lists.items place ≡ Some path.now) }
+        ensures paths { OnOk result (paths_in self.new ≡ paths_with self.old path.now) }
+        ensures parts { OnOk result (parts_in self.new ≡ parts_with self.old path.now rows.now) }
     {
         if let Some(place) = place_in(self.lists.as_slice(), path) {
             return Ok(place);
         }
         let place = self.lists.len();
-        let rules = ListRules {
-            path: String::from_str(self.alloc, path)?,
-            rules: rules_named(self.alloc, list, rows)?,
-        };
-        self.lists.push(rules)?;
+        add_parts(self.alloc, list, place, rows, &mut self.parts)?;
+        self.lists.push(String::from_str(self.alloc, path)?)?;
         Ok(place)
     }
 
-    /// Returns the rows of both tables of the first scenario; their events are the same for each scenario.
+    /// Returns the rows of both tables. Their events are the same for each scenario, except that only the machines with declared
+    /// servers have the last ones, which are of requests to these: so the most rows of a scenario are returned.
     pub(crate) fn tables(&self) -> &[CoverageRow] {
-        match self.sheets.as_slice().first() {
-            Some(sheet) => tables_of(sheet.rows.as_slice()),
-            None => &[],
+        let mut most: &[CoverageRow] = &[];
+        for sheet in self.sheets.as_slice() {
+            let rows = tables_of(sheet.rows.as_slice());
+            if rows.len() > most.len() {
+                most = rows;
+            }
         }
+        most
     }
 
     /// Returns how many scenarios meet the row at a place of the tables.
     pub(crate) fn times(&self, place: usize) -> usize
-        ensures { result ≡ count_by (λ sheet. is_met_in sheet place) self.now.sheets.items }
+        ensures { result ≡ count_by (λ sheet. is_met_on_table sheet place) self.now.sheets.items }
     {
         times_in(self.sheets.as_slice(), place)
     }
 
-    /// Returns in how many scenarios of a start list the rule decides whose row is at a place.
-    pub(crate) fn times_decided(&self, list: usize, place: usize) -> usize
+    /// Returns how many scenarios of a start list meet the row at a place.
+    pub(crate) fn times_in_list(&self, list: usize, place: usize) -> usize
         ensures { result ≡ count_by
             (λ sheet. (sheet.list == list) && is_met_in sheet place) self.now.sheets.items }
     {
@@ -121,7 +205,7 @@ impl CoverageReport {
 
 impl CoverageSheet {
     ghost use Rattle.std.specs.Prelude.{◌≡◌};
-    ghost use Rattle.view_coverage.specs.Reported.{is_met_in};
+    ghost use Rattle.view_coverage.specs.Reported.{is_met_in, is_met_on_table};
 
     /// Returns whether the scenario meets the row at a place.
     pub(crate) fn meets(&self, place: usize) -> bool
@@ -132,32 +216,40 @@ impl CoverageSheet {
             None => false,
         }
     }
+
+    /// Returns whether the row at a place is of a table, and the scenario meets the row.
+    pub(crate) fn meets_on_table(&self, place: usize) -> bool
+        ensures { result ≡ is_met_on_table self.now place }
+    {
+        match self.rows.get(place) {
+            Some(row) => row.met && !row.is_of_list(),
+            None => false,
+        }
+    }
 }
 
 // Returns the place of the start list of a path, if it is there.
-fn place_in(lists: &[ListRules], path: &str) -> Option<usize>
-    ensures { IfSome result (λ place. list_at lists.now place ≡ Some path.now) }
+fn place_in(lists: &[String], path: &str) -> Option<usize>
+    ensures { result ≡ place_of lists.now path.now }
 {
-    for place in 0..lists.len() {
-        if is_of(&lists[place], path) {
-            return Some(place);
-        }
-    }
-    None
+    lists.iter().position(|list| list.as_str() == path)
 }
 
-// Returns whether rules are those of the start list of a path.
-fn is_of(rules: &ListRules, path: &str) -> bool
-    ensures { result ≡ bytes_eq (string_bytes rules.now.path) path.now }
+// Returns how many of these parts are covered by these scenarios.
+fn covered_in(sheets: &[CoverageSheet], parts: &[CoveragePart]) -> usize
+    ensures { result ≡ count_by (is_covered sheets.now) parts.now }
 {
-    rules.path.as_str() == path
+    parts.iter().filter(|part| part.is_covered(sheets)).count()
 }
 
-// The number of these scenarios that meet the row at a place.
+// The number of these scenarios that meet the row at a place of the tables.
 fn times_in(sheets: &[CoverageSheet], place: usize) -> usize
-    ensures { result ≡ count_by (λ sheet. is_met_in sheet place) sheets.now }
+    ensures { result ≡ count_by (λ sheet. is_met_on_table sheet place) sheets.now }
 {
-    sheets.iter().filter(|sheet| sheet.meets(place)).count()
+    sheets
+        .iter()
+        .filter(|sheet| sheet.meets_on_table(place))
+        .count()
 }
 
 // The same for the scenarios of a start list.
@@ -171,30 +263,99 @@ fn times_of(sheets: &[CoverageSheet], list: usize, place: usize) -> usize
         .count()
 }
 
-/// Returns the rows before the first row of a rule.
+/// Returns the rows before the first row of a start list: those of both tables.
 pub(crate) fn tables_of(rows: &[CoverageRow]) -> &[CoverageRow] {
-    match rows.iter().position(|row| row.is_of_a_rule()) {
+    match rows.iter().position(|row| row.is_of_list()) {
         Some(end) => &rows[..end],
         None => rows,
     }
 }
 
-// The rules among rows.
-fn rules_named(
+// Adds the parts of the start list at a place: one for each row of a rule or of a script and a service.
+fn add_parts(
     alloc: Global,
     list: &StartList,
+    number: usize,
     rows: &[CoverageRow],
-) -> Result<Vec<NamedRule>, AllocError> {
-    let mut rules = Vec::new(alloc);
-    for (place, row) in rows.iter().enumerate() {
-        if let CoverageEvent::Decided(rule) = row.event {
-            rules.push(NamedRule {
-                place,
-                name: rule_name(alloc, list, rule)?,
-            })?;
+    parts: &mut Vec<CoveragePart>,
+) -> Result<(), AllocError>
+    ensures { OnOk result (map numbers_of parts.new.items
+        ≡ map numbers_of parts.old.items ++ parts_from number 0 rows.now) }
+{
+    for place in 0..rows.len() {
+        add_part(alloc, list, number, place, &rows[place], parts)?;
+    }
+    Ok(())
+}
+
+// Adds the part of the row at a place, if the row is of a start list.
+fn add_part(
+    alloc: Global,
+    list: &StartList,
+    number: usize,
+    place: usize,
+    row: &CoverageRow,
+    parts: &mut Vec<CoveragePart>,
+) -> Result<(), AllocError>
+    ensures { OnOk result (map numbers_of parts.new.items ≡ map numbers_of parts.old.items
+        ++ (if is_of_list row.now then (number, place) ∷ [] else [])) }
+{
+    let Some(name) = part_name(alloc, list, row.event)? else {
+        return Ok(());
+    };
+    parts.push(CoveragePart {
+        list: number,
+        place,
+        name,
+    })?;
+    Ok(())
+}
+
+// Returns the name of the part of an event, if the event is of a start list.
+fn part_name(
+    alloc: Global,
+    list: &StartList,
+    event: CoverageEvent,
+) -> Result<Option<PartName>, AllocError>
+    ensures { IfOk result (λ name. is_some name ≡ is_event_of_list event) }
+{
+    match event {
+        CoverageEvent::Refused(_, _) | CoverageEvent::Failed(_, _) => Ok(None),
+        CoverageEvent::Decided(rule) => {
+            let name = rule_name(alloc, list, rule)?;
+            Ok(Some(PartName::Rule(name)))
+        }
+        CoverageEvent::Requested(asked) => {
+            let path = script_path(alloc, list, asked)?;
+            let service = asked_service(alloc, list, asked)?;
+            Ok(Some(PartName::Request(path, service)))
         }
     }
-    Ok(rules)
+}
+
+// Returns the path of a script.
+fn script_path(
+    alloc: Global,
+    list: &StartList,
+    asked: ScriptService,
+) -> Result<String, AllocError> {
+    match list.entries().get(asked.client) {
+        Some(entry) => format!(in alloc; "{}", entry.to_path()),
+        None => Ok(String::new(alloc)),
+    }
+}
+
+// Returns the name of a service.
+fn asked_service(
+    alloc: Global,
+    list: &StartList,
+    asked: ScriptService,
+) -> Result<String, AllocError> {
+    if asked.service < list.service_count() {
+        String::from_str(alloc, service_name(list, asked.service))
+    } else {
+        Ok(String::new(alloc))
+    }
 }
 
 // The name of a rule: its place in its route, and whose route that is, unless it is the machine's.

@@ -2,13 +2,14 @@
 ghost use Rattle.std.specs.Prelude.{◌≡◌};
 ghost use Rattle.std.specs.Option.{option_copied};
 ghost use Rattle.core_calls.specs.Call.{model_call};
-ghost use Rattle.view_coverage.specs.Requests.{asked_word, errors_of, is_asked, request_word};
+ghost use Rattle.view_coverage.specs.Requests.{asked_word, errors_of, is_asked, object_errors_of, request_word};
 
 use core_calls::FileError::{
     BadName, BadRange, BadRequest, End, Exists, Gap, InvalidSize, NoBuffer, NotFound, OutOfCaps,
     OutOfRam, TooLong, TooManyChunks,
 };
-use core_calls::{Call, FileError};
+use core_calls::ObjectError::{BadKind, Shared};
+use core_calls::{Call, ObjectError};
 use text_codec::split_first_word;
 
 /// What an error answers: any request of a session, or a request of one form.
@@ -26,9 +27,13 @@ pub enum CoverageRequest {
     Unbuffer,
     Put,
     Get,
+    Make,
+    Resize,
+    Count,
 }
 
-/// All forms of requests, in the order in which they are printed.
+/// The forms of requests on every machine, in the order in which they are printed. A session of a declared server has some of them
+/// too.
 pub(crate) const REQUESTS: [CoverageRequest; 12] = [
     CoverageRequest::AnyRequest,
     CoverageRequest::Create,
@@ -44,10 +49,17 @@ pub(crate) const REQUESTS: [CoverageRequest; 12] = [
     CoverageRequest::Get,
 ];
 
+/// The forms that sessions of declared servers alone have, which are printed after the others.
+pub(crate) const OBJECT_REQUESTS: [CoverageRequest; 3] = [
+    CoverageRequest::Make,
+    CoverageRequest::Resize,
+    CoverageRequest::Count,
+];
+
 impl CoverageRequest {
     ghost use Rattle.std.specs.Prelude.{◌≡◌};
     ghost use Rattle.std.specs.Option.{option_copied};
-    ghost use Rattle.view_coverage.specs.Requests.{asked_word, errors_of, is_any, is_asked};
+    ghost use Rattle.view_coverage.specs.Requests.{asked_word, errors_of, is_any, is_asked, object_errors_of};
 
     /// Returns the first word of requests of this form, or `any request`.
     pub fn word(self) -> &'static str
@@ -66,24 +78,92 @@ impl CoverageRequest {
             CoverageRequest::Unbuffer => "UNBUFFER",
             CoverageRequest::Put => "PUT",
             CoverageRequest::Get => "GET",
+            CoverageRequest::Make => "MAKE",
+            CoverageRequest::Resize => "RESIZE",
+            CoverageRequest::Count => "COUNT",
         }
     }
 
     /// Returns the errors of requests of this form, in the order in which they are tested.
-    pub fn errors(self) -> &'static [FileError]
+    pub fn errors(self) -> &'static [ObjectError]
         ensures { result.now ≡ errors_of self }
     {
         match self {
-            CoverageRequest::AnyRequest => &[BadRequest],
-            CoverageRequest::Create => &[BadName, Exists, TooManyChunks, OutOfRam, OutOfCaps],
-            CoverageRequest::Write => &[NotFound, Gap, OutOfRam, OutOfCaps],
-            CoverageRequest::Read => &[NotFound, Gap, TooLong],
-            CoverageRequest::Size | CoverageRequest::Clear | CoverageRequest::Drop => &[NotFound],
-            CoverageRequest::Name => &[End],
-            CoverageRequest::Buffer => &[InvalidSize, Exists, OutOfRam, OutOfCaps],
-            CoverageRequest::Unbuffer => &[NoBuffer],
-            CoverageRequest::Put => &[NotFound, Gap, NoBuffer, BadRange, OutOfRam, OutOfCaps],
-            CoverageRequest::Get => &[NotFound, Gap, NoBuffer, BadRange],
+            CoverageRequest::AnyRequest => &[Shared(BadRequest)],
+            CoverageRequest::Create => &[
+                Shared(BadName),
+                Shared(Exists),
+                Shared(TooManyChunks),
+                Shared(OutOfRam),
+                Shared(OutOfCaps),
+            ],
+            CoverageRequest::Write => {
+                &[
+                    Shared(NotFound),
+                    Shared(Gap),
+                    Shared(OutOfRam),
+                    Shared(OutOfCaps),
+                ]
+            }
+            CoverageRequest::Read => &[Shared(NotFound), Shared(Gap), Shared(TooLong)],
+            CoverageRequest::Size | CoverageRequest::Clear | CoverageRequest::Drop => {
+                &[Shared(NotFound)]
+            }
+            CoverageRequest::Name => &[Shared(End)],
+            CoverageRequest::Buffer => {
+                &[
+                    Shared(InvalidSize),
+                    Shared(Exists),
+                    Shared(OutOfRam),
+                    Shared(OutOfCaps),
+                ]
+            }
+            CoverageRequest::Unbuffer => &[Shared(NoBuffer)],
+            CoverageRequest::Put => &[
+                Shared(NotFound),
+                Shared(Gap),
+                Shared(NoBuffer),
+                Shared(BadRange),
+                Shared(OutOfRam),
+                Shared(OutOfCaps),
+            ],
+            CoverageRequest::Get => {
+                &[
+                    Shared(NotFound),
+                    Shared(Gap),
+                    Shared(NoBuffer),
+                    Shared(BadRange),
+                ]
+            }
+            CoverageRequest::Make | CoverageRequest::Resize | CoverageRequest::Count => {
+                self.object_errors()
+            }
+        }
+    }
+
+    // Returns the errors of a form that sessions of declared servers alone have; other forms have none of these.
+    fn object_errors(self) -> &'static [ObjectError]
+        ensures { result.now ≡ object_errors_of self }
+    {
+        match self {
+            CoverageRequest::Make => &[
+                BadKind,
+                Shared(BadName),
+                Shared(Exists),
+                Shared(TooManyChunks),
+                Shared(OutOfRam),
+                Shared(OutOfCaps),
+            ],
+            CoverageRequest::Resize => {
+                &[
+                    Shared(NotFound),
+                    Shared(InvalidSize),
+                    Shared(OutOfRam),
+                    Shared(OutOfCaps),
+                ]
+            }
+            CoverageRequest::Count => &[BadKind],
+            _ => &[],
         }
     }
 

@@ -1,10 +1,10 @@
 //! Rows of coverage: events, and whether each is met.
 ghost use Rattle.std.specs.Prelude.{◌≡◌, map};
 ghost use Rattle.std.specs.List.{list_any};
-ghost use Rattle.view_coverage.specs.Covered.{evidence_in, has_rule, row_with, shown_with};
+ghost use Rattle.view_coverage.specs.Covered.{evidence_in, has_rule, is_request, row_with, shown_with};
 
 use crate::call_forms::CoverageCall;
-use crate::event::{CoverageEvent, RulePlace, is_error, is_refused};
+use crate::event::{CoverageEvent, RulePlace, ScriptService, is_error, is_refused};
 use core_calls::Answer;
 
 /// A row of coverage: an event that a reply can show, and whether some reply showed it.
@@ -15,19 +15,28 @@ pub struct CoverageRow {
 }
 
 impl CoverageRow {
-    /// Returns whether the row is that of a rule.
-    pub(crate) fn is_of_a_rule(&self) -> bool {
-        matches!(self.event, CoverageEvent::Decided(_))
+    ghost use Rattle.std.specs.Prelude.{◌≡◌};
+    ghost use Rattle.view_coverage.specs.Reported.{is_of_list};
+
+    /// Returns whether the row is of a start list: of a rule, or of a script's session requests.
+    pub(crate) fn is_of_list(&self) -> bool
+        ensures { result ≡ is_of_list self.now }
+    {
+        matches!(
+            self.event,
+            CoverageEvent::Decided(_) | CoverageEvent::Requested(_)
+        )
     }
 }
 
-/// The evidence of an answered line: its reply, and the rules that decided its session request. It has the form of the call and
-/// the first word of the request, if the line has these.
+/// The evidence of an answered line: its reply, and the rules that decided its session request. It has the form of the call, the
+/// first word of the request, and the script and the service of the session request, if the line has these.
 #[derive(Clone, Copy)]
 pub(crate) struct CallEvidence<'a, 'b> {
     pub form: Option<CoverageCall>,
     pub word: Option<&'a [u8]>,
     pub answer: Answer<'a>,
+    pub asked: Option<ScriptService>,
     pub rules: &'b [RulePlace],
 }
 
@@ -46,6 +55,7 @@ impl CallEvidence<'_, '_> {
             CoverageEvent::Failed(asked, error) => asked.is_in(self.word)
                 && is_error(self.answer, error),
             CoverageEvent::Decided(rule) => has_rule(self.rules, rule),
+            CoverageEvent::Requested(asked) => is_request(asked, self.asked),
         }
     }
 
@@ -66,6 +76,16 @@ impl CallEvidence<'_, '_> {
         for row in rows.iter_mut() {
             *row = self.noted_in(*row);
         }
+    }
+}
+
+// Returns whether the script and the service of a session request, if there is one, are these.
+fn is_request(asked: ScriptService, request: Option<ScriptService>) -> bool
+    ensures { result ≡ is_request asked request }
+{
+    match request {
+        Some(request) => asked.client == request.client && asked.service == request.service,
+        None => false,
     }
 }
 

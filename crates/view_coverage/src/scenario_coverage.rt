@@ -4,7 +4,7 @@ ghost use Rattle.core_calls.specs.Call.{model_call};
 ghost use Rattle.view_coverage.specs.Covered.{answer_of, evidence_of, row_by, row_with, rows_after, rows_of};
 
 use crate::call_forms::form_of;
-use crate::deciding_rules::decided_by;
+use crate::deciding_rules::{asked_in, request_of, rules_of_request};
 use crate::request_forms::request_word;
 use crate::row::{CallEvidence, CoverageRow};
 use crate::table::rows_of;
@@ -17,12 +17,13 @@ use std::alloc::{AllocError, Global};
 /// The coverage of a machine by a scenario.
 #[derive(Drop)]
 pub struct Coverage {
-    /// The rows of the table of calls, of that of requests, and of each rule of the start list.
+    /// The rows of the table of calls, of that of requests, of each rule of the start list, and of each of its scripts and each
+    /// service that it provides.
     pub rows: Vec<CoverageRow>,
 }
 
-/// Returns the coverage of a start list's machine by a scenario's calls with their replies. It has each row of both tables and
-/// each rule, and whether some call shows it. Fails if the host is out of memory.
+/// Returns the coverage of a start list's machine by a scenario's calls with their replies. It has each row of both tables, each
+/// rule, and each script by service, and whether some call shows it. Fails if the host is out of memory.
 pub fn cover(
     alloc: Global,
     list: &StartList,
@@ -69,6 +70,7 @@ fn note(
                 form: None,
                 word: None,
                 answer,
+                asked: None,
                 rules: &[],
             };
             answered.note(rows);
@@ -90,11 +92,13 @@ fn note_call(
         (Some (record { name = name.now; call = model_call call.entry }))
         answer.entry.text.now)) rows.old) }
 {
-    let rules = decided_by(alloc, list, name, call, answer)?;
+    let request = request_of(list, name, call, answer);
+    let rules = rules_of_request(alloc, list, request)?;
     let answered = CallEvidence {
         form: form_of(call),
         word: request_word(call),
         answer,
+        asked: asked_in(list, request),
         rules: rules.as_slice(),
     };
     answered.note(rows);

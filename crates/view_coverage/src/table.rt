@@ -1,25 +1,30 @@
 //! The rows of a machine, none of them met.
 ghost use Rattle.std.specs.Prelude.{◌≡◌, ◌++◌, length, map, OnOk, IfOk};
 ghost use Rattle.std.specs.List.{flat_map};
-ghost use Rattle.view_coverage.specs.Covered.{error_rows, refusal_rows, route_rows, rows_of, rows_of_entries, rows_of_entry, unmet};
+ghost use Rattle.own_model.specs.Listed.{services_of};
+ghost use Rattle.view_coverage.specs.Covered.{error_rows, is_provided, object_rows, refusal_rows, route_rows, rows_of, rows_of_entries, rows_of_entry, script_rows, scripts_rows, service_rows, services_rows, unmet};
 
 use crate::call_forms::{CoverageCall, FORMS};
-use crate::event::{CoverageEvent, RouteOwner, RulePlace};
-use crate::request_forms::{CoverageRequest, REQUESTS};
+use crate::event::{CoverageEvent, RouteOwner, RulePlace, ScriptService};
+use crate::request_forms::{CoverageRequest, OBJECT_REQUESTS, REQUESTS};
 use crate::row::CoverageRow;
 use list_parser::{ListEntry, StartList};
+use list_reach::service_name;
 use std::alloc::{AllocError, Global};
+use trade_base::SERVICES;
 
-/// Returns the rows of a machine: of the table of calls, of the table of requests, and of each rule of its start list. Fails if
-/// the host is out of memory.
+/// Returns the rows of a machine: of the table of calls, of the table of requests, of each rule of its start list, and of each
+/// script by service. A machine without declared servers has no rows of the requests that their sessions alone have. Fails if the host is out of memory.
 pub(crate) fn rows_of(alloc: Global, list: &StartList) -> Result<Vec<CoverageRow>, AllocError>
     ensures { IfOk result (λ rows. rows.items ≡ rows_of list.now) }
 {
     let mut rows = Vec::new(alloc);
     add_calls(&mut rows, &FORMS)?;
     add_requests(&mut rows, &REQUESTS)?;
+    add_object_requests(&mut rows, list)?;
     add_rules(&mut rows, RouteOwner::Machine, list.default_route().len())?;
     add_entries(&mut rows, list.entries())?;
+    add_scripts(&mut rows, list)?;
     Ok(rows)
 }
 
@@ -48,6 +53,17 @@ fn add_requests(rows: &mut Vec<CoverageRow>, requests: &[CoverageRequest]) -> Re
         add_errors(rows, *asked)?;
     }
     Ok(())
+}
+
+// Adds the errors of requests that sessions of declared servers alone have, if the list declares a service.
+fn add_object_requests(rows: &mut Vec<CoverageRow>, list: &StartList) -> Result<(), AllocError>
+    ensures { OnOk result (rows.new.items ≡ rows.old.items ++ object_rows list.now.entries) }
+{
+    if list.service_count() > SERVICES.len() {
+        add_requests(rows, &OBJECT_REQUESTS)
+    } else {
+        Ok(())
+    }
 }
 
 // Adds the refusals of calls of a form.
@@ -102,4 +118,73 @@ fn add_entry(
         add_rules(rows, RouteOwner::Own(number), rules.len())?;
     }
     add_rules(rows, RouteOwner::Inner(number), entry.inner_route().len())
+}
+
+// Adds the session requests of scripts.
+fn add_scripts(rows: &mut Vec<CoverageRow>, list: &StartList) -> Result<(), AllocError>
+    ensures { OnOk result
+        (rows.new.items ≡ rows.old.items ++ scripts_rows list.now.entries 0 list.now.entries) }
+{
+    let entries = list.entries();
+    for number in 0..entries.len() {
+        add_script(rows, list, number, &entries[number])?;
+    }
+    Ok(())
+}
+
+// Adds the session requests of an entry: of a script one for each service that is provided.
+fn add_script(
+    rows: &mut Vec<CoverageRow>,
+    list: &StartList,
+    number: usize,
+    entry: &ListEntry,
+) -> Result<(), AllocError>
+    ensures { OnOk result
+        (rows.new.items ≡ rows.old.items ++ script_rows list.now.entries number entry.now) }
+{
+    if entry.is_script() {
+        add_services(rows, list, number)
+    } else {
+        Ok(())
+    }
+}
+
+// Adds the session requests of a script, one for each service of the list that is provided.
+fn add_services(
+    rows: &mut Vec<CoverageRow>,
+    list: &StartList,
+    client: usize,
+) -> Result<(), AllocError>
+    ensures { OnOk result (rows.new.items ≡ rows.old.items
+        ++ services_rows list.now.entries client 0 (services_of list.now.entries)) }
+{
+    for service in 0..list.service_count() {
+        let name = service_name(list, service);
+        add_service(rows, list, ScriptService { client, service }, name)?;
+    }
+    Ok(())
+}
+
+// Adds the session requests of a script for a service of this name, if the service is provided.
+fn add_service(
+    rows: &mut Vec<CoverageRow>,
+    list: &StartList,
+    asked: ScriptService,
+    name: &str,
+) -> Result<(), AllocError>
+    ensures { OnOk result (rows.new.items ≡ rows.old.items
+        ++ service_rows list.now.entries asked.client asked.service name.now) }
+{
+    if is_provided(list.entries(), name) {
+        rows.push(unmet(CoverageEvent::Requested(asked)))?;
+    }
+    Ok(())
+}
+
+// Returns whether an entry provides a service.
+fn is_provided(entries: &[ListEntry], service: &str) -> bool
+    ensures { result ≡ is_provided entries.now service.now }
+{
+    let name = service.as_bytes();
+    entries.iter().any(|entry| entry.offers(entry.home(), name))
 }

@@ -35,8 +35,8 @@ sees_more {start} {earlier} {call} {core} {answer} told kept sees is more_is =
     ∙ sym (exchanges_more start [] earlier call)
 
 -- what a play observed
-pub answered_from : {first : RunPosition} {start last : World} {kept found : List Exchange} {front : List ℕ} {input rest w w' : Option (List ℕ)} {failed : Bool} {tells : List (List ℕ) → ℕ → List ℕ → List ℕ} {counts : List LineStep → Type 0} (ending : ScenarioEnd) → found ≡ kept →
-    RunsAll tells true (λ calls. kept ≡ exchanges start calls) counts None first ending.fault ending.lines start last front input rest failed w w' →
+pub answered_from : {first : RunPosition} {start last : World} {kept found : List Exchange} {front : List ℕ} {input rest w w' : Option (List ℕ)} {failed : Bool} {tells : List (List ℕ) → ℕ → List ℕ → List ℕ} {counts : List LineStep → Type 0} {reports : List (List ℕ) → Type 0} (ending : ScenarioEnd) → found ≡ kept →
+    RunsAll tells true (λ calls. kept ≡ exchanges start calls) counts reports None first ending.fault ending.lines start last front input rest failed w w' →
     IsAnsweredFrom (turns_of None start first) start ending found input rest failed
 answered_from {first = first} {start = start} ending is plays = record {
   given = plays.given;
@@ -46,9 +46,9 @@ answered_from {first = first} {start = start} ending is plays = record {
 }
 
 -- and it wrote nothing
-pub silent_played : {first : RunPosition} {seen : List (List ℕ) → Type 0} {start last : World} {awaited : Awaited} {input rest w w' : Option (List ℕ)} {failed : Bool} (ending : ScenarioEnd) →
-    RunsAll (λ _ _ _. []) true seen (CountsErrors None start (tally 0 awaited) ending.complaints) None first ending.fault ending.lines start last [] input rest failed w w' →
-    IsRunFrom (start_at None start first awaited) (λ _. []) (λ _. []) true ending input rest failed w w'
+pub silent_played : {first : RunPosition} {seen reports : List (List ℕ) → Type 0} {start last : World} {awaited : Awaited} {input rest w w' : Option (List ℕ)} {failed : Bool} (ending : ScenarioEnd) →
+    RunsAll (λ _ _ _. []) true seen (CountsErrors None start (tally 0 awaited) ending.complaints) reports None first ending.fault ending.lines start last [] input rest failed w w' →
+    IsRunFrom (start_at None start first awaited) (λ _. []) (λ _. []) true reports ending input rest failed w w'
 silent_played {first = first} {start = start} {w' = w'} ending plays =
     played_from ending ending plays (silent_turns None [] (turns_of None start first plays.given)) (closes_alone ending w')
 

@@ -1,5 +1,5 @@
 -- The replies to one component in the whole run, and alone.
-use Rattle.std.specs.Prelude.{◌≡◌, ℕ, ◌<◌, ◌^◌, ◌==◌, true, List, [], ◌∷◌, ◌++◌, length, map, codes, decimal, if◌then◌else◌, Option, Some, None}
+use Rattle.std.specs.Prelude.{◌≡◌, ℕ, ◌<◌, ◌^◌, ◌==◌, true, List, [], ◌∷◌, ◌++◌, length, map, codes, decimal, if◌then◌else◌, Option, Some, None, IfSome}
 use Rattle.std.specs.Option.{option_map_or}
 use Rattle.own_model.specs.Listed.{Listed}
 use Rattle.own_model.specs.LinesOfName.{is_line_of, joined, pieces, pieces_for, said_by}
@@ -10,7 +10,8 @@ use Rattle.run_scenario.specs.RunCalls.{calls_answered, calls_of_steps, text_of_
 use Rattle.run_lines.specs.Machine.{world_of}
 use Rattle.run_scenario.specs.Texts.{in_brackets, line_text}
 use Rattle.run_scenario.specs.LineSteps.{LineStep}
-use Rattle.run_scenario.specs.Writes.{transcript_of}
+use Rattle.run_scenario.specs.Judging.{errors_of}
+use Rattle.run_scenario.specs.Writes.{AreAll, RunStart, steps_from, transcript_of}
 
 -- the text that the engine writes for a call in a world
 abbrev pub told_in : World → List ℕ → List ℕ
@@ -45,6 +46,13 @@ alone_sum name lines =
 
 abbrev pub alone_behind : List ℕ → List LineStep → List ℕ
 alone_behind name turns = alone_sum name (length (calls_answered (Some name) turns))
+
+-- lines that are all of the input, if that is known: their errors by their steps, and how many calls of a name they make
+pub record CountsAlone (name : List ℕ) (start : RunStart) (input : Option (List ℕ)) (errors count : ℕ) : Type 0 where
+  pub given : List (List ℕ)
+  pub all : IfSome input (AreAll given)
+  pub complained : errors ≡ errors_of start.only start.world start.awaited (steps_from start given)
+  pub counted : count ≡ length (calls_answered (Some name) (steps_from start given))
 
 abbrev pub alone_text : List ℕ → Listed → List LineStep → List ℕ
 alone_text name listed turns = text_of_steps (alone_call_text name (world_of listed)) None [] turns

@@ -13,12 +13,14 @@ ghost use Rattle.line_grammar.specs.Read.{IsReadAs};
 ghost use Rattle.run_lines.specs.Causes.{HasCause};
 ghost use Rattle.run_scenario.specs.Faults.{fault_before, unplayed};
 ghost use Rattle.run_lines.specs.Faults.{is_write_fault};
-ghost use Rattle.view_runs.specs.Alone.{AreAlike, SeesAlone, alone_behind, alone_sum, alone_call_text, alone_text};
+ghost use Rattle.view_runs.specs.Alone.{AreAlike, CountsAlone, SeesAlone, alone_behind, alone_sum, alone_call_text, alone_text};
 ghost use Rattle.run_scenario.specs.RunCalls.{calls_answered, text_of_steps};
 ghost use Rattle.run_scenario.specs.Texts.{in_brackets, line_text};
 ghost use Rattle.run_scenario.specs.LineSteps.{turns_of};
+ghost use Rattle.run_scenario.specs.RunReports.{WritesAllReports, scope_of};
 ghost use Rattle.run_scenario.specs.Writes.{Closes, IsRunFrom, IsWrittenBy, start_at, start_on};
 ghost use Rattle.run_lines.specs.declared.line_run_fault.LineRunFault.TheVariants.{NoMemory as NoRoom};
+ghost use Rattle.view_diagnostics.specs.Diagnostics.{subject_at};
 
 use crate::byte_text::{put_text_after, shown_in};
 use crate::printed_bytes::put_printed;
@@ -286,16 +288,29 @@ pub fn alone<S: Source, K: Sink, E: Sink>(
     ensures played { IfOk result (λ compared. fault_before (S.has_failed reader.old)
         (K.has_failed writer.old || E.has_failed complaints.old) ≡ None →
         IsRunFrom (start_on None play.entry.start play.entry.list.now)
-        (alone_text name.now play.entry.list.now) (alone_behind name.now) false compared.ending
+        (alone_text name.now play.entry.list.now) (alone_behind name.now) false
+        (WritesAllReports (scope_of (subject_at play.entry.scenario) play.entry.list.now)
+        (start_on None play.entry.start play.entry.list.now)
+        (E.contents complaints.old) (E.contents complaints.new))
+        compared.ending
         (S.remaining reader.old) (S.remaining reader.new)
         (S.has_failed reader.new) (K.contents writer.old) (K.contents writer.new)) }
     ensures summed { IfOk result (λ compared. fault_before (S.has_failed reader.old)
         (K.has_failed writer.old || E.has_failed complaints.old) ≡ None →
         IsRunFrom (start_on None play.entry.start play.entry.list.now)
         (alone_text name.now play.entry.list.now) (λ _. alone_sum name.now compared.lines)
-        false compared.ending
+        false
+        (WritesAllReports (scope_of (subject_at play.entry.scenario) play.entry.list.now)
+        (start_on None play.entry.start play.entry.list.now)
+        (E.contents complaints.old) (E.contents complaints.new))
+        compared.ending
         (S.remaining reader.old) (S.remaining reader.new)
         (S.has_failed reader.new) (K.contents writer.old) (K.contents writer.new)) }
+    ensures counts { IfOk result (λ compared. fault_before (S.has_failed reader.old)
+        (K.has_failed writer.old || E.has_failed complaints.old) ≡ None →
+        IfNone compared.ending.fault (CountsAlone name.now
+        (start_on None play.entry.start play.entry.list.now) (S.remaining reader.old)
+        compared.ending.complaints compared.lines)) }
     ensures same { IfOk result (λ compared. fault_before (S.has_failed reader.old)
         (K.has_failed writer.old || E.has_failed complaints.old) ≡ None →
         IfNone compared.ending.fault (compared.difference ≡ None)) }
@@ -353,15 +368,28 @@ fn run_alone<'a, R: Router + Drop, Q: Router + Drop, S: Source, K: Sink, E: Sink
         (λ turns. text_of_steps (alone_call_text named.now.name.now machines.whole) None [] turns)
         (λ turns. alone_sum named.now.name.now
         (length (calls_answered (Some named.now.name.now) turns)))
-        false result.ending (S.remaining reader.old) (S.remaining reader.new)
+        false
+        (WritesAllReports (scope_of (subject_at notes.old.critic.scenario) named.now.run.list.now)
+        (start_at None machines.whole notes.old.stand notes.old.critic.expected)
+        (E.contents complaints.old) (E.contents complaints.new))
+        result.ending (S.remaining reader.old) (S.remaining reader.new)
         (S.has_failed reader.new) (K.contents writer.old) (K.contents writer.new) }
     ensures summed { fault_before (S.has_failed reader.old)
         (K.has_failed writer.old || E.has_failed complaints.old) ≡ None →
         IsRunFrom (start_at None machines.whole notes.old.stand notes.old.critic.expected)
         (λ turns. text_of_steps (alone_call_text named.now.name.now machines.whole) None [] turns)
         (λ _. alone_sum named.now.name.now result.lines)
-        false result.ending (S.remaining reader.old) (S.remaining reader.new)
+        false
+        (WritesAllReports (scope_of (subject_at notes.old.critic.scenario) named.now.run.list.now)
+        (start_at None machines.whole notes.old.stand notes.old.critic.expected)
+        (E.contents complaints.old) (E.contents complaints.new))
+        result.ending (S.remaining reader.old) (S.remaining reader.new)
         (S.has_failed reader.new) (K.contents writer.old) (K.contents writer.new) }
+    ensures counts { fault_before (S.has_failed reader.old)
+        (K.has_failed writer.old || E.has_failed complaints.old) ≡ None →
+        IfNone result.ending.fault (CountsAlone named.now.name.now
+        (start_at None machines.whole notes.old.stand notes.old.critic.expected)
+        (S.remaining reader.old) result.ending.complaints result.lines) }
     ensures same { fault_before (S.has_failed reader.old)
         (K.has_failed writer.old || E.has_failed complaints.old) ≡ None →
         IfNone result.ending.fault (result.difference ≡ None) }

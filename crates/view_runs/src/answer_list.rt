@@ -13,7 +13,9 @@ ghost use Rattle.view_runs.specs.Answers.{IsAnsweredFrom, exchanges};
 ghost use Rattle.run_scenario.specs.Faults.{fault_before, unplayed};
 ghost use Rattle.view_runs.specs.Tracing.{call_text};
 ghost use Rattle.run_scenario.specs.LineSteps.{turns_of};
+ghost use Rattle.run_scenario.specs.RunReports.{WritesAllReports, scope_of};
 ghost use Rattle.run_scenario.specs.Writes.{IsRunFrom, nothing_told, start_at, start_on, turns_on};
+ghost use Rattle.view_diagnostics.specs.Diagnostics.{subject_at};
 
 use core_calls::Answer;
 use init_core::boot;
@@ -117,7 +119,11 @@ pub fn answers<S: Source, K: Sink, E: Sink>(
     ensures played { IfOk result (λ answers. fault_before (S.has_failed reader.old)
         (K.has_failed writer.old || E.has_failed complaints.old) ≡ None →
         IsRunFrom (start_on None play.entry.start play.entry.list.now) nothing_told
-        nothing_told true answers.ending
+        nothing_told true
+        (WritesAllReports (scope_of (subject_at play.entry.scenario) play.entry.list.now)
+        (start_on None play.entry.start play.entry.list.now)
+        (E.contents complaints.old) (E.contents complaints.new))
+        answers.ending
         (S.remaining reader.old) (S.remaining reader.new)
         (S.has_failed reader.new) (K.contents writer.old) (K.contents writer.new)) }
     ensures answered { IfOk result (λ answers. fault_before (S.has_failed reader.old)
@@ -175,7 +181,13 @@ fn answers_on<R: Router + Drop, S: Source, K: Sink, E: Sink>(
         (K.has_failed writer.old || E.has_failed complaints.old) ≡ None →
         IsRunFrom (start_at None stage.entry.core stage.entry.notes.stand
         stage.entry.notes.critic.expected) (λ _. []) (λ _. [])
-        true result.ending (S.remaining reader.old) (S.remaining reader.new)
+        true
+        (WritesAllReports
+        (scope_of (subject_at stage.entry.notes.critic.scenario) stage.entry.run.list.now)
+        (start_at None stage.entry.core stage.entry.notes.stand
+        stage.entry.notes.critic.expected)
+        (E.contents complaints.old) (E.contents complaints.new))
+        result.ending (S.remaining reader.old) (S.remaining reader.new)
         (S.has_failed reader.new) (K.contents writer.old) (K.contents writer.new) }
     ensures answered { fault_before (S.has_failed reader.old)
         (K.has_failed writer.old || E.has_failed complaints.old) ≡ None →

@@ -10,8 +10,10 @@ ghost use Rattle.run_lines.specs.Faults.{is_write_fault};
 ghost use Rattle.run_scenario.specs.RunCalls.{text_of_steps};
 ghost use Rattle.view_runs.specs.Tracing.{trace_call_text, trace_text};
 ghost use Rattle.run_scenario.specs.LineSteps.{turns_of};
+ghost use Rattle.run_scenario.specs.RunReports.{WritesAllReports, scope_of};
 ghost use Rattle.run_scenario.specs.Writes.{IsRunFrom, nothing_told, start_at, start_on};
 ghost use Rattle.run_lines.specs.declared.line_run_fault.LineRunFault.TheVariants.{NoMemory as NoRoom};
+ghost use Rattle.view_diagnostics.specs.Diagnostics.{subject_at};
 
 use crate::row_format::RowFormat;
 use crate::trace_row::row_of;
@@ -69,7 +71,11 @@ pub fn trace<F: RowFormat + Drop, S: Source, K: Sink, E: Sink>(
     ensures played { IfOk result (λ ending. fault_before (S.has_failed reader.old)
         (K.has_failed writer.old || E.has_failed complaints.old) ≡ None →
         IsRunFrom (start_on None play.entry.start play.entry.list.now)
-        (trace_text F.front F.row_text play.entry.list.now) nothing_told F.takes ending
+        (trace_text F.front F.row_text play.entry.list.now) nothing_told F.takes
+        (WritesAllReports (scope_of (subject_at play.entry.scenario) play.entry.list.now)
+        (start_on None play.entry.start play.entry.list.now)
+        (E.contents complaints.old) (E.contents complaints.new))
+        ending
         (S.remaining reader.old) (S.remaining reader.new)
         (S.has_failed reader.new) (K.contents writer.old) (K.contents writer.new)) }
     ensures few { IfOk result (λ ending. ending.lines ≤ MAX_LINES) }
@@ -125,7 +131,13 @@ fn trace_on<R: Router + Drop, F: RowFormat + Drop, S: Source, K: Sink, E: Sink>(
         (λ turns. F.front
         ++ text_of_steps (trace_call_text F.row_text stage.entry.core) None [] turns)
         (λ _. [])
-        F.takes result (S.remaining reader.old) (S.remaining reader.new)
+        F.takes
+        (WritesAllReports
+        (scope_of (subject_at stage.entry.notes.critic.scenario) stage.entry.run.list.now)
+        (start_at None stage.entry.core stage.entry.notes.stand
+        stage.entry.notes.critic.expected)
+        (E.contents complaints.old) (E.contents complaints.new))
+        result (S.remaining reader.old) (S.remaining reader.new)
         (S.has_failed reader.new) (K.contents writer.old) (K.contents writer.new) }
     ensures few { result.lines ≤ MAX_LINES }
     ensures writing { (K.has_failed writer.new || E.has_failed complaints.new)

@@ -12,9 +12,11 @@ ghost use Rattle.run_lines.specs.Causes.{HasCause};
 ghost use Rattle.run_scenario.specs.Faults.{fault_before, unplayed};
 ghost use Rattle.run_lines.specs.Faults.{is_write_fault};
 ghost use Rattle.run_scenario.specs.LineSteps.{turns_of};
+ghost use Rattle.run_scenario.specs.RunReports.{WritesAllReports, scope_of};
 ghost use Rattle.run_scenario.specs.Writes.{Closes, IsRunFrom, start_at, start_on};
 ghost use Rattle.view_runs.specs.Transcripts.{list_behind, number_before, run_behind, text_of_run_call, text_of_run, shown_of};
 ghost use Rattle.run_lines.specs.declared.line_run_fault.LineRunFault.TheVariants.{NoMemory as NoRoom};
+ghost use Rattle.view_diagnostics.specs.Diagnostics.{subject_at};
 
 use init_core::boot;
 use list_parser::{BootFault, StartList};
@@ -126,7 +128,11 @@ pub fn run<S: Source, K: Sink, E: Sink>(
         IsRunFrom
         (start_on (option_copied showing.entry.only) play.entry.start play.entry.list.now)
         (text_of_run showing.entry play.entry.list.now) (run_behind showing.entry play.entry.list.now)
-        false ending
+        false
+        (WritesAllReports (scope_of (subject_at play.entry.scenario) play.entry.list.now)
+        (start_on (option_copied showing.entry.only) play.entry.start play.entry.list.now)
+        (E.contents complaints.old) (E.contents complaints.new))
+        ending
         (S.remaining reader.old) (S.remaining reader.new)
         (S.has_failed reader.new) (K.contents writer.old) (K.contents writer.new)) }
     ensures few { IfOk result (λ ending. ending.lines ≤ MAX_LINES) }
@@ -181,7 +187,13 @@ fn run_on<R: Router + Drop, S: Source, K: Sink, E: Sink>(
         (shown_of showing.entry.numbers (option_copied stage.entry.run.only) stage.entry.core)
         (list_behind showing.entry.accounts (option_copied stage.entry.run.only)
         stage.entry.run.list.now stage.entry.core)
-        false result
+        false
+        (WritesAllReports
+        (scope_of (subject_at stage.entry.notes.critic.scenario) stage.entry.run.list.now)
+        (start_at (option_copied stage.entry.run.only) stage.entry.core stage.entry.notes.stand
+        stage.entry.notes.critic.expected)
+        (E.contents complaints.old) (E.contents complaints.new))
+        result
         (S.remaining reader.old) (S.remaining reader.new)
         (S.has_failed reader.new) (K.contents writer.old) (K.contents writer.new) }
     ensures few { result.lines ≤ MAX_LINES }

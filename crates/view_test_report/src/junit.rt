@@ -1,8 +1,8 @@
 //! JUnit's XML, as systems for continuous integration read it.
 ghost use Rattle.std.specs.Prelude.{◌≡◌, ◌==◌, ◌≤◌, ◌++◌, flat_map, length, position, IfOk, IfSome, OnOk};
-ghost use Rattle.view_test_report.specs.Junit.{first_line, junit_case, junit_document, junit_end, junit_failure, junit_front, numbered};
+ghost use Rattle.view_test_report.specs.Junit.{counted, first_line, junit_case, junit_document, junit_end, junit_failure, junit_front, numbered, thousandths, timed};
 
-use crate::test_result::{TestResult, failures};
+use crate::test_result::{TestResult, TimedResult, failures, total_milliseconds};
 use crate::xml::add_between;
 use std::alloc::{AllocError, Global};
 
@@ -11,34 +11,67 @@ const HEAD: &[u8] =
     b"<?xml version=\"1.0\" encoding=\"UTF-8\"?>\n<testsuites>\n<testsuite name=\"nethrywel\" tests=\"";
 
 /// Renders the results of trials as a JUnit document. Returns an error if the host is out of memory.
-pub fn junit_document(alloc: Global, trials: &[TestResult]) -> Result<Vec<u8>, AllocError>
+pub fn junit_document(alloc: Global, trials: &[TimedResult]) -> Result<Vec<u8>, AllocError>
     ensures { IfOk result (λ text. text.items ≡ junit_document trials.now) }
 {
     let mut text = Vec::new(alloc);
-    add_front(alloc, &mut text, trials)?;
-    add_cases(&mut text, trials)?;
+    let all = trials.len();
+    let failed = failures(trials);
+    let total = total_milliseconds(trials);
+    add_front(alloc, &mut text, all, failed, total)?;
+    add_cases(alloc, &mut text, trials)?;
     text.extend_from_slice(b"</testsuite>\n</testsuites>\n")?;
     Ok(text)
 }
 
-// Adds the text before the first trial.
+// Adds the text before the first trial: the number of trials, that of failures, and the time of all in milliseconds.
 #[tactic(auto, unfolding(crate::specs::Junit::junit_front))]
-fn add_front(alloc: Global, text: &mut Vec<u8>, trials: &[TestResult]) -> Result<(), AllocError>
-    ensures { OnOk result (text.new.items ≡ text.old.items ++ junit_front trials.now) }
+fn add_front(
+    alloc: Global,
+    text: &mut Vec<u8>,
+    all: usize,
+    failed: usize,
+    total: u64,
+) -> Result<(), AllocError>
+    ensures { OnOk result (text.new.items ≡ text.old.items ++ junit_front all failed total) }
 {
-    add_number(alloc, text, HEAD, trials.len())?;
-    add_number(alloc, text, b"\" failures=\"", failures(trials))?;
-    text.extend_from_slice(b"\">\n")
+    add_counts(alloc, text, all, failed)?;
+    add_time(alloc, text, total)?;
+    text.extend_from_slice(b">\n")
 }
 
-// Adds all trials.
-fn add_cases(text: &mut Vec<u8>, trials: &[TestResult]) -> Result<(), AllocError>
-    ensures { OnOk result (text.new.items ≡ text.old.items ++ flat_map junit_case trials.now) }
+// Adds the text up to the number of failures.
+#[tactic(auto, unfolding(crate::specs::Junit::counted))]
+fn add_counts(
+    alloc: Global,
+    text: &mut Vec<u8>,
+    all: usize,
+    failed: usize,
+) -> Result<(), AllocError>
+    ensures { OnOk result (text.new.items ≡ text.old.items ++ counted all failed) }
 {
-    for trial in trials {
-        add_case(text, trial)?;
-    }
-    Ok(())
+    add_number(alloc, text, HEAD, all as u64)?;
+    add_number(alloc, text, b"\" failures=\"", failed as u64)
+}
+
+// Adds the quote that ends an attribute, and after it a time in seconds as an attribute.
+#[tactic(auto, unfolding(crate::specs::Junit::timed))]
+fn add_time(alloc: Global, text: &mut Vec<u8>, milliseconds: u64) -> Result<(), AllocError>
+    ensures { OnOk result (text.new.items ≡ text.old.items ++ timed milliseconds) }
+{
+    add_number(alloc, text, b"\" time=\"", milliseconds / 1000)?;
+    add_thousandths(text, milliseconds)
+}
+
+// Adds a point, the three digits of thousandths of a second, and a quote.
+#[tactic(auto, unfolding(crate::specs::Junit::thousandths))]
+fn add_thousandths(text: &mut Vec<u8>, milliseconds: u64) -> Result<(), AllocError>
+    ensures { OnOk result (text.new.items ≡ text.old.items ++ thousandths milliseconds) }
+{
+    let hundreds = (milliseconds / 100 % 10) as u8;
+    let tens = (milliseconds / 10 % 10) as u8;
+    let ones = (milliseconds % 10) as u8;
+    text.extend_from_slice(&[b'.', b'0' + hundreds, b'0' + tens, b'0' + ones, b'"'])
 }
 
 // Adds a number after a text.
@@ -47,7 +80,7 @@ fn add_number(
     alloc: Global,
     text: &mut Vec<u8>,
     before: &[u8],
-    number: usize,
+    number: u64,
 ) -> Result<(), AllocError>
     ensures { OnOk result (text.new.items ≡ text.old.items ++ numbered before.now number) }
 {
@@ -56,19 +89,30 @@ fn add_number(
     text.extend_from_slice(digits.as_bytes())
 }
 
+// Adds all trials.
+fn add_cases(alloc: Global, text: &mut Vec<u8>, trials: &[TimedResult]) -> Result<(), AllocError>
+    ensures { OnOk result (text.new.items ≡ text.old.items ++ flat_map junit_case trials.now) }
+{
+    for trial in trials {
+        add_case(alloc, text, trial)?;
+    }
+    Ok(())
+}
+
 // Adds a trial.
 #[tactic(auto, unfolding(crate::specs::Junit::junit_case))]
-fn add_case(text: &mut Vec<u8>, trial: &TestResult) -> Result<(), AllocError>
+fn add_case(alloc: Global, text: &mut Vec<u8>, trial: &TimedResult) -> Result<(), AllocError>
     ensures { OnOk result (text.new.items ≡ text.old.items ++ junit_case trial.now) }
 {
-    let path = trial.name.as_bytes();
+    let path = trial.result.name.as_bytes();
     add_between(
         text,
         b"<testcase classname=\"nethrywel\" name=\"",
         path,
-        b"\"",
+        b"",
     )?;
-    add_end(text, trial)
+    add_time(alloc, text, trial.milliseconds)?;
+    add_end(text, &trial.result)
 }
 
 // Adds the end of a trial: why it failed, if it did.

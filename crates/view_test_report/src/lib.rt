@@ -11,5 +11,5 @@ mod xml;
 
 pub use junit::junit_document;
 pub use tap::{tap_plan, tap_point};
-pub use test_result::{TestResult, failures};
+pub use test_result::{TestResult, TimedResult, failures};
 pub use theorems::texts_stay_inside;

@@ -1,6 +1,6 @@
-//! The result of one test.
+//! The results of tests.
 ghost use Rattle.std.specs.Prelude.{◌≡◌, length};
-ghost use Rattle.view_test_report.specs.Trials.{failed_among};
+ghost use Rattle.view_test_report.specs.Trials.{failed_among, total_milliseconds};
 
 /// The result of a test: of a scenario that was run, or of a start list that was checked against its policy.
 #[derive(Drop)]
@@ -13,9 +13,29 @@ pub struct TestResult {
     pub told: Vec<u8>,
 }
 
+/// The result of a test, and the time that the test took.
+#[derive(Drop)]
+pub struct TimedResult {
+    /// The result.
+    pub result: TestResult,
+    /// The time from the start of the test to its end, in milliseconds.
+    pub milliseconds: u64,
+}
+
 /// Returns how many of these trials failed, for the exit status.
-pub fn failures(trials: &[TestResult]) -> usize
+pub fn failures(trials: &[TimedResult]) -> usize
     ensures { result ≡ length (failed_among trials.now) }
 {
-    trials.iter().filter(|trial| !trial.passed).count()
+    trials.iter().filter(|trial| !trial.result.passed).count()
+}
+
+/// Returns the sum of the times of these trials in milliseconds, at most the largest number of 64 bits.
+pub(crate) fn total_milliseconds(trials: &[TimedResult]) -> u64
+    ensures { result ≡ total_milliseconds trials.now }
+{
+    let mut total = 0u64;
+    for trial in trials {
+        total = total.saturating_add(trial.milliseconds);
+    }
+    total
 }

@@ -237,16 +237,23 @@ class PageData:
                 key = it.component, int(it.reply[4:]), it.line
                 openings[key] += 1
                 given[key] = donation_in(it.call)
-        for it in documents_in(out):
+        answered = Counter()
+        for it in documents_in(out, "interval"):
             key = it.component, it.session, it.line
             if found and found[-1][0] == key and found[-1][1][-1].ram_below is not None:
                 found[-1][1].append(it)
             else:
                 found.append((key, [it]))
-        # (an account for which no budget suffices has no interval)
-        known = Counter(key for key, _ in found)
+                answered[it.component, it.line] += it.count
+        # (an account for which no budget suffices has no interval; one interval may be that of several sessions of a line)
+        known = {key for key, _ in found}
+        opened = Counter()
+        for name, session, line in sorted(openings.elements(), key=lambda it: it not in known):
+            opened[name, line] += 1
+            if opened[name, line] > answered[name, line]:
+                found.append(((name, session, line), []))
         own = ((name, None, None) for name in given if isinstance(name, str))
-        found += [(key, []) for key in (*(openings - known), *(it for it in own if it not in known))]
+        found += [(key, []) for key in own if key not in known]
         accounts = [budget_of(key, rows, given.get(key if key[1] else key[0])) for key, rows in found]
         sessions = {id(it) for it in some([it for it in accounts if it["session"]], TIMELINES)}
         shown = [it for it in accounts if not it["session"] or id(it) in sessions]

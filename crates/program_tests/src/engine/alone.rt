@@ -2,7 +2,7 @@
 
 use crate::engine::rows::{PLAIN, WorkedRow, all_rows};
 use cli_engine::{Task, run_bytes};
-use init_core::{Binary, StartList};
+use init_core::StartList;
 use std::alloc::{AllocError, Global};
 use std::process::Abort;
 use std::test::Fail;
@@ -44,7 +44,7 @@ fn check_row<R: Abort + AllocGlobal>(rt: &R, row: &WorkedRow<'_>) -> Result<(), 
     let list = StartList::read(rt.alloc(), row.list.as_bytes())?;
     let whole = transcript_of(rt.alloc(), row, PLAIN)?;
     for entry in list.entries() {
-        if entry.binary() == Binary::Script {
+        if entry.is_script() {
             let own_lines = Task::Run {
                 accounts: false,
                 only: Some(entry.path()),

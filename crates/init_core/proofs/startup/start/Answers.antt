@@ -1,9 +1,10 @@
 -- One more entry has started, or isn't covered.
-use Rattle.std.proofs.Common.{◌≡◌, ◌≢◌, ◌+◌, List, get_or, subst, sym, ap, ◌∙◌, IfErr, Option, Some, Result, Ok, Err}
+use Rattle.std.proofs.Common.{rules, ◌≡◌, ◌≢◌, ◌+◌, List, get_or, subst, sym, ap, ◌∙◌, IfErr, Option, Some, Result, Ok, Err}
 use Rattle.std.specs.Prelude.{IsErrAnd}
 use Rattle.trade_base.specs.declared.id.AccountId.{AccountId}
 use Rattle.own_model.specs.Amounts.{Amounts}
 use Rattle.own_model.specs.Listed.{ListedEntry, reserve_by}
+use Rattle.own_model.specs.Reserve.{no_reserve}
 use Rattle.pd_core.specs.declared.component.Component.{Component}
 use Rattle.init_core.specs.Boot.{HasStarted}
 use Rattle.list_parser.specs.declared.fault.BootFault.{BootFault}
@@ -68,18 +69,29 @@ returns-in_ok-push-in-Server-clause-started c =
     let entry = c.index-entries-place.result in
     let is = subst (λ (xs : List ListedEntry). entry ≡ get_or xs c.args.place entry) c.entries.ensures c.index-entries-place.is in
     let init = init_next c.requires.so_far c.requires.place is c.home.result c.index-init.result.now c.home.ensures.home c.home.ensures.value c.index-init.ensures in
-    let none = ap (λ b. reserve_by b entry.reserve) (sym c.in-Server.ensures) in
+    let none : reserve_by entry.binary entry.reserve ≡ no_reserve = search rules in
     subst (λ (p : List Component × List AccountId). HasStarted c.args.list.now c.open_for.new.memory p.0 p.1 (c.args.place + 1))
     (λ j. (sym {A = List Component} c.in_ok-push-in-Server.ensures.items j, sym {A = List AccountId} c.in_ok-push.ensures.items j))
     (alone_started c.index-init.result.now.0 c.requires.so_far c.requires.place is init c.in_ok-account.account c.in_ok-server_of-in-Server.field-0 c.ram.ensures c.caps.ensures none
     (sym c.in_ok-account.ensures.covered) c.in_ok-account.ensures.opened c.in_ok-server_of-in-Server.ensures.made)
+
+pub returns-in_ok-push-in-Declared-clause-started : goal.returns-in_ok-push-in-Declared-clause-started
+returns-in_ok-push-in-Declared-clause-started c =
+    let entry = c.index-entries-place.result in
+    let is = subst (λ (xs : List ListedEntry). entry ≡ get_or xs c.args.place entry) c.entries.ensures c.index-entries-place.is in
+    let init = init_next c.requires.so_far c.requires.place is c.home.result c.index-init.result.now c.home.ensures.home c.home.ensures.value c.index-init.ensures in
+    let none : reserve_by entry.binary entry.reserve ≡ no_reserve = search rules in
+    subst (λ (p : List Component × List AccountId). HasStarted c.args.list.now c.open_for.new.memory p.0 p.1 (c.args.place + 1))
+    (λ j. (sym {A = List Component} c.in_ok-push-in-Declared.ensures.items j, sym {A = List AccountId} c.in_ok-push.ensures.items j))
+    (alone_started c.index-init.result.now.0 c.requires.so_far c.requires.place is init c.in_ok-account.account c.in_ok-declared_server_of-in-Declared.field-0 c.ram.ensures c.caps.ensures none
+    (sym c.in_ok-account.ensures.covered) c.in_ok-account.ensures.opened c.in_ok-declared_server_of-in-Declared.ensures.made)
 
 pub returns-in_ok-push-in-Init-clause-started : goal.returns-in_ok-push-in-Init-clause-started
 returns-in_ok-push-in-Init-clause-started c =
     let entry = c.index-entries-place.result in
     let is = subst (λ (xs : List ListedEntry). entry ≡ get_or xs c.args.place entry) c.entries.ensures c.index-entries-place.is in
     let init = init_next c.requires.so_far c.requires.place is c.home.result c.index-init.result.now c.home.ensures.home c.home.ensures.value c.index-init.ensures in
-    let none = ap (λ b. reserve_by b entry.reserve) (sym c.in-Init.ensures) in
+    let none : reserve_by entry.binary entry.reserve ≡ no_reserve = search rules in
     subst (λ (p : List Component × List AccountId). HasStarted c.args.list.now c.open_for.new.memory p.0 p.1 (c.args.place + 1))
     (λ j. (sym {A = List Component} c.in_ok-push-in-Init.ensures.items j, sym {A = List AccountId} c.in_ok-push.ensures.items j))
     (alone_started c.index-init.result.now.0 c.requires.so_far c.requires.place is init c.in_ok-account.account c.init_of.result c.ram.ensures c.caps.ensures none

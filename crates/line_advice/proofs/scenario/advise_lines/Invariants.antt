@@ -8,8 +8,8 @@ use Rattle.line_advice.proofs.scenario.advise_lines.Given as goal
 
 abbrev pub invariant-loop-rest : goal.invariant-loop-rest
 invariant-loop-rest l =
-    (advices l.found.items ++ scenario_advice (texts l.services) (option_copied l.only) l.number (lines_after (option_copied l.rest))
-    ≡ scenario_advice (texts l.services) (option_copied l.only) 1 (slice_split is_newline l.text))
+    (advices l.found.items ++ scenario_advice (texts l.words.services.now) (texts l.words.kinds.now) (option_copied l.only) l.number (lines_after (option_copied l.rest))
+    ≡ scenario_advice (texts l.words.services.now) (texts l.words.kinds.now) (option_copied l.only) 1 (slice_split is_newline l.text))
     × IfSome l.rest (λ lines. l.number + length lines.now ≤ 1 + length l.text)
 
 abbrev pub decreases-loop-rest : goal.decreases-loop-rest

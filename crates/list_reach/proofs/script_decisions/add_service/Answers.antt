@@ -1,5 +1,5 @@
 -- The decisions of one service more.
-use Rattle.std.proofs.Common.{ℕ, List, [], ◌∷◌, subst, sym}
+use Rattle.std.proofs.Common.{[], ◌∷◌, subst, sym}
 use Rattle.list_reach.specs.Deciding.{AreDecisions}
 use Rattle.list_reach.specs.ScriptDecisions.{AddsDecisions, Asking}
 use Rattle.list_reach.proofs.DecisionLemmas.{decides_one}
@@ -9,12 +9,11 @@ pub returns : goal.returns
 returns c =
     let list = c.args.list.now in
     let old = c.args.found.now.items in
-    let asking : List ℕ → Asking = λ service. record { client = c.args.client; service = service } in
-    subst (λ service. AddsDecisions list old (asking service ∷ []) c.push.new.self.items) c.name-service.ensures
-    (subst (λ new. AddsDecisions list old (asking c.name-service.result.now ∷ []) new) (sym c.in_ok-push.ensures.items)
+    let asking : Asking = record { client = c.args.client; service = c.args.service.now } in
+    subst (λ new. AddsDecisions list old (asking ∷ []) new) (sym c.in_ok-push.ensures.items)
     (decides_one list old _ c.requires.decided
     (record {
       within = c.requires.client;
       entry = c.requires.entry;
       decisions = subst (λ service. AreDecisions list c.args.client service c.in_ok-decisions.decisions) c.as_bytes.ensures.value c.in_ok-decisions.ensures;
-    })))
+    }))

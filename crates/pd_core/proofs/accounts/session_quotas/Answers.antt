@@ -11,7 +11,7 @@ use Rattle.pd_core.specs.Core.{roles_of, sessions_in}
 use Rattle.pd_core.specs.SessionCalls.{named_in}
 use Rattle.pd_core.specs.Sessions.{row_session}
 use Rattle.pd_core.specs.declared.component.Component.{Component}
-use Rattle.pd_core.proofs.QuotaLemmas.{built_in_at_place, found_in, session_at_place, served_where}
+use Rattle.pd_core.proofs.QuotaLemmas.{found_in, session_at_place, served_where}
 use Rattle.pd_core.proofs.accounts.session_quotas.Goals as goal
 
 pub bounds-components-server : goal.bounds-components-server
@@ -32,8 +32,8 @@ session_quotas-requires c =
       row = ap is_some (ap (λ d. get (rows_of c.args.memory.now d) c.in-Ok.session.0) at.is ∙ served.its at.result);
     }
 
-pub returns-in-Ok-clause-account : goal.returns-in-Ok-clause-account
-returns-in-Ok-clause-account c = λ places.
+pub returns-in-Ok : goal.returns-in-Ok
+returns-in-Ok c = λ places.
     let memory = c.args.memory.now in
     let components = c.args.components.now in
     let caller = c.index-components-place in
@@ -44,18 +44,10 @@ returns-in-Ok-clause-account c = λ places.
     ∙ sym (ap (λ (o : Option (Row Labelled)). option_map (λ (s : AnOpenSession). s.account) (option_map (row_session c.in-Ok.server) o)) served.there)
     ∙ sym (ap (option_map (λ (s : AnOpenSession). s.account)) (state ∙ ap (found_in (sessions_in memory (roles_of components))) (sym c.session.ensures.named ∙ c.in-Ok.is)))
 
-pub returns-in-Ok-clause-service : goal.returns-in-Ok-clause-service
-returns-in-Ok-clause-service c = λ places.
-    built_in_at_place places c.args.memory.now c.args.components.now c.args.place c.index-components-place.result c.args.selector c.requires.caller
-
-pub returns-in-Err-clause-account : goal.returns-in-Err-clause-account
-returns-in-Err-clause-account c = λ places.
+pub returns-in-Err : goal.returns-in-Err
+returns-in-Err c = λ places.
     let memory = c.args.memory.now in
     let components = c.args.components.now in
     let caller = c.index-components-place in
     let state = session_at_place places memory components c.args.place caller.result c.args.selector c.requires.caller ∙ ap (λ (d : Component). found_in (sessions_in memory (roles_of components)) (named_in d.role c.args.selector)) (sym caller.is) in
     sym (ap (option_map (λ (s : AnOpenSession). s.account)) (state ∙ ap (found_in (sessions_in memory (roles_of components))) (sym c.session.ensures.named ∙ c.in-Err.is)))
-
-pub returns-in-Err-clause-service : goal.returns-in-Err-clause-service
-returns-in-Err-clause-service c = λ places.
-    built_in_at_place places c.args.memory.now c.args.components.now c.args.place c.index-components-place.result c.args.selector c.requires.caller

@@ -1,9 +1,10 @@
 -- One more line is played, or the play ends behind those played.
 use Rattle.std.proofs.Common.{◌≡◌, ◌∷◌, [], ◌++◌, ◌+◌, ◌-◌, ◌≤◌, ℕ, Bool, Ok, arith, refl, sym, ◌∙◌, ap, subst, length, length-append}
+use Rattle.std.proofs.lemmas.Bool.{or_from}
 use Rattle.run_lines.specs.Faults.{line_fault}
 use Rattle.run_lines.specs.Next.{BeginsIn}
 use Rattle.run_lines.specs.LineRuns.{HandlesNext, point}
-use Rattle.run_lines.proofs.FaultLemmas.{fault_writing, or_none}
+use Rattle.run_lines.proofs.FaultLemmas.{fault_writing}
 use Rattle.run_lines.proofs.PlayLemmas.{breaks_before, come_fresh, none_begins, plays_more, plays_none, plays_to_end, plays_to_fault, plays_too_many}
 use Rattle.run_lines.proofs.line_run.play.Goals as goal
 
@@ -107,10 +108,10 @@ pub returns-in-Err-clause-writing : goal.returns-in-Err-clause-writing
 returns-in-Err-clause-writing g c = c.in-Err.ensures.writing
 
 pub returns-in-Ok-true-begins_line-clause-writing : goal.returns-in-Ok-true-begins_line-clause-writing
-returns-in-Ok-true-begins_line-clause-writing g c = or_none _ _ c.in-Ok-true-begins_line.ensures.failing.writing c.loop-count.invariant.works.own
+returns-in-Ok-true-begins_line-clause-writing g c = or_from _ _ c.in-Ok-true-begins_line.ensures.failing.writing c.loop-count.invariant.works.own
 
 pub returns-in-Ok-false-begins_line-clause-writing : goal.returns-in-Ok-false-begins_line-clause-writing
-returns-in-Ok-false-begins_line-clause-writing g c = or_none _ _ c.in-Ok-false-begins_line.ensures.failing.writing c.loop-count.invariant.works.own
+returns-in-Ok-false-begins_line-clause-writing g c = or_from _ _ c.in-Ok-false-begins_line.ensures.failing.writing c.loop-count.invariant.works.own
 
 pub returns-in-Err-begins_line-clause-writing : goal.returns-in-Err-begins_line-clause-writing
 returns-in-Err-begins_line-clause-writing g c = rw c.from.ensures (fault_writing Bool c.in-Err-begins_line.fault _ _ c.in-Err-begins_line.ensures.failing.writing c.loop-count.invariant.works.own)

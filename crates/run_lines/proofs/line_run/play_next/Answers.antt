@@ -1,12 +1,13 @@
 -- A line that was found is played and passed, one that is too long is passed, or a fault comes before any.
 use Rattle.std.proofs.Common.{Ok, arith, refl, subst, take, true}
+use Rattle.std.proofs.lemmas.Bool.{or_from}
 use Rattle.std.proofs.lemmas.List.{length-take}
 use Rattle.run_lines.specs.Lines.{to_come}
 use Rattle.run_lines.specs.Next.{FindsNextIn, IsReady}
 use Rattle.run_lines.specs.LineRuns.{point}
 use Rattle.run_lines.specs.Reach.{reach}
 use Rattle.run_lines.specs.declared.lines.NextLine.{NextLine}
-use Rattle.run_lines.proofs.FaultLemmas.{fault_writing, line_writing, or_none, ready_on, works_on}
+use Rattle.run_lines.proofs.FaultLemmas.{fault_writing, line_writing, ready_on, works_on}
 use Rattle.run_lines.proofs.PlayLemmas.{breaks_before, passes_ahead, passes_long, played_line}
 use Rattle.run_lines.proofs.ReachLemmas.{behind_then, writes_told}
 use Rattle.run_lines.proofs.line_run.play_next.Goals as goal
@@ -75,7 +76,7 @@ pub returns-in-Ok-TooLong-clause-writing : goal.returns-in-Ok-TooLong-clause-wri
 returns-in-Ok-TooLong-clause-writing g c = rw c.more_unless_stopped-in-Ok-TooLong.ensures (line_writing c.play_too_long.result _ true c.play_too_long.ensures.failing)
 
 pub returns-in-Ok-End-clause-writing : goal.returns-in-Ok-End-clause-writing
-returns-in-Ok-End-clause-writing g c = or_none _ _ c.in-Ok-End.ensures.failing.writing c.requires.works.own
+returns-in-Ok-End-clause-writing g c = or_from _ _ c.in-Ok-End.ensures.failing.writing c.requires.works.own
 
 pub returns-in-Err-clause-writing : goal.returns-in-Err-clause-writing
 returns-in-Err-clause-writing g c = rw c.from.ensures (fault_writing NextLine c.in-Err.fault _ _ c.in-Err.ensures.failing.writing c.requires.works.own)

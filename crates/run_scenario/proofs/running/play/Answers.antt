@@ -1,10 +1,15 @@
 -- The lines are played behind the front, and then it is complained of what is left over.
-use Rattle.std.proofs.Common.{ℕ, List, refl, subst, ap}
+use Rattle.std.proofs.Common.{ℕ, List, IfNone, refl, subst, ap}
+use Rattle.std.specs.Io.KnownBytes.{Appends}
 use Rattle.std.specs.Option.{option_copied}
 use Rattle.run_lines.specs.RunOutput.{Tells}
-use Rattle.run_scenario.proofs.PlayLemmas.{closed_counts, closed_on, closed_writing, complaints_work, leads_none, plays_closed, remains, turns_played, world_left}
+use Rattle.run_scenario.proofs.PlayLemmas.{closed_counts, closed_on, closed_reports, closed_writing, complaints_work, leads_none, plays_closed, remains, turns_played, world_left}
 use Rattle.run_scenario.proofs.WriteLemmas.{front_cut, plays_behind}
+use Rattle.run_scenario.proofs.RunReportLemmas.{reports_none}
+use Rattle.run_scenario.specs.Reports.{left_over_report}
+use Rattle.run_scenario.specs.RunReports.{scope_of}
 use Rattle.run_scenario.specs.ScenarioRuns.{tally}
+use Rattle.view_diagnostics.specs.Diagnostics.{subject_at}
 use Rattle.run_scenario.proofs.running.play.Goals as goal
 
 pub play-played-requires-clause-ready : goal.play-played-requires-clause-ready
@@ -12,8 +17,9 @@ play-played-requires-clause-ready g c = c.requires.listed
 
 pub play-played-requires-clause-leads : goal.play-played-requires-clause-leads
 play-played-requires-clause-leads g c = (
-  record { name_is = refl; run_is = refl; tells_is = refl; holds_is = refl },
-  leads_none (option_copied c.args.bench.now.run.now.only) c.args.core.now c.args.bench.now.notes.now.stand (tally c.args.bench.now.complained c.args.bench.now.notes.now.critic.expected) _ c.requires.sees,
+  record { name_is = refl; run_is = refl; subject_is = refl; tells_is = refl; holds_is = refl },
+  leads_none (option_copied c.args.bench.now.run.now.only) c.args.core.now c.args.bench.now.notes.now.stand (tally c.args.bench.now.complained c.args.bench.now.notes.now.critic.expected) _ _ (reports_none (scope_of (subject_at c.args.bench.now.notes.now.critic.scenario) c.args.bench.now.run.now.list.now) (option_copied c.args.bench.now.run.now.only) c.args.core.now c.args.bench.now.notes.now.stand c.args.bench.now.notes.now.critic.expected
+      (g.E.Sink.contents c.args.bench.now.complaints.now)) c.requires.sees,
 )
 
 pub close-fault-requires : goal.close-fault-requires
@@ -27,18 +33,22 @@ pub returns-clause-plays : goal.returns-clause-plays
 returns-clause-plays g c = λ works.
     plays_closed c.play-played.result.fault c.close-fault.result _ _ c.close-fault.ensures.closes
     (closed_counts (option_copied c.args.bench.now.run.now.only) c.args.core.now (tally c.args.bench.now.complained c.args.bench.now.notes.now.critic.expected) c.play-played.new.player.complained _ c.play-played.new.player.notes.now.critic.expected c.close-fault.result c.close-fault.ensures.counts)
+    (closed_reports (scope_of (subject_at c.args.bench.now.notes.now.critic.scenario) c.args.bench.now.run.now.list.now) (option_copied c.args.bench.now.run.now.only) c.args.core.now c.args.bench.now.notes.now.stand c.args.bench.now.notes.now.critic.expected
+    c.play-played.new.player.notes.now.critic.expected _ (g.E.Sink.contents c.play-played.new.player.complaints.now) (g.E.Sink.contents c.close-fault.new.complaints) c.close-fault.result
+    (subst (λ s. IfNone c.close-fault.result (Appends (g.E.Sink.contents c.play-played.new.player.complaints.now) (g.E.Sink.contents c.close-fault.new.complaints) (left_over_report s c.play-played.new.player.notes.now.critic.expected)))
+    (remains _ _ _ _ _ _ _ _ _ _ _ _ c.play-played.ensures.plays).subject_is c.close-fault.ensures.reports))
     (plays_behind
     (subst (λ (gathered : List ℕ). Tells (g.K.Sink.contents c.args.writer.now) gathered (g.K.Sink.contents c.put.new.sink) c.put.new.self c.args.front.now) c.new-buffers.ensures.gathered c.in-Ok.ensures.told)
-    (turns_played _ _ _ _ _ _ _ _ _ _ _ c.play-played.ensures.plays))
+    (turns_played _ _ _ _ _ _ _ _ _ _ _ _ c.play-played.ensures.plays))
 
 pub returns-clause-same_reference : goal.returns-clause-same_reference
-returns-clause-same_reference g c = (remains _ _ _ _ _ _ _ _ _ _ _ c.play-played.ensures.plays).name_is
+returns-clause-same_reference g c = (remains _ _ _ _ _ _ _ _ _ _ _ _ c.play-played.ensures.plays).name_is
 
 pub returns-clause-held : goal.returns-clause-held
-returns-clause-held g c = (remains _ _ _ _ _ _ _ _ _ _ _ c.play-played.ensures.plays).holds_is
+returns-clause-held g c = (remains _ _ _ _ _ _ _ _ _ _ _ _ c.play-played.ensures.plays).holds_is
 
 pub returns-clause-listed : goal.returns-clause-listed
-returns-clause-listed g c = ap (λ w. w.entries) (world_left _ _ _ _ _ _ _ _ _ _ _ c.play-played.ensures.plays)
+returns-clause-listed g c = ap (λ w. w.entries) (world_left _ _ _ _ _ _ _ _ _ _ _ _ c.play-played.ensures.plays)
 
 pub returns-clause-writing : goal.returns-clause-writing
 returns-clause-writing g c = closed_writing c.play-played.result.fault c.close-fault.result _ _ _ c.play-played.ensures.writing c.close-fault.ensures.closes

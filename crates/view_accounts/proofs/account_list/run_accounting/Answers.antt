@@ -1,4 +1,6 @@
 -- The list behind what the play writes, which is nothing, and the rows.
+use Rattle.std.proofs.Common.{rules}
+use Rattle.run_scenario.proofs.WriteLemmas.{reported_at}
 use Rattle.view_accounts.specs.Accounting.{sessions_kept}
 use Rattle.view_accounts.proofs.AccountViewLemmas.{accounts_played}
 use Rattle.view_accounts.proofs.RunRowLemmas.{rows_played}
@@ -8,8 +10,9 @@ pub returns-clause-played : goal.returns-clause-played
 returns-clause-played g c = λ works. (
   sessions_kept c.play-ending.new.bench.watch.now,
   (
-    accounts_played c.play-ending.new.bench.watch.now c.args.stage.run.list.now c.play-ending.result c.close_accounting-ending.result c.requires.listed
-        (rw c.requires.all at (c.play-ending.ensures.plays works)) c.close_accounting-ending.ensures.closes,
+    reported_at
+        (accounts_played c.play-ending.new.bench.watch.now c.args.stage.run.list.now c.play-ending.result c.close_accounting-ending.result c.requires.listed
+        (rw c.requires.all at (c.play-ending.ensures.plays works)) c.close_accounting-ending.ensures.closes) (search rules),
     rows_played c.play-ending.new.bench.watch.now c.args.stage.run.list.now c.play-ending.result c.close_accounting-ending.result c.rows_after-rows.result c.requires.listed
         (rw c.requires.all at (c.play-ending.ensures.plays works)) c.close_accounting-ending.ensures.closes c.rows_after-rows.ensures,
   ),

@@ -1,7 +1,7 @@
 -- What the play writes, and the count behind it.
-use Rattle.std.proofs.Common.{refl}
-use Rattle.view_runs.proofs.ViewLemmas.{alone_played, alone_same, same_behind}
-use Rattle.run_scenario.proofs.WriteLemmas.{played_from}
+use Rattle.std.proofs.Common.{rules, refl}
+use Rattle.view_runs.proofs.ViewLemmas.{alone_counts, alone_played, alone_same, same_behind}
+use Rattle.run_scenario.proofs.WriteLemmas.{played_from, reported_at}
 use Rattle.view_runs.proofs.alone_run.run_alone.Goals as goal
 
 pub returns-clause-played : goal.returns-clause-played
@@ -9,8 +9,9 @@ returns-clause-played g c = λ works.
     let name = c.args.named.now.name.now in
     let start = c.args.machines.whole in
     let plays = rw c.play-ending.ensures.held at (rw c.requires.all at (c.play-ending.ensures.plays works)) in
-    alone_played name c.play-ending.result c.close.result.ending c.play-ending.ensures.few plays
-    (c.close.ensures.closes (alone_same c.play-ending.result.fault name start _ _ _ _ plays.sees))
+    reported_at
+    (alone_played name c.play-ending.result c.close.result.ending c.play-ending.ensures.few plays
+    (c.close.ensures.closes (alone_same c.play-ending.result.fault name start _ _ _ _ plays.sees))) (search rules)
 
 pub returns-clause-summed : goal.returns-clause-summed
 returns-clause-summed g c = λ works.
@@ -18,7 +19,17 @@ returns-clause-summed g c = λ works.
     let start = c.args.machines.whole in
     let plays = rw c.play-ending.ensures.held at (rw c.requires.all at (c.play-ending.ensures.plays works)) in
     rw c.close.ensures.lines
+    (reported_at
     (played_from c.play-ending.result c.close.result.ending plays refl
+    (c.close.ensures.closes (alone_same c.play-ending.result.fault name start _ _ _ _ plays.sees))) (search rules))
+
+pub returns-clause-counts : goal.returns-clause-counts
+returns-clause-counts g c = λ works.
+    let name = c.args.named.now.name.now in
+    let start = c.args.machines.whole in
+    let plays = rw c.play-ending.ensures.held at (rw c.requires.all at (c.play-ending.ensures.plays works)) in
+    rw c.close.ensures.lines
+    (alone_counts name _ c.play-ending.result c.close.result.ending c.play-ending.ensures.few plays
     (c.close.ensures.closes (alone_same c.play-ending.result.fault name start _ _ _ _ plays.sees)))
 
 pub returns-clause-same : goal.returns-clause-same

@@ -6,8 +6,8 @@ use Rattle.view_runs.proofs.answer_list.answers.Goals as goal
 
 pub returns-clause-played : goal.returns-clause-played
 returns-clause-played g c = λ works.
-    played_on c.args.play.list.now None c.args.play.start (λ _ _. []) (λ _ _. []) c.answers_on.result.ending _ _ _ _ _
-    c.in_ok-core.ensures.started c.new-notes.ensures.stands c.new-notes.ensures.expects (c.answers_on.ensures.played works)
+    played_on c.args.play.list.now None c.args.play.start (λ _ _. []) (λ _ _. []) c.answers_on.result.ending _ _ _ _ _ _ _
+    c.in_ok-core.ensures.started c.new-notes.ensures.stands c.new-notes.ensures.expects c.new-notes.ensures.subject (c.answers_on.ensures.played works)
 
 pub returns-clause-answered : goal.returns-clause-answered
 returns-clause-answered g c = λ works.

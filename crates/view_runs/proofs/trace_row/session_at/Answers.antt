@@ -4,7 +4,7 @@ use Rattle.view_runs.proofs.RowLemmas.{session_there}
 use Rattle.view_runs.proofs.trace_row.session_at.Goals as goal
 
 pub returns-in-Some : goal.returns-in-Some
-returns-in-Some g c = session_there c.args.selector _ _ c.in-Some.ensures.account
+returns-in-Some g c = session_there c.args.selector _ _ c.in-Some.ensures
 
 pub returns-in-None : goal.returns-in-None
-returns-in-None g c = session_there c.args.selector _ _ c.in-None.ensures.account
+returns-in-None g c = session_there c.args.selector _ _ c.in-None.ensures

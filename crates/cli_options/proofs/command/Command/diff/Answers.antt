@@ -11,4 +11,6 @@ returns c = (
   c.word.ensures,
   c.word-2.ensures,
   c.get_str.ensures ∙ first_value-rows (found_of c.args.found.now) (codes "scenario"),
+  c.get_str-2.ensures ∙ first_value-rows (found_of c.args.found.now) (codes "scenario-after"),
+  c.get_str-3.ensures ∙ first_value-rows (found_of c.args.found.now) (codes "policy"),
 )

@@ -9,9 +9,12 @@ returns c = (
   refl,
   c.get_str.ensures ∙ first_value-rows (found_of c.args.found.now) (codes "machine"),
   c.get_str-2.ensures ∙ first_value-rows (found_of c.args.found.now) (codes "junit"),
+  c.in_ok-words.ensures,
   c.is_set.ensures,
   c.is_set-2.ensures,
   c.is_set-3.ensures,
+  c.get_str-3.ensures ∙ first_value-rows (found_of c.args.found.now) (codes "threshold"),
+  c.is_set-4.ensures,
   c.colored.ensures,
-  c.in_ok-words.ensures,
+  c.in_ok-words-2.ensures,
 )

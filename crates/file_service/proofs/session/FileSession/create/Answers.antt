@@ -17,10 +17,10 @@ use Rattle.session_nodes.specs.declared.node_list.NodeList.{NodeList}
 use Rattle.file_service.specs.Session.{files_in, served_in, done_reply}
 use Rattle.session_proto.specs.FileReply.{model_error}
 use Rattle.session_nodes.proofs.AfterLemmas.{furnished_after, keeps_after}
-use Rattle.session_nodes.proofs.ResultLemmas.{err_case, err_and, keeps_same}
+use Rattle.session_nodes.proofs.ResultLemmas.{err_case, err_and, keeps_same, was_ok}
 use Rattle.file_service.proofs.FileChangeLemmas.{created_is, files_created}
 use Rattle.file_service.proofs.FileFoundLemmas.{found_named, name_fits, none_has}
-use Rattle.file_service.proofs.ServeLemmas.{serves_same, create_exists, create_done, was_ok, create_refused, serves_refused, files_after}
+use Rattle.file_service.proofs.ServeLemmas.{serves_same, create_exists, create_done, create_refused, serves_refused, files_after}
 use Rattle.file_service.proofs.session.FileSession.create.Goals as goal
 
 pub returns-then-is_some-clause-serves : goal.returns-then-is_some-clause-serves

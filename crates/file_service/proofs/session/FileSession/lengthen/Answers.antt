@@ -27,9 +27,9 @@ use Rattle.session_nodes.specs.Source.{bytes_from, HasSource}
 use Rattle.session_nodes.proofs.SourceLemmas.{source_kept, bytes_kept}
 use Rattle.file_service.proofs.LengthenLemmas.{TakesLonger, sum_is, no_sum, not_new, source, target, room, made_has, made_own, made_found, made_listed, made_served}
 use Rattle.file_service.proofs.FileChangeLemmas.{account_replaced, files_replaced}
-use Rattle.session_nodes.proofs.ResultLemmas.{err_case, err_and}
+use Rattle.session_nodes.proofs.ResultLemmas.{err_case, err_and, was_ok}
 use Rattle.session_nodes.proofs.AfterLemmas.{keeps_both}
-use Rattle.file_service.proofs.ServeLemmas.{serves_told, serves_refused, was_ok}
+use Rattle.file_service.proofs.ServeLemmas.{serves_told, serves_refused}
 use Rattle.file_service.proofs.WriteLemmas.{past_limit, refused_short, longer_refused}
 use Rattle.file_service.proofs.session.FileSession.lengthen.Goals.{In_ok-content, After-copy_content}
 use Rattle.file_service.proofs.session.FileSession.lengthen.Goals as goal

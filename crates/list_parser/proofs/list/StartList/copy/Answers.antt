@@ -1,9 +1,9 @@
 -- The same entries are as they were.
 use Rattle.std.proofs.Common.{◌≡◌, List, length, sym, ap, subst, ◌∙◌, arith}
 use Rattle.own_model.specs.Listed.{ListedEntry}
-use Rattle.list_parser.specs.BuiltIn.{AreBuiltIn}
 use Rattle.list_parser.specs.Depth.{HaveParentInits}
 use Rattle.list_parser.specs.PathIndex.{AreFirst}
+use Rattle.list_parser.specs.Services.{AreServices}
 use Rattle.list_parser.proofs.list.StartList.copy.Goals as goal
 
 pub invariant_of-result : goal.invariant_of-result
@@ -21,5 +21,5 @@ invariant_of-result c =
       },
       subst HaveParentInits same c.self.invariant.1,
       subst (λ firsts. AreFirst firsts new) (sym c.copy.ensures) (subst (AreFirst c.self.inside.finder.firsts) same c.self.invariant.2),
-      subst AreBuiltIn same c.self.invariant.3,
+      subst (λ declared. AreServices declared new) (sym (c.in_ok-copy_names.ensures ∙ c.as_slice-3.ensures.value)) (subst (AreServices c.self.inside.declared.items) same c.self.invariant.3),
     )

@@ -3,7 +3,7 @@ use Rattle.std.proofs.Common.{List, ap, refl, ◌∙◌}
 use Rattle.own_model.specs.Listed.{ListedEntry}
 use Rattle.list_parser.specs.Budgets.{entry_with_budget, with_budget}
 use Rattle.list_parser.specs.contracts.list.StartList.{the_view}
-use Rattle.list_parser.proofs.BudgetLemmas.{written, written_built_in, written_firsts, written_homes}
+use Rattle.list_parser.proofs.BudgetLemmas.{written, written_firsts, written_homes, written_services}
 use Rattle.list_parser.proofs.list.StartList.set_budget.Goals as goal
 
 pub invariant_of-self : goal.invariant_of-self
@@ -13,7 +13,7 @@ invariant_of-self c =
       c.self.invariant.0,
       written_homes c.self.inside.entries.items c.args.component _ _ is change (λ _. refl) c.self.invariant.1,
       written_firsts c.self.inside.entries.items c.args.component _ _ is change (λ _. refl) c.self.inside.finder.firsts c.self.invariant.2,
-      written_built_in c.self.inside.entries.items c.args.component _ _ is change (λ _. refl) c.self.invariant.3,
+      written_services c.self.inside.entries.items c.args.component _ _ is change (λ _. refl) c.self.inside.declared.items c.self.invariant.3,
     )
 
 pub returns : goal.returns

@@ -1,6 +1,7 @@
 use Rattle.std.proofs.Common.{◌≡◌, ◌++◌, drop, map}
 use Rattle.std.specs.Prelude.{All}
 use Rattle.std.specs.List.{enumerate_from, flat_map}
+use Rattle.own_model.specs.Listed.{services_of}
 use Rattle.list_reach.specs.Paths.{is_chosen}
 use Rattle.list_reach.specs.ScriptDecisions.{IsDecided, asking_of, askings, entry_askings}
 use Rattle.list_reach.proofs.script_decisions.ScriptDecisions.all.Given as goal
@@ -9,7 +10,7 @@ abbrev pub invariant-loop-client : goal.invariant-loop-client
 invariant-loop-client l = record {
   added :
       map asking_of l.found.items
-      ++ flat_map (entry_askings (is_chosen l.chosen.from.items)) (enumerate_from l.client (drop l.client l.entries))
+      ++ flat_map (entry_askings (services_of l.list.entries) (is_chosen l.chosen.from.items)) (enumerate_from l.client (drop l.client l.entries))
       ≡ askings l.list (is_chosen l.chosen.from.items);
   decided : All (IsDecided l.list) l.found.items;
 }

@@ -1,30 +1,21 @@
--- The account is the one that the world has, and the session is the world's.
-use Rattle.std.proofs.Common.{ap, subst, ◌∙◌}
-use Rattle.std.specs.Prelude.{IfSome}
+-- The account is the one that the world has.
+use Rattle.std.proofs.Common.{ap, ◌∙◌}
 use Rattle.std.specs.FinMap.{get}
 use Rattle.std.specs.Option.{option_map}
 use Rattle.own_model.specs.OwnState.{session_named}
-use Rattle.own_model.specs.Session.{Session as AnOpenSession, offer_of}
+use Rattle.own_model.specs.Session.{Session as AnOpenSession}
 use Rattle.own_model.specs.Transcript.{state_at}
 use Rattle.own_model.specs.World.{World}
 use Rattle.pd_core.specs.Core.{world_of}
-use Rattle.pd_core.specs.Sessions.{IsBuiltIn}
 use Rattle.pd_core.proofs.CoreWorldLemmas.{core_at}
 use Rattle.pd_core.proofs.machine.Core.session_account.Goals as goal
 
 pub session_quotas-requires : goal.session_quotas-requires
 session_quotas-requires g c = core_at (g.R.Router.places c.self.inside.routes) c.self.inside.memory _ _ c.args.self.now c.args.component c.as_slice.ensures.value c.self.invariant.0 c.self.view_is c.requires
 
-pub returns-clause-account : goal.returns-clause-account
-returns-clause-account g c =
+pub returns : goal.returns
+returns g c =
     let places = g.R.Router.places c.self.inside.routes in
-    c.session_quotas.ensures.account places
+    c.session_quotas.ensures places
     ∙ ap (λ (w : World). option_map (λ (s : AnOpenSession). s.account) (session_named (get (state_at w.states c.args.component).selectors c.args.selector)))
     (ap (world_of places c.self.inside.memory) c.as_slice.ensures.value ∙ c.self.view_is)
-
-pub returns-clause-service : goal.returns-clause-service
-returns-clause-service g c =
-    let places = g.R.Router.places c.self.inside.routes in
-    subst (λ (w : World). IfSome (session_named (get (state_at w.states c.args.component).selectors c.args.selector)) (λ (s : AnOpenSession). IsBuiltIn (offer_of s.state)))
-    (ap (world_of places c.self.inside.memory) c.as_slice.ensures.value ∙ c.self.view_is)
-    (c.session_quotas.ensures.service places)

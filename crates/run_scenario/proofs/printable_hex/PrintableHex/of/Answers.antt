@@ -1,11 +1,12 @@
 -- The bytes are those of the digits that were read.
 use Rattle.std.proofs.Common.{sym, ◌∙◌}
 use Rattle.own_model.specs.Text.{bytes_of_hex}
-use Rattle.run_scenario.proofs.ShownLemmas.{bytes_found, bytes_missing, formed_of, shown_found, shown_missing}
+use Rattle.text_codec.proofs.HexLemmas.{bytes_found as bytes_formed}
+use Rattle.run_scenario.proofs.ShownLemmas.{bytes_found, bytes_missing, shown_found, shown_missing}
 use Rattle.run_scenario.proofs.printable_hex.PrintableHex.of.Goals as goal
 
 pub invariant_of-result : goal.invariant_of-result
-invariant_of-result c = record { formed = formed_of (bytes_of_hex c.in_ok-hex.hex.now) c.in_ok-hex.ensures.hex }
+invariant_of-result c = record { formed = bytes_formed (bytes_of_hex c.in_ok-hex.hex.now) c.in_ok-hex.ensures.hex }
 
 pub returns-then-are_shown-clause-text : goal.returns-then-are_shown-clause-text
 returns-then-are_shown-clause-text c = shown_found c.args.text.now c.in_ok-hex.hex.now c.in_ok-hex.ensures.bytes (sym c.are_shown.ensures ∙ c.if-are_shown.true)

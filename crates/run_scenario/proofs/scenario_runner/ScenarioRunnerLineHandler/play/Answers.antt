@@ -9,8 +9,8 @@ use Rattle.run_scenario.proofs.scenario_runner.ScenarioRunnerLineHandler.play.Go
 pub returns-clause-played : goal.returns-clause-played
 returns-clause-played g c = λ first start earlier led.
     let counts = rw c.run_line-judged.ensures.uncounted at c.count.ensures.counts in
-    rw c.count.ensures.result (bench_line (λ run. option_copied run.only) (λ run. g.W.CallObserver.sees c.args.self.now.watch.now run.list.now) (λ run. g.W.CallObserver.sees c.run_line-judged.new.self.watch.now run.list.now)
-    start earlier c.args.line.now g.W.CallObserver.takes c.run_line-judged.result c.args.self.now.complained c.count.new.complained counts (remains_on led.0 c.run_line-judged.ensures.remains) led.0.run_is led.0.tells_is led.1 c.run_line-judged.ensures.plays)
+    rw c.count.ensures.result (bench_line (λ run. option_copied run.only) (λ run. run.list.now) (λ run. g.W.CallObserver.sees c.args.self.now.watch.now run.list.now) (λ run. g.W.CallObserver.sees c.run_line-judged.new.self.watch.now run.list.now)
+    start earlier c.args.line.now g.W.CallObserver.takes c.run_line-judged.result c.args.self.now.complained c.count.new.complained _ _ _ counts (remains_on led.0 c.run_line-judged.ensures.remains) led.0.run_is led.0.subject_is led.0.tells_is led.1 c.run_line-judged.ensures.plays c.run_line-judged.ensures.reports)
 
 pub returns-clause-failing : goal.returns-clause-failing
 returns-clause-failing g c = rw c.count.ensures.result (counted_fails c.run_line-judged.result _ _ c.run_line-judged.ensures.plays.failing)

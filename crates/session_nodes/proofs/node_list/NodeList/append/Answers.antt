@@ -15,6 +15,7 @@ use Rattle.session_nodes.specs.Order.{node_at, AllStay, Stays}
 use Rattle.session_nodes.specs.declared.node_list.NodeList.{NodeList}
 use Rattle.session_nodes.proofs.AppendLemmas.{last_there, new_node, rest, stays}
 use Rattle.session_nodes.proofs.EnterLemmas.{can_enter, are_appended, stand_linked}
+use Rattle.session_nodes.proofs.TailLemmas.{tail_there}
 use Rattle.session_nodes.proofs.TailNodeLemmas.{node_same, stand_tails}
 use Rattle.session_nodes.proofs.TailNodeLemmas.{stays as tail_stays}
 use Rattle.session_nodes.proofs.KeptLemmas.{blocks_are, stays_then}
@@ -86,6 +87,8 @@ returns-clause-appended c =
       stay = subst (AllStay was.nodes now.nodes was.contents now.contents) (sym listed) stay;
       name_is = ap (λ (n : StoredNode). n.name) same ∙ its.name ∙ ap (λ (n : StoredNode). n.name) back;
       empty = ap (λ (n : StoredNode). n.size) same ∙ its.size ∙ ap (λ (n : StoredNode). n.size) back;
+      there = tail_there linked.nodes now.nodes c.args.address (tails.fronts c.args.address) its.there;
+      user = (tails.fronts c.args.address).user ∙ its.user ∙ c.store_new.ensures.user;
       rest = ap (λ (s : Stock). s.nodes) tails.rest ∙ ap (λ (n : OwnHeap). record n { payloads = now.nodes.payloads }) rest_linked;
       account = ap (λ (s : Stock). s.account) tails.rest ∙ ap (λ (s : Stock). s.account) c.link.ensures.rest ∙ ap (λ (s : Stock). s.account) c.store_new.ensures.stored;
     }

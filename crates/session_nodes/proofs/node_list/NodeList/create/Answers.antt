@@ -15,6 +15,7 @@ use Rattle.session_nodes.proofs.NodeKeptLemmas.{indexed_kept, place_same}
 use Rattle.session_nodes.proofs.PlaceLemmas.{furnished_has_places}
 use Rattle.session_nodes.proofs.SeekLemmas.{none_ranked}
 use Rattle.session_nodes.proofs.TakenLemmas.{Takes, takes_node}
+use Rattle.session_nodes.proofs.UserLemmas.{room_kept}
 use Rattle.session_nodes.proofs.node_list.NodeList.create.Goals.{In_ok-address}
 use Rattle.session_nodes.proofs.node_list.NodeList.create.Goals as goal
 
@@ -75,6 +76,7 @@ returns-clause-created c =
       stay = subst (AllStay was.nodes now.nodes was.contents now.contents) (sym before) stay;
       name_is = e.name_is;
       empty = e.empty;
+      room = room_kept taken.nodes now.nodes c.in_ok-address.address c.args.bytes e.user e.there t.fresh.there t.room;
       chunk = ap (λ (n : OwnHeap). chunk_with n (c.in_ok-address.address - 16)) e.rest ∙ t.chunk;
       offset = ap (λ (n : OwnHeap). offset_of n (c.in_ok-address.address - 16)) e.rest ∙ t.offset;
       shape = ap (λ (n : OwnHeap). n.shape) e.rest ∙ t.shape;

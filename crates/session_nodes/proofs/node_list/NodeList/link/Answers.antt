@@ -22,3 +22,4 @@ returns-clause-links c =
     stored_links was.nodes now.nodes c.args.holder (with_part (payload_in was.nodes.payloads c.args.holder) 0 (word_bytes c.args.address)) (ap (λ (s : Stock). s.nodes) stored)
     c.args.self.now.first c.args.address (λ e. absurd (omega (arith, e)))
     (node_next was.nodes now.nodes c.args.holder c.args.address low has payloads) (there_next was.nodes now.nodes c.args.holder c.args.address low has payloads) (place_next was.nodes now.nodes c.args.holder c.args.address low has payloads)
+    c.put_bytes.ensures.user

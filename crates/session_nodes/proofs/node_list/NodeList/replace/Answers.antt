@@ -59,6 +59,7 @@ returns-else-node-gt0-clause-replaced c =
       sets = sets_alone c.args.self.now.first c.args.self.now.last was.nodes mid.nodes was.contents c.args.found.node.name.items (previous_at was.nodes c.args.found.address) c.args.found.address (value_of c.args.found.node) c.requires.found
           (with_part (payload_in was.nodes.payloads c.args.found.address) 8 (two_words c.args.content c.args.size)) (ap (λ (s : Stock). s.nodes) c.store_content.ensures.stored) c.args.content c.args.size
           back c.store_content.ensures.there c.requires.content c.requires.own c.args.self.now.root c.requires.files.indexed c.store_content.ensures.place;
+      user = c.store_content.ensures.user;
       bytes = λ some. refl;
       account = account;
     }) in
@@ -97,6 +98,7 @@ returns-then-node-gt0-clause-replaced c =
       sets = sets_left c.args.self.now.first c.args.self.now.last was.nodes mid.nodes was.contents c.args.found.node.name.items (previous_at was.nodes c.args.found.address) c.args.found.address (value_of c.args.found.node) c.requires.found
           (with_part (payload_in was.nodes.payloads c.args.found.address) 8 (two_words c.args.content c.args.size)) (ap (λ (s : Stock). s.nodes) c.store_content.ensures.stored) c.args.content c.args.size
           back c.store_content.ensures.there c.requires.content c.requires.own c.args.self.now.root c.requires.files.indexed c.store_content.ensures.place some;
+      user = c.store_content.ensures.user;
       bytes = content_stays c.args.self.now.first c.args.self.now.last was.nodes mid.nodes was.contents c.args.found.node.name.items (previous_at was.nodes c.args.found.address) c.args.found.address (value_of c.args.found.node) c.requires.found
           (with_part (payload_in was.nodes.payloads c.args.found.address) 8 (two_words c.args.content c.args.size)) (ap (λ (s : Stock). s.nodes) c.store_content.ensures.stored) c.args.content c.args.size
           back c.store_content.ensures.there c.requires.content c.requires.own c.args.self.now.root c.requires.files.indexed c.store_content.ensures.place some;

@@ -5,6 +5,8 @@ use Rattle.dataspace_core.specs.Store.{part_with_bytes}
 use Rattle.dataspace_core.proofs.PartLaws.{becomes_paid}
 use Rattle.session_nodes.proofs.NodeFoundLemmas.{node_paid}
 use Rattle.session_nodes.proofs.NodeStoredLemmas.{stored_is, stored_keeps, stored_there}
+use Rattle.session_nodes.specs.SessionHeaps.{stock_of}
+use Rattle.session_nodes.proofs.UserLemmas.{user_stored}
 use Rattle.session_nodes.proofs.session_heaps.SessionHeaps.put_bytes.Goals as goal
 
 pub returns-clause-stored : goal.returns-clause-stored
@@ -33,6 +35,10 @@ returns-clause-there c =
     let found = c.find_node-at.ensures.found c.args.offset (length bytes) c.requires.some c.requires.few in
     let becomes = becomes_paid (λ p. part_with_bytes p ds offset bytes) (node_paid c.requires.furnished c.args.address c.requires.there c.args.offset (length bytes) c.requires.some c.requires.few ds offset found.held) c.write.ensures.part in
     stored_there c.requires.furnished c.args.address c.requires.there c.args.offset ds offset bytes c.requires.some c.requires.few found.held (below_bytes bytes (λ i. omega (arith, c.type_inv.bytes i))) becomes
+
+pub returns-clause-user : goal.returns-clause-user
+returns-clause-user c =
+    user_stored (stock_of c.args.self.now c.args.memory.now c.args.map.now) (stock_of c.args.self.now c.write.new.self c.args.map.now) c.args.address c.args.offset c.args.bytes.now c.requires.few c.requires.there (returns-clause-stored c)
 
 pub write-requires-clause-range : goal.write-requires-clause-range
 write-requires-clause-range c = let found = c.find_node-at.ensures.found c.args.offset (length c.args.bytes.now) c.requires.some c.requires.few in omega (arith, found.there.within)

@@ -19,7 +19,7 @@ noted_with peak server label = record { peak = peak; server = server; label = la
 
 pub returns-in_default-clause-sessions : goal.returns-in_default-clause-sessions
 returns-in_default-clause-sessions g c = λ k q.
-    found_unopened (k == c.args.opening.component && q == c.args.selector) (session_at c.args.opening.component c.args.selector c.args.core.now) _ (found c.args.self.now.sessions k q) c.in_default.ensures.account
+    found_unopened (k == c.args.opening.component && q == c.args.selector) (session_at c.args.opening.component c.args.selector c.args.core.now) _ (found c.args.self.now.sessions k q) c.in_default.ensures
 
 pub label-requires : goal.label-requires
 label-requires g c = entries_within c.args.list.now c.args.core.now c.requires.listed c.requires.component
@@ -40,5 +40,5 @@ returns-clause-sessions g c =
     on_ok_weaker c.set.result
     (λ is k q.
     found_opened (k == c.args.opening.component && q == c.args.selector) _ _ (value_at c.args.self.now.sessions k q) _ (is k q)
-    ((λ i. Some (noted_with (c.of.ensures i) (server_is i) (label_is i))) ∙ begun_there (session_at c.args.opening.component c.args.selector c.args.core.now) (quotas_account c.in-Some.account) server label c.in-Some.ensures.account))
+    ((λ i. Some (noted_with (c.of.ensures i) (server_is i) (label_is i))) ∙ begun_there (session_at c.args.opening.component c.args.selector c.args.core.now) (quotas_account c.in-Some.account) server label c.in-Some.ensures))
     c.set.ensures

@@ -1,0 +1,13 @@
+-- The inits from a place on have what their lists need.
+use Rattle.std.proofs.Common.{◌≡◌, ◌≤◌, length}
+use Rattle.budget_least.specs.InitNeeds.{AreNeededFrom}
+use Rattle.budget_least.proofs.report.BudgetReport.sum_inits.Given as goal
+
+abbrev pub invariant-loop-place : goal.invariant-loop-place
+invariant-loop-place l = record {
+  within : l.place ≤ length l.self.list.now.entries;
+  needed : AreNeededFrom l.place l.self.choice l.self.list.now l.self.accounts.items;
+}
+
+abbrev pub decreases-loop-place : goal.decreases-loop-place
+decreases-loop-place l = l.place

@@ -1,0 +1,10 @@
+pub mod ItemLemmas
+pub mod ChangeLemmas
+pub mod ReachLemmas
+pub mod RowLemmas
+pub mod OrderLemmas
+pub mod SafeLemmas
+pub mod RunLemmas
+pub mod AlikeLemmas
+pub mod HeldLemmas
+pub mod SessionLemmas

@@ -1,0 +1,96 @@
+-- One run after another.
+use Rattle.std.proofs.Common.{◌≡◌, ℕ, ◌-◌, suc, reverse, Bool, List, ◌||◌, refl, sym, ap, ◌∙◌, arith, subst, Option, None, Some}
+use Rattle.std.specs.Prelude.{IfSome}
+use Rattle.own_model.specs.Amounts.{Amounts}
+use Rattle.budget_theorems.specs.Need.{Need}
+use Rattle.budget_theorems.specs.Intervals.{is_covered, stretches}
+use Rattle.budget_search.specs.BudgetIntervals.{serves, AreOrdered, AreRows, BeginFrom, Follows}
+use Rattle.budget_search.specs.declared.budget_intervals.BudgetInterval.{BudgetInterval}
+use Rattle.budget_search.proofs.RowLemmas.{none_left}
+use Rattle.budget_search.proofs.budget_intervals.BudgetIntervals.gather.Goals as goal
+
+-- by the capabilities that all runs have, and by what was matched
+followed : (each : Amounts → List Need) (want : Amounts → Bool) (here caps ram top : ℕ) (old new : List BudgetInterval) (next told : Option ℕ) → here ≡ caps → next ≡ told →
+    Follows each want here ram top old new next → Follows each want caps ram top old new told
+followed each want here caps ram top old new next told same is follows = subst (λ k. Follows each want k ram top old new told) same (subst (λ n. Follows each want here ram top old new n) is follows)
+
+-- so of their order
+order_kept : (here caps ram top : ℕ) (old new : List BudgetInterval) (next told : Option ℕ) → here ≡ caps → next ≡ told →
+    (AreOrdered here top (reverse old) → BeginFrom (suc ram) (reverse old) → AreOrdered here top (reverse new) × IfSome next (λ n. BeginFrom (suc n) (reverse new))) →
+    AreOrdered caps top (reverse old) → BeginFrom (suc ram) (reverse old) → AreOrdered caps top (reverse new) × IfSome told (λ n. BeginFrom (suc n) (reverse new))
+order_kept here caps ram top old new next told same is made =
+    subst (λ k. AreOrdered k top (reverse old) → BeginFrom (suc ram) (reverse old) → AreOrdered k top (reverse new) × IfSome told (λ n. BeginFrom (suc n) (reverse new))) same
+    (subst (λ o. AreOrdered here top (reverse old) → BeginFrom (suc ram) (reverse old) → AreOrdered here top (reverse new) × IfSome o (λ n. BeginFrom (suc n) (reverse new))) is made)
+
+pub loop-made-init : goal.loop-made-init
+loop-made-init g c = record {
+  caps = refl;
+  runs = λ each want runs. runs;
+  within = λ each want runs. omega arith;
+  rows = λ each want runs. subst AreRows (sym c.requires.none) tt;
+  ordered = λ each want runs.
+      subst (λ rows. AreOrdered (g.T.BudgetTrials.caps c.args.trials.now) c.args.top (reverse rows)) (sym c.requires.none) (record { apart = tt; begin = tt; within = tt });
+  above = λ each want runs. subst (λ rows. BeginFrom (suc c.args.top) (reverse rows)) (sym c.requires.none) tt;
+  all = λ each want runs budget up left same.
+      let caps = g.T.BudgetTrials.caps c.args.trials.now in
+      let exact : left ≡ suc c.args.top = omega (arith, same) in
+      ap (λ rows. serves rows budget || is_covered (stretches each want caps left c.args.top) budget) c.requires.none
+      ∙ ap (λ n. is_covered (stretches each want caps n c.args.top) budget) exact;
+}
+
+pub returns-in-None-clause-exact : goal.returns-in-None-clause-exact
+returns-in-None-clause-exact g c = λ each want runs budget up.
+    let inv = c.loop-made.invariant in
+    let left : ℕ = c.args.top - c.loop-made.made in
+    let test = c.loop-made-test.true in
+    let follows = followed each want (g.T.BudgetTrials.caps c.loop-made.trials) (g.T.BudgetTrials.caps c.args.trials.now) c.loop-made.ram c.args.top c.loop-made.self.rows.items
+    c.take_run.new.self.rows.items c.in_ok-next.field-0 None inv.caps c.in-None.is
+    (c.in_ok-next.ensures.follows each want (inv.runs each want runs) (inv.within each want runs) (inv.rows each want runs)) in
+    follows.covers budget up left ∙ inv.all each want runs budget up (suc left) (omega (arith, test))
+
+pub returns-in-None-clause-ordered : goal.returns-in-None-clause-ordered
+returns-in-None-clause-ordered g c = λ each want runs.
+    let inv = c.loop-made.invariant in
+    (order_kept (g.T.BudgetTrials.caps c.loop-made.trials) (g.T.BudgetTrials.caps c.args.trials.now) c.loop-made.ram c.args.top c.loop-made.self.rows.items
+    c.take_run.new.self.rows.items c.in_ok-next.field-0 None inv.caps c.in-None.is
+    (c.in_ok-next.ensures.ordered each want (inv.runs each want runs) (inv.within each want runs)) (inv.ordered each want runs) (inv.above each want runs)).0
+
+pub loop-made-preserved : goal.loop-made-preserved
+loop-made-preserved g c =
+    let inv = c.loop-made.invariant in
+    let follows = λ (each : Amounts → List Need) (want : Amounts → Bool) (runs : g.T.BudgetTrials.AreRuns c.args.trials.now each want).
+    followed each want (g.T.BudgetTrials.caps c.loop-made.trials) (g.T.BudgetTrials.caps c.args.trials.now) c.loop-made.ram c.args.top c.loop-made.self.rows.items
+    c.take_run.new.self.rows.items c.in_ok-next.field-0 (Some c.in-Some.next) inv.caps c.in-Some.is
+    (c.in_ok-next.ensures.follows each want (inv.runs each want runs) (inv.within each want runs) (inv.rows each want runs)) in
+    let order = λ (each : Amounts → List Need) (want : Amounts → Bool) (runs : g.T.BudgetTrials.AreRuns c.args.trials.now each want).
+    order_kept (g.T.BudgetTrials.caps c.loop-made.trials) (g.T.BudgetTrials.caps c.args.trials.now) c.loop-made.ram c.args.top c.loop-made.self.rows.items
+    c.take_run.new.self.rows.items c.in_ok-next.field-0 (Some c.in-Some.next) inv.caps c.in-Some.is
+    (c.in_ok-next.ensures.ordered each want (inv.runs each want runs) (inv.within each want runs)) (inv.ordered each want runs) (inv.above each want runs) in
+    record {
+      ordered = λ each want runs. (order each want runs).0;
+      above = λ each want runs. (order each want runs).1;
+      caps = c.in_ok-next.ensures.caps ∙ inv.caps;
+      runs = λ each want runs. c.in_ok-next.ensures.still each want (inv.runs each want runs);
+      within = λ each want runs. (follows each want runs).within;
+      rows = λ each want runs. (follows each want runs).rows;
+      all = λ each want runs budget up left same.
+          (follows each want runs).covers budget up left ∙ inv.all each want runs budget up (suc left) (omega (arith, same));
+    }
+
+pub returns-clause-exact : goal.returns-clause-exact
+returns-clause-exact g c = λ each want runs budget up.
+    let inv = c.loop-made.invariant in
+    let past = c.loop-made-test.false in
+    let end = c.loop-made.auto.made-end in
+    let follows = followed each want (g.T.BudgetTrials.caps c.loop-made.trials) (g.T.BudgetTrials.caps c.args.trials.now) c.loop-made.ram c.args.top c.loop-made.self.rows.items
+    c.take_run-2.new.self.rows.items c.in_ok-_next._next c.in_ok-_next._next inv.caps refl
+    (c.in_ok-_next.ensures.follows each want (inv.runs each want runs) (inv.within each want runs) (inv.rows each want runs)) in
+    sym (none_left each want (g.T.BudgetTrials.caps c.args.trials.now) c.take_run-2.new.self.rows.items c.in_ok-_next._next budget)
+    ∙ follows.covers budget up 0 ∙ inv.all each want runs budget up 1 (omega (arith, past, end))
+
+pub returns-clause-ordered : goal.returns-clause-ordered
+returns-clause-ordered g c = λ each want runs.
+    let inv = c.loop-made.invariant in
+    (order_kept (g.T.BudgetTrials.caps c.loop-made.trials) (g.T.BudgetTrials.caps c.args.trials.now) c.loop-made.ram c.args.top c.loop-made.self.rows.items
+    c.take_run-2.new.self.rows.items c.in_ok-_next._next c.in_ok-_next._next inv.caps refl
+    (c.in_ok-_next.ensures.ordered each want (inv.runs each want runs) (inv.within each want runs)) (inv.ordered each want runs) (inv.above each want runs)).0

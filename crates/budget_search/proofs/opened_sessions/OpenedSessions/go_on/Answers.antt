@@ -1,0 +1,7 @@
+-- What came of the call is the selector in its reply, and whether it is done.
+use Rattle.std.proofs.lemmas.Result.{on_ok_weaker}
+use Rattle.budget_search.specs.ReachedSessions.{came_with}
+use Rattle.budget_search.proofs.opened_sessions.OpenedSessions.go_on.Goals as goal
+
+pub returns : goal.returns
+returns g c = on_ok_weaker c.record.result (λ is. (came_with c.selector-selector.result c.is_done-is_done.result, is)) c.record.ensures

@@ -1,0 +1,55 @@
+-- Line by line.
+use Rattle.std.proofs.Common.{◌+◌, ◌<◌, length, drop, sym, ◌∙◌, subst}
+use Rattle.std.specs.Prelude.{is_some}
+use Rattle.own_model.specs.Transcript.{entry_at}
+use Rattle.budget_meter.specs.Run.{Shows}
+use Rattle.budget_search.specs.Run.{HasLeft}
+use Rattle.budget_search.specs.Steps.{calls_of}
+use Rattle.budget_search.proofs.RunLemmas.{next_calls, all_done, no_calls}
+use Rattle.budget_search.proofs.own_run.OwnRun.go_through.Goals as goal
+
+pub returns-then-not-branch : goal.returns-then-not-branch
+returns-then-not-branch g c =
+    let now = c.loop-step.self in
+    let steps = c.args.steps.now in
+    let i = c.loop-step.step-index in
+    let item = c.step-item.result in
+    record {
+      shows = λ calls budget s left.
+          subst (λ e. Shows e calls s budget (is_some c.goes_on.new.self.trial.refused) c.goes_on.new.self.heard.meter) c.loop-step.invariant.entry
+          (c.in_ok-goes_on.ensures.ends c.if-not-branch.true calls (calls_of (drop (i + 1) steps)) budget s
+          (subst (λ each. HasLeft now.core.now now.component now.heard calls each budget s) (next_calls steps i item c.loop-step-test.true c.step-item.is)
+          (c.loop-step.invariant.left calls budget s left)));
+    }
+
+pub loop-step-preserved : goal.loop-step-preserved
+loop-step-preserved g c =
+    let now = c.loop-step.self in
+    let new = c.goes_on.new.self in
+    let steps = c.args.steps.now in
+    let i = c.loop-step.step-index in
+    let item = c.step-item.result in
+    let kept = c.loop-step.invariant in
+    record {
+      there =
+          subst (λ n. n < length new.core.now.entries) (sym c.goes_on.ensures.same)
+          (subst (λ es. now.component < length es) (sym c.goes_on.ensures.entries) kept.there);
+      none = c.in_ok-goes_on.ensures.on c.if-not-branch.false;
+      entry = (λ k. entry_at (c.goes_on.ensures.entries k) (c.goes_on.ensures.same k)) ∙ kept.entry;
+      left = λ calls budget s before.
+          c.in_ok-goes_on.ensures.left c.if-not-branch.false calls (calls_of (drop (i + 1) steps)) budget s
+          (subst (λ each. HasLeft now.core.now now.component now.heard calls each budget s) (next_calls steps i item c.loop-step-test.true c.step-item.is)
+          (kept.left calls budget s before));
+    }
+
+pub returns : goal.returns
+returns g c =
+    let now = c.loop-step.self in
+    let kept = c.loop-step.invariant in
+    record {
+      shows = λ calls budget s left.
+          subst (λ e. Shows e calls s budget (is_some now.trial.refused) now.heard.meter) kept.entry
+          (all_done now.core.now now.component now.heard calls budget s now.trial.refused kept.none
+          (subst (λ each. HasLeft now.core.now now.component now.heard calls each budget s)
+          (no_calls c.args.steps.now c.loop-step.step-index c.loop-step-test.false) (kept.left calls budget s left)));
+    }

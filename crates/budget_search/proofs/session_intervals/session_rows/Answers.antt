@@ -1,0 +1,29 @@
+-- By the stretches of runs that end with their first want.
+use Rattle.std.proofs.Common.{refl, ◌∙◌}
+use Rattle.budget_meter.proofs.ReachedLemmas.{runs_exact}
+use Rattle.budget_meter.specs.Needs.{amounts_of}
+use Rattle.budget_meter.specs.SessionRuns.{opened_needs, opened_in_want}
+use Rattle.budget_search.proofs.SafeLemmas.{has_least, has_safe}
+use Rattle.budget_search.specs.OpenedSessions.{sent_at, suffices_of}
+use Rattle.budget_search.proofs.session_intervals.session_rows.Goals as goal
+
+pub returns-clause-exact : goal.returns-clause-exact
+returns-clause-exact g c = λ session ready opens donation few up.
+    let sent = sent_at c.args.reached.steps.now c.args.reached.opened.now.steps.items in
+    c.in_ok-found.ensures.exact (opened_needs sent session) (opened_in_want sent session)
+    (record { ready = ready; session = session; opens = opens; needs = refl; want = refl }) donation up
+    ∙ runs_exact sent session c.args.most.caps c.args.most.ram donation few up
+
+pub returns-clause-least : goal.returns-clause-least
+returns-clause-least g c = λ session ready opens.
+    let sent = sent_at c.args.reached.steps.now c.args.reached.opened.now.steps.items in
+    has_least (suffices_of sent session) (amounts_of c.args.most) c.in_ok-found.found.rows.items
+    (c.in_ok-found.ensures.ordered (opened_needs sent session) (opened_in_want sent session) (record { ready = ready; session = session; opens = opens; needs = refl; want = refl }))
+    (returns-clause-exact g c session ready opens)
+
+pub returns-clause-safe : goal.returns-clause-safe
+returns-clause-safe g c = λ session ready opens.
+    let sent = sent_at c.args.reached.steps.now c.args.reached.opened.now.steps.items in
+    has_safe (suffices_of sent session) (amounts_of c.args.most) c.in_ok-found.found.rows.items
+    (c.in_ok-found.ensures.ordered (opened_needs sent session) (opened_in_want sent session) (record { ready = ready; session = session; opens = opens; needs = refl; want = refl }))
+    (returns-clause-exact g c session ready opens)

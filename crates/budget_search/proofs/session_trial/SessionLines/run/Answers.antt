@@ -1,0 +1,34 @@
+-- From the first request on, and then the close.
+use Rattle.std.proofs.Common.{sym, subst}
+use Rattle.std.specs.Prelude.{is_some}
+use Rattle.std.specs.Option.{option_copied}
+use Rattle.own_model.specs.Amounts.{Amounts}
+use Rattle.own_model.specs.Session.{new_session}
+use Rattle.budget_meter.specs.Sessions.{Shows}
+use Rattle.budget_search.specs.OpenedSessions.{IsReady, sent_at}
+use Rattle.budget_search.proofs.SessionLemmas.{begins, closes, kinds_told}
+use Rattle.budget_search.proofs.session_trial.SessionLines.run.Goals as goal
+
+pub returns-clause-run : goal.returns-clause-run
+returns-clause-run g c = λ wish enough same has.
+    let sent = sent_at c.args.self.steps.now c.as_slice.result.now in
+    let donation : Amounts = record { ram = wish.ram; caps = wish.caps } in
+    let ended =
+    c.in_ok-go_through.ensures.ended sent (new_session wish) donation
+    (begins c.args.client.now.core c.args.client.now.client wish sent c.in_ok-heard.heard has
+    (c.in_ok-heard.ensures wish (kinds_told c.args.client.now.core c.args.client.now.client (new_session wish) has (option_copied c.kinds.result) c.kinds.ensures) enough same)) in
+    subst (λ places. Shows (sent_at c.args.self.steps.now places) (new_session wish) donation (is_some c.go_through.new.run.trial.refused) c.go_through.new.run.heard.meter) c.as_slice.ensures.value
+    ended.shows
+
+pub returns-clause-ready : goal.returns-clause-ready
+returns-clause-ready g c = λ wish enough same has.
+    let sent = sent_at c.args.self.steps.now c.as_slice.result.now in
+    let donation : Amounts = record { ram = wish.ram; caps = wish.caps } in
+    let ended =
+    c.in_ok-go_through.ensures.ended sent (new_session wish) donation
+    (begins c.args.client.now.core c.args.client.now.client wish sent c.in_ok-heard.heard has
+    (c.in_ok-heard.ensures wish (kinds_told c.args.client.now.core c.args.client.now.client (new_session wish) has (option_copied c.kinds.result) c.kinds.ensures) enough same)) in
+    let entry = ended.has.entry in
+    subst (λ p. IsReady c.step.new.self.core p) (sym c.step.ensures.same)
+    (closes c.go_through.new.self.core c.step.new.self.core c.go_through.new.self.client c.step.new.self.reply.text (c.step.ensures.answered entry) (c.step.ensures.stepped entry)
+    ended.now ended.buffer ended.has)

@@ -1,0 +1,104 @@
+-- Opened, or too small.
+use Rattle.std.proofs.lemmas.Option.{slice_get_read}
+use Rattle.std.proofs.Common.{None, refl, sym, ap, ◌∙◌, subst}
+use Rattle.std.specs.Prelude.{Some}
+use Rattle.own_model.specs.Session.{Wish, new_session}
+use Rattle.own_model.specs.Transcript.{entry_at}
+use Rattle.core_calls.specs.Call.{model_call}
+use Rattle.budget_meter.specs.Needs.{amounts_of}
+use Rattle.budget_search.specs.OpenedSessions.{HasSelectors, IsReady, held, opened_by, opened_with, sent_at, is_too_small}
+use Rattle.budget_search.proofs.SessionLemmas.{account_told, none_told, each_ok, each_on, each_three, shows_run, small_run, was_not, was_opened, wish_again}
+use Rattle.budget_search.proofs.session_trial.SessionLines.trial.Goals as goal
+
+pub returns-in-Some-account-clause-run : goal.returns-in-Some-account-clause-run
+returns-in-Some-account-clause-run g c =
+    each_ok c.run.result
+    (λ trial runs session ready opens.
+    let world = c.args.client.now.core in
+    let client = c.args.client.now.client in
+    let entry = entry_at world.entries client in
+    let donation = amounts_of c.args.donation in
+    let text = c.as_slice-args.result.now in
+    let found = slice_get_read c.args.self.steps.now _ c.args.self.opened.now.step c.in-Some.opening.now refl c.in-Some.ensures.lookup.3.0 c.in-Some.ensures.lookup.1 in
+    let again =
+    wish_again entry c.in-Some-Open.service.now c.in-Some-Open.given.now text donation session
+    (ap (opened_by entry) (ap (λ x. Some (model_call x)) (sym c.in-Some-Open.field-0-is) ∙ c.in-Some-Open.ensures.call) ∙ sym (ap (opened_with entry) found) ∙ opens)
+    (c.donates.ensures c.if-not-donates.false) in
+    let wish : Wish = record again.0 { ram = donation.ram; caps = donation.caps } in
+    let opened =
+    was_opened world c.step.new.self.core client c.in-Some-Open.service.now text c.step.new.self.reply.text (c.step.ensures.answered ready.entry) (c.step.ensures.stepped ready.entry) ready wish
+    again.1.0 c.in-Some-account.account
+    (account_told c.step.new.self.core c.step.new.self.client client world.entries c.account.result c.in-Some-account.account c.step.ensures.same c.step.ensures.entries ready.entry
+    c.in-Some-account.is c.account.ensures) in
+    shows_run (sent_at c.args.self.steps.now c.args.self.opened.now.steps.items) again.0 donation session trial again.1.1
+    (runs wish opened.enough opened.same (subst (λ p. HasSelectors c.step.new.self.core p (held (new_session wish) None)) (sym c.step.ensures.same) opened.has)))
+    c.run.ensures.run
+
+pub returns-in-Some-account-clause-ready : goal.returns-in-Some-account-clause-ready
+returns-in-Some-account-clause-ready g c =
+    each_on c.run.result
+    (λ runs session ready opens.
+    let world = c.args.client.now.core in
+    let client = c.args.client.now.client in
+    let entry = entry_at world.entries client in
+    let donation = amounts_of c.args.donation in
+    let text = c.as_slice-args.result.now in
+    let found = slice_get_read c.args.self.steps.now _ c.args.self.opened.now.step c.in-Some.opening.now refl c.in-Some.ensures.lookup.3.0 c.in-Some.ensures.lookup.1 in
+    let again =
+    wish_again entry c.in-Some-Open.service.now c.in-Some-Open.given.now text donation session
+    (ap (opened_by entry) (ap (λ x. Some (model_call x)) (sym c.in-Some-Open.field-0-is) ∙ c.in-Some-Open.ensures.call) ∙ sym (ap (opened_with entry) found) ∙ opens)
+    (c.donates.ensures c.if-not-donates.false) in
+    let wish : Wish = record again.0 { ram = donation.ram; caps = donation.caps } in
+    let opened =
+    was_opened world c.step.new.self.core client c.in-Some-Open.service.now text c.step.new.self.reply.text (c.step.ensures.answered ready.entry) (c.step.ensures.stepped ready.entry) ready wish
+    again.1.0 c.in-Some-account.account
+    (account_told c.step.new.self.core c.step.new.self.client client world.entries c.account.result c.in-Some-account.account c.step.ensures.same c.step.ensures.entries ready.entry
+    c.in-Some-account.is c.account.ensures) in
+    runs wish opened.enough opened.same (subst (λ p. HasSelectors c.step.new.self.core p (held (new_session wish) None)) (sym c.step.ensures.same) opened.has))
+    c.run.ensures.ready
+
+pub returns-clause-run : goal.returns-clause-run
+returns-clause-run g c =
+    each_three c.unopened.result
+    (λ trial small refused shown session ready opens.
+    let world = c.args.client.now.core in
+    let client = c.args.client.now.client in
+    let entry = entry_at world.entries client in
+    let donation = amounts_of c.args.donation in
+    let text = c.as_slice-args.result.now in
+    let found = slice_get_read c.args.self.steps.now _ c.args.self.opened.now.step c.in-Some.opening.now refl c.in-Some.ensures.lookup.3.0 c.in-Some.ensures.lookup.1 in
+    let again =
+    wish_again entry c.in-Some-Open.service.now c.in-Some-Open.given.now text donation session
+    (ap (opened_by entry) (ap (λ x. Some (model_call x)) (sym c.in-Some-Open.field-0-is) ∙ c.in-Some-Open.ensures.call) ∙ sym (ap (opened_with entry) found) ∙ opens)
+    (c.donates.ensures c.if-not-donates.false) in
+    let wish : Wish = record again.0 { ram = donation.ram; caps = donation.caps } in
+    let left =
+    was_not world c.step.new.self.core client c.in-Some-Open.service.now text c.step.new.self.reply.text (c.step.ensures.answered ready.entry) (c.step.ensures.stepped ready.entry) ready wish
+    again.1.0
+    (none_told c.step.new.self.core c.step.new.self.client client world.entries c.account.result c.step.ensures.same c.step.ensures.entries ready.entry c.in-None.is c.account.ensures)
+    (sym (ap is_too_small c.answer.ensures) ∙ small) in
+    small_run (sent_at c.args.self.steps.now c.args.self.opened.now.steps.items) donation session trial left.small refused shown)
+    c.unopened.ensures.small c.unopened.ensures.refused c.unopened.ensures.shown
+
+pub returns-clause-ready : goal.returns-clause-ready
+returns-clause-ready g c =
+    each_on c.unopened.result
+    (λ small session ready opens.
+    let world = c.args.client.now.core in
+    let client = c.args.client.now.client in
+    let entry = entry_at world.entries client in
+    let donation = amounts_of c.args.donation in
+    let text = c.as_slice-args.result.now in
+    let found = slice_get_read c.args.self.steps.now _ c.args.self.opened.now.step c.in-Some.opening.now refl c.in-Some.ensures.lookup.3.0 c.in-Some.ensures.lookup.1 in
+    let again =
+    wish_again entry c.in-Some-Open.service.now c.in-Some-Open.given.now text donation session
+    (ap (opened_by entry) (ap (λ x. Some (model_call x)) (sym c.in-Some-Open.field-0-is) ∙ c.in-Some-Open.ensures.call) ∙ sym (ap (opened_with entry) found) ∙ opens)
+    (c.donates.ensures c.if-not-donates.false) in
+    let wish : Wish = record again.0 { ram = donation.ram; caps = donation.caps } in
+    let left =
+    was_not world c.step.new.self.core client c.in-Some-Open.service.now text c.step.new.self.reply.text (c.step.ensures.answered ready.entry) (c.step.ensures.stepped ready.entry) ready wish
+    again.1.0
+    (none_told c.step.new.self.core c.step.new.self.client client world.entries c.account.result c.step.ensures.same c.step.ensures.entries ready.entry c.in-None.is c.account.ensures)
+    (sym (ap is_too_small c.answer.ensures) ∙ small) in
+    subst (λ p. IsReady c.step.new.self.core p) (sym c.step.ensures.same) left.still)
+    c.unopened.ensures.small

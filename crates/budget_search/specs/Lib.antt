@@ -1,0 +1,11 @@
+pub mod Steps
+pub mod Run
+pub mod Sufficient
+pub mod BudgetIntervals
+pub mod AccountNeeds
+pub mod Alike
+pub mod Own
+pub mod OpenedSessions
+pub mod ReachedSessions
+pub mod Shortages
+pub mod Replies

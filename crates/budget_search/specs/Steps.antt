@@ -1,0 +1,29 @@
+-- The calls that lines of a script make.
+use Rattle.std.specs.Prelude.{ℕ, Bool, true, false, List, [], ◌∷◌, Option, Some, None}
+use Rattle.std.specs.Option.{option_map}
+use Rattle.own_model.specs.Call.{Call, parsed_call}
+use Rattle.own_model.specs.Call.Call.{Open, Exit}
+use Rattle.budget_search.specs.declared.component_line.ComponentLine.{ComponentLine}
+
+-- a call with other arguments, if it opens a session
+abbrev pub with_args : Option (List ℕ) → Call → Call
+with_args (Some args) (Open service text) = Open service args
+with_args args call = call
+
+-- the call that a line makes, if it makes one
+abbrev pub call_said : List ℕ → Option Call
+call_said line = option_map (λ said. said.call) (parsed_call line)
+
+abbrev pub call_of : ComponentLine → Option Call
+call_of step = option_map (with_args (option_map (λ args. args.items) step.args)) (call_said step.line.items)
+
+-- the calls of a line and of those after it: a line that is left out makes none, and an exit ends them
+abbrev pub calls_with : Bool → Option Call → List Call → List Call
+calls_with left_out None rest = rest
+calls_with true (Some call) rest = rest
+calls_with false (Some Exit) rest = []
+calls_with false (Some call) rest = call ∷ rest
+
+abbrev pub calls_of : List ComponentLine → List Call
+calls_of [] = []
+calls_of (step ∷ steps) = calls_with step.is_left_out (call_of step) (calls_of steps)

@@ -1,0 +1,87 @@
+//! Runs of a script's own calls from any budget.
+ghost use Rattle.std.specs.Prelude.{◌≡◌, ◌<◌, ◌^◌, length, is_some, IfOk};
+ghost use Rattle.own_model.specs.StartList.Kind.{Script};
+ghost use Rattle.budget_meter.specs.Needs.{amounts_of};
+ghost use Rattle.budget_meter.specs.Run.{Shows};
+ghost use Rattle.budget_search.specs.Alike.{own_entry, own_state};
+ghost use Rattle.budget_search.specs.BudgetIntervals.{AreOrdered};
+ghost use Rattle.budget_search.specs.Own.{AreExact, AreOwnRuns};
+ghost use Rattle.budget_search.specs.Steps.{calls_of};
+
+use crate::budget_intervals::{BudgetIntervals, BudgetTrials};
+use crate::component_line::ComponentLine;
+use crate::funded_list::funded;
+use crate::trial::BudgetTrial;
+use budget_meter::Budget;
+use list_parser::{BootFault, StartList};
+use std::alloc::Global;
+
+/// The run of a script's lines from a budget, on the largest machine, on which it alone has one.
+pub(crate) fn funded_trial(
+    alloc: Global,
+    list: &StartList,
+    component: usize,
+    steps: &[ComponentLine],
+    budget: Budget,
+) -> Result<BudgetTrial, BootFault>
+    requires there { component < length list.now.entries }
+    requires few { budget.caps < 2 ^ 32 }
+    ensures { IfOk result (λ trial. (own_entry list.now component).kind ≡ Script →
+        Shows (own_entry list.now component) (calls_of steps.now) (own_state list.now component)
+        (amounts_of budget) (is_some trial.refused) trial.meter) }
+{
+    let machine = funded(alloc, list, component, budget)?;
+    let trial = BudgetTrial::of_account(alloc, &machine, component, steps, budget)?;
+    Ok(trial)
+}
+
+/// Returns exactly the budgets, up to the largest, under which none of a script's calls is short of quota.
+pub(crate) fn own_rows(
+    alloc: Global,
+    list: &StartList,
+    component: usize,
+    steps: &[ComponentLine],
+    most: Budget,
+    given: Option<&[u8]>,
+) -> Result<BudgetIntervals, BootFault>
+    requires there { component < length list.now.entries }
+    requires few { most.caps < 2 ^ 32 }
+    ensures exact { IfOk result (λ found. (own_entry list.now component).kind ≡ Script →
+        AreExact list.now component steps.now most.caps most.ram found.rows.items) }
+    ensures ordered { IfOk result (λ found. (own_entry list.now component).kind ≡ Script →
+        AreOrdered most.caps most.ram found.rows.items) }
+{
+    let mut trials = OwnTrials {
+        caps: most.caps,
+        list,
+        component,
+        steps,
+    };
+    let found = BudgetIntervals::of(alloc, &mut trials, most.ram, given)?;
+    Ok(found)
+}
+
+// Runs of a script's own account, each with the same capabilities.
+#[derive(Drop)]
+struct OwnTrials<'a> {
+    caps: u64,
+    list: &'a StartList,
+    component: usize,
+    steps: &'a [ComponentLine],
+    ghost there: { component < length list.now.entries },
+    ghost few: { caps < 2 ^ 32 },
+}
+
+impl BudgetTrials for OwnTrials<'_> {
+    ghost caps = { λ trials. trials.caps };
+
+    ghost AreRuns = { λ trials each want.
+        AreOwnRuns trials.list.now trials.component trials.steps.now each want };
+
+    fn run(&mut self, alloc: Global, ram: u64) -> Result<BudgetTrial, BootFault> {
+        let caps = self.caps;
+        let budget = Budget { ram, caps };
+        let trial = funded_trial(alloc, self.list, self.component, self.steps, budget)?;
+        Ok(trial)
+    }
+}

@@ -1,0 +1,242 @@
+//! The accounts of a script: its sessions', and its own.
+ghost use Rattle.std.specs.Prelude.{◌≡◌, ◌-◌, ◌<◌, ◌^◌, length, IfOk};
+
+use crate::account_budgets::{AccountBudgets, GivenBudget, SessionKey};
+use crate::component_line::ComponentLine;
+use crate::funded_list::{ample, most_beside, reserve_of};
+use crate::opened_sessions::{OpenedSession, OpenedSessions};
+use crate::own_trials::{funded_trial, own_rows};
+use crate::session_accounts::SessionAccounts;
+use crate::session_intervals::session_rows;
+use crate::session_trial::{SessionClient, SessionLines};
+use crate::trial::BudgetTrial;
+use budget_meter::Budget;
+use core_calls::Reply;
+use init_core::boot;
+use list_parser::{BootFault, ListEntry, StartList};
+use pd_core::Router;
+use std::alloc::Global;
+
+/// A script of a list.
+#[derive(Drop)]
+pub struct ScriptSearch<'a> {
+    pub(crate) list: &'a StartList,
+    pub(crate) component: usize,
+    /// The budget that the list gives it.
+    pub(crate) given: Budget,
+    ghost there: { component < length list.now.entries },
+    ghost few: { given.caps < 2 ^ 32 },
+}
+
+/// What the sessions of a script need.
+#[derive(Drop)]
+pub struct ScriptSessions {
+    /// The run of the script's own account from its given budget, with the donations of the scenario.
+    pub given: BudgetTrial,
+    /// The accounts of the sessions, in the order of their first openings.
+    pub accounts: Vec<AccountBudgets>,
+}
+
+impl ScriptSearch<'_> {
+    ghost use Rattle.std.specs.Prelude.{◌≡◌, ◌<◌, length, None, IfOk, IfSome};
+    ghost use Rattle.budget_meter.specs.Needs.{amounts_of};
+    ghost use Rattle.own_model.specs.StartList.Kind.{Script as AScript};
+    ghost use Rattle.budget_search.specs.Alike.{most_in, own_entry, reserve_in};
+    ghost use Rattle.budget_search.specs.BudgetIntervals.{lowest_of, safe_of};
+    ghost use Rattle.budget_search.specs.Own.{suffices_with, AreExact};
+    ghost use Rattle.budget_search.specs.Sufficient.{HasLeast, HasSafe};
+
+    /// Returns the search for the budgets of a component of a list, if it is a script.
+    pub fn of(list: &StartList, component: usize) -> Option<ScriptSearch<'_>>
+        requires { component < length list.now.entries }
+        ensures component { IfSome result (λ search. search.component ≡ component) }
+        ensures list { IfSome result (λ search. search.list.now ≡ list.now) }
+    {
+        let entry = &list.entries()[component];
+        if !entry.is_script() {
+            return None;
+        }
+        Some(ScriptSearch {
+            list,
+            component,
+            given: budget_of(entry),
+        })
+    }
+
+    /// Returns what its sessions need, each by its opening donation with every other account ample.
+    pub fn sessions(
+        &self,
+        alloc: Global,
+        steps: &[ComponentLine],
+    ) -> Result<ScriptSessions, BootFault> {
+        let given = funded_trial(alloc, self.list, self.component, steps, self.given)?;
+        let accounts = self.session_accounts(alloc, steps)?;
+        Ok(ScriptSessions { given, accounts })
+    }
+
+    // Returns the accounts of its sessions.
+    fn session_accounts(
+        &self,
+        alloc: Global,
+        steps: &[ComponentLine],
+    ) -> Result<Vec<AccountBudgets>, BootFault> {
+        let ample = ample(alloc, self.list, self.component)?;
+        let opened = OpenedSessions::of(alloc, &ample, self.component, steps)?;
+        self.opened_accounts(alloc, &ample, steps, opened.opened.as_slice())
+    }
+
+    // Returns the accounts of the sessions that it opens on the machine of a list where every account is ample.
+    fn opened_accounts(
+        &self,
+        alloc: Global,
+        ample: &StartList,
+        steps: &[ComponentLine],
+        sessions: &[OpenedSession],
+    ) -> Result<Vec<AccountBudgets>, BootFault> {
+        let reply = Reply::boot(alloc)?;
+        let core = boot(alloc, ample)?;
+        let client = SessionClient::new(core, self.component, reply);
+        self.needs(alloc, client, steps, sessions)
+    }
+
+    // Returns the needs of the sessions that a client opens.
+    fn needs<R: Router + Drop>(
+        &self,
+        alloc: Global,
+        client: SessionClient<R>,
+        steps: &[ComponentLine],
+        sessions: &[OpenedSession],
+    ) -> Result<Vec<AccountBudgets>, BootFault> {
+        let mut client = client;
+        let mut accounts = SessionAccounts::new(alloc);
+        for opened in sessions {
+            self.add_session(alloc, &mut client, steps, opened, &mut accounts)?;
+        }
+        Ok(accounts.accounts)
+    }
+
+    // Adds the need of a session to those before it.
+    fn add_session<R: Router + Drop>(
+        &self,
+        alloc: Global,
+        client: &mut SessionClient<R>,
+        steps: &[ComponentLine],
+        opened: &OpenedSession,
+        accounts: &mut SessionAccounts,
+    ) -> Result<(), BootFault> {
+        let account = self.session(alloc, client, steps, opened)?;
+        accounts.add(account)?;
+        Ok(())
+    }
+
+    /// Returns the need of its own account: exactly the budgets under which none of its calls is short of quota, up to the largest
+    /// machine's, less the reserve.
+    pub fn own(
+        &self,
+        alloc: Global,
+        steps: &[ComponentLine],
+        given: &BudgetTrial,
+    ) -> Result<AccountBudgets, BootFault>
+        ensures component { IfOk result (λ account. account.component ≡ self.now.component) }
+        ensures own { IfOk result (λ account. account.session ≡ None) }
+        ensures given { IfOk result (λ account. account.given.budget ≡ self.now.given) }
+        ensures reserve { IfOk result (λ account. amounts_of account.reserve
+            ≡ reserve_in self.now.list.now self.now.component) }
+        ensures exact { IfOk result (λ account.
+            (own_entry self.now.list.now self.now.component).kind ≡ AScript →
+            AreExact self.now.list.now self.now.component steps.now
+            (most_in self.now.list.now self.now.component).caps
+            (most_in self.now.list.now self.now.component).ram account.found.rows.items) }
+        ensures least { IfOk result (λ account.
+            (own_entry self.now.list.now self.now.component).kind ≡ AScript →
+            HasLeast (suffices_with self.now.list.now self.now.component steps.now)
+            (most_in self.now.list.now self.now.component)
+            (lowest_of account.found.rows.items)) }
+        ensures safe { IfOk result (λ account.
+            (own_entry self.now.list.now self.now.component).kind ≡ AScript →
+            HasSafe (suffices_with self.now.list.now self.now.component steps.now)
+            (most_in self.now.list.now self.now.component)
+            (safe_of account.found.rows.items)) }
+    {
+        let reserve = reserve_of(self.list, self.component);
+        let most = most_beside(reserve);
+        let found = own_rows(
+            alloc,
+            self.list,
+            self.component,
+            steps,
+            most,
+            replies_of(given),
+        )?;
+        Ok(AccountBudgets {
+            component: self.component,
+            session: None,
+            count: 1,
+            given: GivenBudget {
+                budget: self.given,
+                refused: given.refused,
+            },
+            reserve,
+            found,
+        })
+    }
+
+    // Returns the need of a session's account, if its client has enough.
+    fn session<R: Router + Drop>(
+        &self,
+        alloc: Global,
+        client: &mut SessionClient<R>,
+        steps: &[ComponentLine],
+        opened: &OpenedSession,
+    ) -> Result<AccountBudgets, BootFault> {
+        let reached = SessionLines { steps, opened };
+        let given = reached.trial(alloc, client, opened.donation)?;
+        let most = most_beside(reserve_of(self.list, self.component));
+        let rest = Budget {
+            ram: most.ram.saturating_sub(opened.raised.ram),
+            caps: most.caps.saturating_sub(opened.raised.caps),
+        };
+        let found = session_rows(alloc, client, reached, rest, replies_of(&given))?;
+        Ok(AccountBudgets {
+            component: self.component,
+            session: Some(SessionKey {
+                selector: opened.selector,
+                line: number_of(steps, opened.step),
+            }),
+            count: 1,
+            given: GivenBudget {
+                budget: opened.donation,
+                refused: given.refused,
+            },
+            reserve: Budget { ram: 0, caps: 0 },
+            found,
+        })
+    }
+}
+
+/// Returns the budget of an entry.
+pub fn budget_of(entry: &ListEntry) -> Budget
+    ensures { result.caps < 2 ^ 32 }
+{
+    Budget {
+        ram: entry.ram(),
+        caps: u64::from(entry.caps()),
+    }
+}
+
+// Returns the number of the scenario's line for a line of a script.
+fn number_of(steps: &[ComponentLine], place: usize) -> u64 {
+    match steps.get(place) {
+        Some(step) => step.number,
+        None => 0,
+    }
+}
+
+// Returns the replies of a run, if no call is short of quota.
+fn replies_of(trial: &BudgetTrial) -> Option<&[u8]> {
+    if trial.refused.is_some() {
+        None
+    } else {
+        Some(trial.replies.as_slice())
+    }
+}

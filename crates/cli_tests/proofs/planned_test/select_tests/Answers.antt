@@ -1,0 +1,7 @@
+-- The tests that stay are those that the texts select.
+use Rattle.std.proofs.Common.{rules}
+use Rattle.std.proofs.lemmas.Fn.{filter_same}
+use Rattle.cli_tests.proofs.planned_test.select_tests.Goals as goal
+
+pub returns : goal.returns
+returns c = filter_same _ _ _ (λ x b f' k. search rules) _ _ c.retain.ensures.filtered

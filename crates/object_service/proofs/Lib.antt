@@ -1,0 +1,12 @@
+pub mod WordLemmas
+pub mod ListLemmas
+pub mod KindLemmas
+pub mod CountLemmas
+pub mod FoundLemmas
+pub mod KeptLemmas
+pub mod ChangeLemmas
+pub mod TakenLemmas
+pub mod ServeLemmas
+pub mod ReadyLemmas
+pub mod BufferRequestLemmas
+pub mod NameLemmas
