@@ -19,7 +19,7 @@ use Rattle.avl_alloc.specs.Layout.{Laid, heap_of, sizes_of, bytes_of, hole_count
 use Rattle.avl_alloc.specs.Context.{Context, heap_with, start_of, Stand, StandUsed, Turn}
 use Rattle.avl_tree.proofs.TreeLemmas.{one, high_bound}
 use Rattle.avl_alloc.proofs.WeightLemmas.{IsLong, AreLong, TidyAll, tidy_all, chunks_kept, chunks_long, chunks_apart, weigh_all-append, weigh_all-parts, weigh-site}
-use Rattle.avl_alloc.proofs.HoleLemmas.{within_above, with_word_same, with_word_other, fits_node, holds_kept, none_at_zero}
+use Rattle.avl_alloc.proofs.HoleLemmas.{header_leaves, within_above, with_word_same, with_word_other, fits_node, holds_kept, none_at_zero}
 use Rattle.avl_alloc.proofs.TurnLemmas.{outside}
 use Rattle.avl_alloc.proofs.FitLemmas.{found-best, holes_counted}
 use Rattle.avl_alloc.proofs.LayoutLemmas.{fits_one_more, heap_is, IsTold, laid_sound}
@@ -220,9 +220,6 @@ module _ (fit : BestFit) (w x : Words) (place number bytes : ℕ) (is : IsChunkN
       let few = is.few in
       take_more_set fit.sizes number bytes (omega arith) ∙ ap (λ n. take n fit.sizes ++ bytes ∷ []) count_is
 
-  words_more : (q : ℕ) → q ≢ place → q ≢ place + 8 → x q ≡ w q
-  words_more q differ differ' = ap (λ z. z q) is.words ∙ with_word_other (with_word w place bytes) (place + 8) 1 q differ' ∙ with_word_other w place bytes q differ
-
   -- the chunks so far lie before it
   words_kept : (q : ℕ) → 1 ≤ weigh_all (whole q) none 0 (heap_of fit w) + weigh_all none (whole q) 0 (heap_of fit w) → x q ≡ w q
   words_kept q there =
@@ -230,7 +227,7 @@ module _ (fit : BestFit) (w x : Words) (place number bytes : ℕ) (is : IsChunkN
       let last : place_at (0 + length (heap_of fit w)) 0 ≡ place = omega arith in
       let all = rw last at (chunks_apart w q 0 (sizes_of fit) (heap_of fit w) is.told.laid.chunks) in
       let parts = weigh_all-parts (whole q) (whole q) 0 (heap_of fit w) in
-      words_more q (λ e. omega (arith, within_above (place_at 0 0) place q (omega arith))) (λ e. omega (arith, within_above (place_at 0 0) place q (omega arith)))
+      header_leaves w x place bytes is.words q (λ e. omega (arith, within_above (place_at 0 0) place q (omega arith))) (λ e. omega (arith, within_above (place_at 0 0) place q (omega arith)))
 
   fits_more : Fits (bytes_of fit) (bytes_of (with_chunk fit number bytes))
   fits_more chunk = subst (λ s. bytes_of fit chunk ≤ slice_index s chunk) (sym sizes_more) (kept_before (sizes_of fit) bytes chunk)
@@ -313,5 +310,5 @@ module _ (fit : BestFit) (w x : Words) (place number bytes : ℕ) (is : IsChunkN
             let apart : within place (place + bytes) q ≡ 0 = omega arith in
             let least = is.sized.least in
             hole_changes (with_chunk fit number bytes) new x v (last_site (heap_of fit w)) place bytes (Used bytes ∷ []) (Hole bytes ∷ []) (omega arith) turn q clear'
-            ∙ words_more q (λ e. outside place bytes q 0 (omega arith) apart (omega arith)) (outside place bytes q 8 (omega arith) apart);
+            ∙ header_leaves w x place bytes is.words q (λ e. outside place bytes q 0 (omega arith) apart (omega arith)) (outside place bytes q 8 (omega arith) apart);
       }

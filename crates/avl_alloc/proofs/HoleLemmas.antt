@@ -1,5 +1,5 @@
 -- Places, and holes in words: what a store keeps of them.
-use Rattle.std.proofs.Common.{◌≡◌, ◌≢◌, ℕ, ◌+◌, ◌-◌, ◌/◌, ◌%◌, ◌^◌, ◌<◌, ◌≤◌, true, false, refl, sym, ◌∙◌, subst, arith}
+use Rattle.std.proofs.Common.{◌≡◌, ◌≢◌, ℕ, ◌+◌, ◌-◌, ◌/◌, ◌%◌, ◌^◌, ◌<◌, ◌≤◌, true, false, refl, sym, ap, ◌∙◌, subst, arith}
 use Rattle.std.specs.Prelude.{nat_lt, nat_le, ◌==◌, if◌then◌else◌}
 use Rattle.std.proofs.lemmas.Bool.Decides.{nat_tests}
 use Rattle.avl_tree.specs.Tree.{Tree, Leaf, Node, tally, is_at, ranked}
@@ -42,6 +42,12 @@ with_word_same w p v = grind (arith, nat_tests)
 pub with_word_other : (w : Words) (p v q : ℕ) → q ≢ p → with_word w p v q ≡ w q
 unfolding with_word
 with_word_other w p v q ne = grind (arith, nat_tests)
+
+-- the header of a used block leaves all other words
+pub header_leaves : (w x : Words) (place n : ℕ) → x ≡ with_word (with_word w place n) (place + 8) 1 → (q : ℕ) → q ≢ place → q ≢ place + 8
+    → x q ≡ w q
+header_leaves w x place n is q differ differ' =
+    ap (λ z. z q) is ∙ with_word_other (with_word w place n) (place + 8) 1 q differ' ∙ with_word_other w place n q differ
 
 -- the words of a node are words
 pub node_place : (bytes : ℕ → ℕ) (a k : ℕ) → IsNode bytes a → k % 8 ≡ 0 → k + 8 ≤ 48 → IsPlace bytes (a + k)

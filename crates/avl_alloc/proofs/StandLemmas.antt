@@ -13,7 +13,7 @@ use Rattle.avl_alloc.specs.FreeBlocks.{key, view_of, hole_plan, Fits}
 use Rattle.avl_alloc.specs.Layout.{Laid, weigh, none, bytes_of, hole_count}
 use Rattle.avl_alloc.specs.Context.{Context, heap_with, start_of, Stand, Turn, AreUsed, StandUsed, gap, filled, first_hole}
 use Rattle.avl_tree.proofs.TreeLemmas.{one, high_bound}
-use Rattle.avl_alloc.proofs.HoleLemmas.{with_word_same, with_word_other, node_place, fits_node}
+use Rattle.avl_alloc.proofs.HoleLemmas.{header_leaves, with_word_same, with_word_other, node_place, fits_node}
 use Rattle.avl_alloc.proofs.FitLemmas.{holes_counted}
 use Rattle.avl_alloc.proofs.WeightLemmas.{weigh-append, weigh-site}
 use Rattle.avl_alloc.proofs.ContextLemmas.{laid_right, site_open, site_node}
@@ -84,10 +84,7 @@ split_turn fit w x v at place n m stand size size' is is' =
     (subst (λ p. Laid v p (Used n ∷ Used m ∷ [])) (sym stand.start) laid) (subst (λ p. (q : ℕ) → within p (p + (n + m)) q ≡ 0 → v q ≡ w q) (sym stand.start) kept))
   where
     first : (q : ℕ) → q ≢ place + n → q ≢ place + n + 8 → v q ≡ x q
-    first q differ differ' = ap (λ z. z q) is' ∙ with_word_other (with_word x (place + n) m) (place + n + 8) 1 q differ' ∙ with_word_other x (place + n) m q differ
-
-    second : (q : ℕ) → q ≢ place → q ≢ place + 8 → x q ≡ w q
-    second q differ differ' = ap (λ z. z q) is ∙ with_word_other (with_word w place n) (place + 8) 1 q differ' ∙ with_word_other w place n q differ
+    first = header_leaves x v (place + n) m is'
 
     laid : Laid v place (Used n ∷ Used m ∷ [])
     laid =
@@ -113,7 +110,7 @@ split_turn fit w x v at place n m stand size size' is is' =
         let least = size.least in
         let least' = size'.least in
         first q (outside place (n + m) q n (omega arith) clear) (λ e. outside place (n + m) q (n + 8) (omega arith) clear (omega arith))
-        ∙ second q (λ e. outside place (n + m) q 0 (omega arith) clear (omega arith)) (outside place (n + m) q 8 (omega arith) clear)
+        ∙ header_leaves w x place n is q (λ e. outside place (n + m) q 0 (omega arith) clear (omega arith)) (outside place (n + m) q 8 (omega arith) clear)
 
 -- ---- by their headers
 
