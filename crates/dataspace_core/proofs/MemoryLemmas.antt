@@ -2,6 +2,7 @@
 use Rattle.std.proofs.lemmas.Bool.Decides.{nat_tests}
 use Rattle.std.proofs.Common.{[], get_or, ◌≡◌, ◌≢◌, ℕ, ◌+◌, ◌*◌, ◌/◌, ◌^◌, ◌<◌, ◌≤◌, min, List, length, Some, Ok, Err, refl, sym, ap, subst, ◌∙◌, arith, inl, inr}
 use Rattle.std.specs.Prelude.{⊤, Option, None, Result, IfOk, OnOk, OnErr}
+use Rattle.std.specs.Option.{option_map}
 use Rattle.std.specs.Result.{result_err}
 use Rattle.std.specs.FinMap.{get, insert, remove}
 use Rattle.std.proofs.lemmas.Bool.{cases_lt}
@@ -27,6 +28,7 @@ use Rattle.dataspace_core.specs.Store.{Store, Space, fresh_store, room_in, Exist
 use Rattle.dataspace_core.specs.Layout.{IsNewRun, IsGiven, IsClosed, IsWritten, IsRun, HasMovedDown, NoneLiesAfter, NoneLiesIn, run_bytes, space_of, store_of}
 use Rattle.dataspace_core.specs.Paid.{IsPaid, IsSound, size_of}
 use Rattle.dataspace_core.specs.declared.dataspace.Dataspace.{Dataspace}
+use Rattle.dataspace_core.proofs.SpacesLemmas.{starts_at}
 use Rattle.dataspace_core.proofs.PartLemmas.{space_at-some, opens-with_child, raises-with_moved, closes-without_account}
 use Rattle.dataspace_core.proofs.LaidOutLemmas.{IsRun-laid_out, length-space_of, IsLaidOut-insert, map_of-insert_space, IsLaidOut-remove, map_of-remove_space, IsLaidOut-written, map_of-written, after_remove, ends_behind, starts_outside}
 use Rattle.dataspace_core.proofs.PaidLemmas.{free_covers, places_cover, size_fits, use_covers, payer_apart, IsPaid-more, IsPaid-less, IsPaid-same, IsPaid-opened, IsPaid-raised, IsPaid-closed, pays_for_none, IsPaid-fresh}
@@ -51,6 +53,15 @@ pub record IsFound (pool : List (Option (List ℕ))) (table : List PageNo) (ds :
   pub size : d.run.count * 4096 ≡ length (space_at value ds).bytes
   pub payer : d.payer.0 ≡ (space_at value ds).payer
   pub bytes : run_bytes pool table d.run.start d.run.count ≡ (space_at value ds).bytes
+
+-- the same of a dataspace whose run starts at a known page
+pub record RunsFrom (pool : List (Option (List ℕ))) (table : List PageNo) (spaces : Slab Dataspace) (ds start : ℕ) (value : Store) : Type 0 where
+  pub space : Dataspace
+  pub there : slab.get spaces ds ≡ Some space
+  pub same : space.run.start ≡ start
+  pub run : IsRun pool table start space.run.count
+  pub size : space.run.count * 4096 ≡ length (space_at value ds).bytes
+  pub bytes : run_bytes pool table start space.run.count ≡ (space_at value ds).bytes
 
 module _ {books : Books} {pool : List (Option (List ℕ))} {table : List PageNo} {room : ℕ} {spaces : Slab Dataspace} (sound : IsSound books pool table room spaces) where
   -- what contracts see
@@ -175,6 +186,28 @@ module _ {books : Books} {pool : List (Option (List ℕ))} {table : List PageNo}
             ∙ ap (λ (s : Space). record store { spaces = insert store.spaces ds (record { payer = s.payer; bytes = with_bytes s.bytes offset bytes }) })
             (sym space_at-there);
       }
+
+  -- by the start of its run
+  pub runs_from : {value : Store} (ds start : ℕ) → option_map (λ (d : Dataspace). d.run.start) (slab.get spaces ds) ≡ Some start → store ≡ value
+      → RunsFrom pool table spaces ds start value
+  runs_from ds start is view =
+      let at = starts_at (slab.get spaces ds) start is in
+      let found = is_found ds at.space at.there view in
+      record {
+        space = at.space;
+        there = at.there;
+        same = at.same;
+        run = subst (λ s. IsRun pool table s at.space.run.count) at.same found.run;
+        size = found.size;
+        bytes = ap (λ s. run_bytes pool table s at.space.run.count) (sym at.same) ∙ found.bytes;
+      }
+
+  pub leaves-write_from : {value : Store} (ds start : ℕ) (found : RunsFrom pool table spaces ds start value) {new_pool : List (Option (List ℕ))} {offset : ℕ} {bytes : List ℕ}
+      → offset + length bytes ≤ found.space.run.count * 4096 → IsWritten pool new_pool table start found.space.run.count offset bytes
+      → LeavesSound books new_pool table room spaces (with_bytes_at store ds offset bytes)
+  leaves-write_from ds start found {new_pool} {offset} {bytes} fits written =
+      leaves-write ds found.space found.there fits
+      (subst (λ s. IsWritten pool new_pool table s found.space.run.count offset bytes) (sym found.same) written)
 
   -- where a dataspace that goes was the last in the table, none of those that are left lies behind it
   pub none_behind : (ds : ℕ) (d : Dataspace) → slab.get spaces ds ≡ Some d → {left : Slab Dataspace} → Updates spaces left ds None → {new_table : List PageNo} → IsClosed table new_table d.run.start d.run.count → length new_table ≤ d.run.start → NoneLiesAfter d.run left

@@ -18,7 +18,7 @@ place_in : (at : ℕ) → at ≡ at / 4096 * 4096 + at % 4096
 place_in at = omega arith
 
 -- a position within so many pages is in one of them
-page_below : (at count : ℕ) → at < count * 4096 → at / 4096 < count
+pub page_below : (at count : ℕ) → at < count * 4096 → at / 4096 < count
 page_below at count below = omega arith
 
 -- the step ends with the page

@@ -3,7 +3,7 @@ use Rattle.std.proofs.Common.{◌≡◌, ◌≢◌, ℕ, ◌+◌, ◌*◌, ◌-�
 use Rattle.std.specs.Prelude.{Option}
 use Rattle.std.proofs.Math.Seq.{take-add}
 use Rattle.std.proofs.lemmas.Bool.{cases_eq}
-use Rattle.std.proofs.lemmas.List.{get_or-set_other, length-set, length-take-le}
+use Rattle.std.proofs.lemmas.List.{get_or-set_other, length-append, length-set, length-take-le}
 use Rattle.trade_base.specs.Bytes.{with_bytes}
 use Rattle.trade_base.proofs.BytesLemmas.{length-with_bytes, with_bytes-nothing, with_bytes-more}
 use Rattle.trade_base.specs.Word.{word_bytes}
@@ -19,6 +19,10 @@ use Rattle.dataspace_core.proofs.ByteLemmas.{joined_put, joined_piece}
 pub run_piece : (pages : List (Option (List ℕ))) (table : List PageNo) (start count i from n : ℕ) → IsRun pages table start count → i < count → from + n ≤ 4096 → take n (drop (i * 4096 + from) (run_bytes pages table start count)) ≡ take n (drop from (page_bytes pages (page_in table (start + i))))
 unfolding run_bytes
 run_piece pages table start count i from n run below within = joined_piece _ count i from n run.held below within
+
+-- two words
+pub two_long : (first second : ℕ) → length (word_bytes first ++ word_bytes second) ≡ 16
+two_long first second = length-append (word_bytes first) (word_bytes second) ∙ omega (arith, length-word_bytes first, length-word_bytes second)
 
 -- before the first page is written
 pub IsWritten-nothing : (pages : List (Option (List ℕ))) (table : List PageNo) (start count offset : ℕ) → IsRun pages table start count → IsWritten pages pages table start count offset []

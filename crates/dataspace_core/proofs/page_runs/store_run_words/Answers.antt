@@ -1,11 +1,10 @@
 -- The words lie in one page of the run, and no other page changes.
-use Rattle.std.proofs.Common.{◌≡◌, ℕ, ◌+◌, ◌%◌, ◌≤◌, [], ◌++◌, length, ◌∙◌, arith}
-use Rattle.std.proofs.lemmas.List.{length-append}
+use Rattle.std.proofs.Common.{ℕ, ◌+◌, ◌%◌, ◌≤◌, [], ◌++◌, length, arith}
 use Rattle.trade_base.specs.Word.{word_bytes}
 use Rattle.trade_base.proofs.WordLemmas.{length-word_bytes}
 use Rattle.dataspace_core.proofs.RunLemmas.{page_in_read, is_taken-held}
 use Rattle.dataspace_core.proofs.WalkLemmas.{IsInPage, piece_in_page}
-use Rattle.dataspace_core.proofs.WriteLemmas.{IsWritten-nothing, IsWritten-word_more}
+use Rattle.dataspace_core.proofs.WriteLemmas.{IsWritten-nothing, IsWritten-word_more, two_long}
 use Rattle.dataspace_core.proofs.page_runs.store_run_words.Goals as goal
 
 -- fewer bytes from there on are in the page too
@@ -14,9 +13,6 @@ fewer count offset n less here = record { below = here.below; place = here.place
 
 one_long : (first : ℕ) → length (word_bytes first) + 8 ≤ 24
 one_long first = omega (arith, length-word_bytes first)
-
-two_long : (first second : ℕ) → length (word_bytes first ++ word_bytes second) ≡ 16
-two_long first second = length-append (word_bytes first) (word_bytes second) ∙ omega (arith, length-word_bytes first, length-word_bytes second)
 
 pub store-requires-clause-taken : goal.store-requires-clause-taken
 store-requires-clause-taken c =

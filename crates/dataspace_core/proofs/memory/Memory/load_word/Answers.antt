@@ -1,10 +1,8 @@
 -- The word lies in the dataspace's run, which has its bytes.
-use Rattle.std.proofs.Common.{◌+◌, sym, ap, subst, ◌∙◌, arith}
+use Rattle.std.proofs.Common.{◌+◌, ap, ◌∙◌, arith}
 use Rattle.std.specs.Prelude.{slice_range}
 use Rattle.trade_base.specs.Word.{word_of}
-use Rattle.dataspace_core.specs.Layout.{IsRun, run_bytes}
-use Rattle.dataspace_core.proofs.MemoryLemmas.{key_there, is_found}
-use Rattle.dataspace_core.proofs.SpacesLemmas.{starts_at}
+use Rattle.dataspace_core.proofs.MemoryLemmas.{key_there, runs_from}
 use Rattle.dataspace_core.proofs.memory.Memory.load_word.Goals as goal
 
 pub start-start-requires : goal.start-start-requires
@@ -12,18 +10,14 @@ start-start-requires c = key_there c.self.invariant c.args.ds.0 c.self.view_is c
 
 pub load_run-requires : goal.load_run-requires
 load_run-requires c =
-    let at = starts_at _ _ c.start-start.ensures in
-    let found = is_found c.self.invariant c.args.ds.0 at.space at.there c.self.view_is in (
-      at.space.run.count,
-      subst (λ s. IsRun c.self.inside.pool c.self.inside.table.items s at.space.run.count) at.same found.run,
+    let found = runs_from c.self.invariant c.args.ds.0 _ c.start-start.ensures c.self.view_is in (
+      found.space.run.count,
+      found.run,
       record { aligned = c.requires.aligned; within = omega (arith, c.requires.range, found.size) },
     )
 
 pub returns : goal.returns
 returns c =
-    let at = starts_at _ _ c.start-start.ensures in
-    let found = is_found c.self.invariant c.args.ds.0 at.space at.there c.self.view_is in
-    let run = subst (λ s. IsRun c.self.inside.pool c.self.inside.table.items s at.space.run.count) at.same found.run in
-    let bytes = ap (λ s. run_bytes c.self.inside.pool c.self.inside.table.items s at.space.run.count) (sym at.same) ∙ found.bytes in
-    c.load_run.ensures at.space.run.count run (record { aligned = c.requires.aligned; within = omega (arith, c.requires.range, found.size) })
-    ∙ ap (λ b. word_of (slice_range b c.args.offset (c.args.offset + 8))) bytes
+    let found = runs_from c.self.invariant c.args.ds.0 _ c.start-start.ensures c.self.view_is in
+    c.load_run.ensures found.space.run.count found.run (record { aligned = c.requires.aligned; within = omega (arith, c.requires.range, found.size) })
+    ∙ ap (λ b. word_of (slice_range b c.args.offset (c.args.offset + 8))) found.bytes
