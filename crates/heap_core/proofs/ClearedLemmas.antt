@@ -1,11 +1,10 @@
 -- A used block in its chunk's words, and its payload cleared.
-use Rattle.std.proofs.Common.{◌≡◌, ◌≢◌, ℕ, ◌+◌, ◌-◌, ◌%◌, ◌^◌, ◌<◌, ◌≤◌, ◌==◌, true, false, List, [], ◌∷◌, length, get_or, sym, ap, subst, ◌∙◌, ⊎_elim, arith, rules, Some, is_some}
+use Rattle.std.proofs.Common.{◌≡◌, ℕ, ◌+◌, ◌-◌, ◌%◌, ◌^◌, ◌<◌, ◌≤◌, true, List, [], ◌∷◌, length, get_or, sym, ap, subst, ◌∙◌, arith, rules, Some, is_some, inl, inr}
 use Rattle.std.proofs.Math.Nat.{mul-le-mul}
-use Rattle.std.proofs.lemmas.Bool.{cases_eq, cases_lt}
 use Rattle.std.proofs.lemmas.Bool.Decides.{nat_tests}
 use Rattle.std.proofs.lemmas.List.{places}
-use Rattle.std.proofs.lemmas.Option.{none-some, same_Some}
-use Rattle.std.specs.Prelude.{nat_lt, slice_range}
+use Rattle.std.proofs.lemmas.Option.{none-some}
+use Rattle.std.specs.Prelude.{slice_range}
 use Rattle.std.specs.Option.{IsSome}
 use Rattle.std.specs.FinMap.{get, insert}
 use Rattle.trade_base.specs.Word.{word_of}
@@ -37,33 +36,27 @@ use Rattle.heap_core.proofs.PayloadLemmas.{no_chunk}
 use Rattle.heap_core.proofs.PokeLemmas as poke
 use Rattle.dataspace_core.proofs.ShareLaws.{in_share}
 use Rattle.heap_core.proofs.StandLemmas.{blocks, chunk_blocks, chunk_short, chunk_total}
+use Rattle.heap_core.proofs.UsedLemmas.{used_cases, used_past}
 use Rattle.heap_core.proofs.WordsLemmas.{length_keys, word_at_place, word_there}
+
+-- after a block of m bytes
+word_later : (w : ℕ → ℕ) (place off n m : ℕ) → w (place + m + (off - m)) ≡ n → m ≤ off → w (place + off) ≡ n
+word_later w place off n m is past =
+    let on : place + m + (off - m) ≡ place + off = omega (arith, past) in subst (λ q. w q ≡ n) on is
 
 -- the header of a used block tells its size
 used_word : (w : ℕ → ℕ) (place off n : ℕ) (bs : List Block) → Laid w place bs → used_at off bs ≡ Some n → w (place + off) ≡ n
 used_word w place off n [] laid at = absurd (none-some n at)
-used_word w place off n (Used m ∷ rest) laid at = ⊎_elim
-    (λ (first : off ≡ 0).
-    let t : (off == 0) ≡ true = grind (arith, nat_tests) in
-    let here : place + off ≡ place = omega (arith, first) in
-    ap w here ∙ laid.0.size ∙ same_Some m n (rw t at at))
-    (λ (later : off ≢ 0).
-    let t : (off == 0) ≡ false = grind (arith, nat_tests) in
-    ⊎_elim
-    (λ (inside : off < m). let u : nat_lt off m ≡ true = grind (arith, nat_tests) in absurd (none-some n (rw (t, u) at at)))
-    (λ (past : m ≤ off).
-    let u : nat_lt off m ≡ false = grind (arith, nat_tests) in
-    let on : place + m + (off - m) ≡ place + off = omega (arith, past) in
-    subst (λ q. w q ≡ n) on (used_word w (place + m) (off - m) n rest laid.1 (rw (t, u) at at)))
-    (cases_lt off m))
-    (cases_eq off 0)
-used_word w place off n (Hole m ∷ rest) laid at = ⊎_elim
-    (λ (inside : off < m). let u : nat_lt off m ≡ true = grind (arith, nat_tests) in absurd (none-some n (rw u at at)))
-    (λ (past : m ≤ off).
-    let u : nat_lt off m ≡ false = grind (arith, nat_tests) in
-    let on : place + m + (off - m) ≡ place + off = omega (arith, past) in
-    subst (λ q. w q ≡ n) on (used_word w (place + m) (off - m) n rest laid.1 (rw u at at)))
-    (cases_lt off m)
+used_word w place off n (Used m ∷ rest) laid at = elim (used_cases off n m rest at) [
+  | inl both ↦
+      let first = both.0 in
+      let here : place + off ≡ place = omega (arith, first) in
+      ap w here ∙ laid.0.size ∙ both.1
+  | inr later ↦ word_later w place off n m (used_word w (place + m) (off - m) n rest laid.1 later.1) later.0
+]
+used_word w place off n (Hole m ∷ rest) laid at =
+    let later = used_past off n m rest at in
+    word_later w place off n m (used_word w (place + m) (off - m) n rest laid.1 later.1) later.0
 
 -- the heap window of a machine ends below 2^40
 pub window_low : (machine : ℕ) → machine ≤ 4096 → heap_high machine ≤ 2 ^ 40

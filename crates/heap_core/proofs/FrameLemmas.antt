@@ -1,9 +1,8 @@
 -- Payloads stay while only words of holes change.
-use Rattle.std.proofs.Common.{rules, ◌≡◌, ◌≢◌, ℕ, ◌+◌, ◌-◌, ◌%◌, ◌^◌, ◌<◌, ◌≤◌, ◌==◌, true, false, List, [], ◌∷◌, length, sym, ap, subst, ◌∙◌, ⊎_elim, unwrap_or, arith, Some, is_some}
-use Rattle.std.proofs.lemmas.Bool.{cases_eq, cases_lt}
-use Rattle.std.proofs.lemmas.Bool.Decides.{nat_tests}
+use Rattle.std.proofs.Common.{rules, ◌≡◌, ℕ, ◌+◌, ◌-◌, ◌%◌, ◌^◌, ◌<◌, ◌≤◌, List, [], ◌∷◌, length, sym, ap, subst, ◌∙◌, unwrap_or, arith, Some, is_some, inl, inr}
+use Rattle.std.proofs.lemmas.Bool.{cases_lt}
 use Rattle.std.proofs.lemmas.Option.{none-some}
-use Rattle.std.specs.Prelude.{Option, nat_lt, slice_range}
+use Rattle.std.specs.Prelude.{Option, slice_range}
 use Rattle.own_model.specs.BestFit.{used_at, chunk_of}
 use Rattle.own_model.specs.Entries.{value_of}
 use Rattle.own_model.specs.Heap as model
@@ -23,32 +22,26 @@ use Rattle.heap_core.proofs.ChangeLemmas.{chunk_now, part_there}
 use Rattle.heap_core.proofs.ChunkLemmas.{key_is}
 use Rattle.heap_core.proofs.HoleLemmas.{slices_same}
 use Rattle.heap_core.proofs.PayloadLemmas.{told, value_of-payloads, entries_of}
+use Rattle.heap_core.proofs.UsedLemmas.{used_cases, used_past}
 use Rattle.heap_core.proofs.WordsLemmas.{length_keys, word_at_place}
 use Rattle.heap_core.proofs.StandLemmas.{chunk_short}
 
 -- used blocks start at multiples of 16
 pub used_even : (off n : ℕ) (blocks : List Block) → AreBlocks blocks → used_at off blocks ≡ Some n → off % 16 ≡ 0
 used_even off n [] sizes at = absurd (none-some n at)
-used_even off n (Used m ∷ rest) sizes at = ⊎_elim
-    (λ (first : off ≡ 0). omega (arith, first))
-    (λ (later : off ≢ 0).
-    let t : (off == 0) ≡ false = grind (arith, nat_tests) in
-    ⊎_elim
-    (λ (inside : off < m). let u : nat_lt off m ≡ true = grind (arith, nat_tests) in absurd (none-some n (rw (t, u) at at)))
-    (λ (past : m ≤ off).
-    let u : nat_lt off m ≡ false = grind (arith, nat_tests) in
-    let even = sizes.0.even in
-    let less = used_even (off - m) n rest sizes.1 (rw (t, u) at at) in omega (arith, less, even, past))
-    (cases_lt off m))
-    (cases_eq off 0)
-used_even off n (Hole m ∷ rest) sizes at = ⊎_elim
-    (λ (inside : off < m). let u : nat_lt off m ≡ true = grind (arith, nat_tests) in absurd (none-some n (rw u at at)))
-    (λ (past : m ≤ off).
-    let u : nat_lt off m ≡ false = grind (arith, nat_tests) in
+used_even off n (Used m ∷ rest) sizes at = elim (used_cases off n m rest at) [
+  | inl first ↦ let zero = first.0 in omega (arith, zero)
+  | inr later ↦
+      let past = later.0 in
+      let even = sizes.0.even in
+      let less = used_even (off - m) n rest sizes.1 later.1 in omega (arith, less, even, past)
+]
+used_even off n (Hole m ∷ rest) sizes at =
+    let later = used_past off n m rest at in
+    let past = later.0 in
     let parts = tail_blocks (Hole m) rest sizes in
     let even = parts.0.even in
-    let less = used_even (off - m) n rest parts.1 (rw u at at) in omega (arith, less, even, past))
-    (cases_lt off m)
+    let less = used_even (off - m) n rest parts.1 later.1 in omega (arith, less, even, past)
 
 -- a chunk tells the same payloads of bytes that agree in each of them
 told_same : (start : ℕ) (old new : List ℕ) (blocks : List Block) (q : ℕ) → ((y n : ℕ) → used_at y blocks ≡ Some n → slice_range new (y + 16) (y + n) ≡ slice_range old (y + 16) (y + n)) → AreBlocks blocks →

@@ -1,10 +1,10 @@
 -- Words of used blocks lie in no hole, so they stay where only holes change; and words that stay keep bytes.
-use Rattle.std.proofs.Common.{◌≡◌, ◌≢◌, ℕ, zero, suc, ◌+◌, ◌-◌, ◌%◌, ◌<◌, ◌≤◌, ◌==◌, true, false, List, [], ◌∷◌, length, get_or, take, drop, sym, ap, subst, ◌∙◌, ⊎_elim, arith, rules, Some}
-use Rattle.std.proofs.lemmas.Bool.{cases_eq, cases_lt}
+use Rattle.std.proofs.Common.{◌≡◌, ℕ, zero, suc, ◌+◌, ◌-◌, ◌%◌, ◌<◌, ◌≤◌, true, List, [], ◌∷◌, length, get_or, take, drop, sym, ap, subst, ◌∙◌, arith, rules, Some, inl, inr}
+use Rattle.std.proofs.lemmas.Bool.{cases_lt}
 use Rattle.std.proofs.lemmas.Bool.Decides.{nat_tests}
 use Rattle.std.proofs.lemmas.List.{same_lists, places, get_or-take, get_or-drop}
-use Rattle.std.proofs.lemmas.Option.{none-some, same_Some}
-use Rattle.std.specs.Prelude.{nat_lt, slice_range}
+use Rattle.std.proofs.lemmas.Option.{none-some}
+use Rattle.std.specs.Prelude.{slice_range}
 use Rattle.trade_base.specs.Word.{word_of, word_bytes}
 use Rattle.trade_base.proofs.WordLemmas.{word_bytes-word_of}
 use Rattle.trade_base.proofs.BytesLemmas.{length-slice_range}
@@ -23,6 +23,7 @@ use Rattle.avl_alloc.proofs.LayoutLemmas.{sound_told, chunk_there}
 use Rattle.avl_alloc.proofs.WeightLemmas.{weigh_all-parts, within_le, within_mono, chunks_apart}
 use Rattle.heap_core.specs.Words.{are_bytes, word_from}
 use Rattle.heap_core.proofs.BlockLemmas.{length-heap_of}
+use Rattle.heap_core.proofs.UsedLemmas.{used_cases, used_past}
 use Rattle.heap_core.proofs.WordsLemmas.{bytes_below, bytes_taken, bytes_dropped, word_there}
 
 -- ---- a used block is in no hole
@@ -30,26 +31,19 @@ use Rattle.heap_core.proofs.WordsLemmas.{bytes_below, bytes_taken, bytes_dropped
 -- a place in a used block has a weight among the used ones
 used_weighs : (p off n q : ℕ) (blocks : List Block) → used_at off blocks ≡ Some n → p + off ≤ q → q < p + off + n → 1 ≤ weigh (whole q) none p blocks
 used_weighs p off n q [] at low high = absurd (none-some n at)
-used_weighs p off n q (Used m ∷ rest) at low high = ⊎_elim
-    (λ (first : off ≡ 0).
-    let t : (off == 0) ≡ true = grind (arith, nat_tests) in
-    let same : m ≡ n = same_Some m n (rw t at at) in
-    let one = within_in p (p + m) q (omega (arith, low)) (omega (arith, high, first, same)) in omega (arith, one))
-    (λ (later : off ≢ 0).
-    let t : (off == 0) ≡ false = grind (arith, nat_tests) in
-    ⊎_elim
-    (λ (inside : off < m). let u : nat_lt off m ≡ true = grind (arith, nat_tests) in absurd (none-some n (rw (t, u) at at)))
-    (λ (past : m ≤ off).
-    let u : nat_lt off m ≡ false = grind (arith, nat_tests) in
-    let less = used_weighs (p + m) (off - m) n q rest (rw (t, u) at at) (omega (arith, low, past)) (omega (arith, high, past)) in omega (arith, less))
-    (cases_lt off m))
-    (cases_eq off 0)
-used_weighs p off n q (Hole m ∷ rest) at low high = ⊎_elim
-    (λ (inside : off < m). let u : nat_lt off m ≡ true = grind (arith, nat_tests) in absurd (none-some n (rw u at at)))
-    (λ (past : m ≤ off).
-    let u : nat_lt off m ≡ false = grind (arith, nat_tests) in
-    let less = used_weighs (p + m) (off - m) n q rest (rw u at at) (omega (arith, low, past)) (omega (arith, high, past)) in omega (arith, less))
-    (cases_lt off m)
+used_weighs p off n q (Used m ∷ rest) at low high = elim (used_cases off n m rest at) [
+  | inl both ↦
+      let first = both.0 in
+      let same = both.1 in
+      let one = within_in p (p + m) q (omega (arith, low)) (omega (arith, high, first, same)) in omega (arith, one)
+  | inr later ↦
+      let past = later.0 in
+      let less = used_weighs (p + m) (off - m) n q rest later.1 (omega (arith, low, past)) (omega (arith, high, past)) in omega (arith, less)
+]
+used_weighs p off n q (Hole m ∷ rest) at low high =
+    let later = used_past off n m rest at in
+    let past = later.0 in
+    let less = used_weighs (p + m) (off - m) n q rest later.1 (omega (arith, low, past)) (omega (arith, high, past)) in omega (arith, less)
 
 -- a chunk weighs no more than all do
 one_of_all : (u h : ℕ → ℕ → ℕ) (number k : ℕ) (heap : model.Heap) → k < length heap → weigh u h (place_at (number + k) 0) (get_or heap k []) ≤ weigh_all u h number heap
@@ -114,31 +108,26 @@ heads_in q p (Hole m ∷ rest) sizes = let less = heads_in q (p + m) rest (tail_
 -- of a used block's payload only its bytes weigh, not its header
 payload_weighs : (p off n q : ℕ) (blocks : List Block) → AreBlocks blocks → used_at off blocks ≡ Some n → p + off + 16 ≤ q → q < p + off + n → weigh (heads q) none p blocks + 1 ≤ weigh (whole q) none p blocks
 payload_weighs p off n q [] sizes at low high = absurd (none-some n at)
-payload_weighs p off n q (Used m ∷ rest) sizes at low high = ⊎_elim
-    (λ (first : off ≡ 0).
-    let t : (off == 0) ≡ true = grind (arith, nat_tests) in
-    let same : m ≡ n = same_Some m n (rw t at at) in
-    let one = within_in p (p + m) q (omega (arith, low)) (omega (arith, high, first, same)) in
-    let none_here = within_past p (p + 16) q (omega (arith, low, first)) in
-    let rest_le = heads_in q (p + m) rest sizes.1 in omega (arith, one, none_here, rest_le))
-    (λ (later : off ≢ 0).
-    let t : (off == 0) ≡ false = grind (arith, nat_tests) in
-    ⊎_elim
-    (λ (inside : off < m). let u : nat_lt off m ≡ true = grind (arith, nat_tests) in absurd (none-some n (rw (t, u) at at)))
-    (λ (past : m ≤ off).
-    let u : nat_lt off m ≡ false = grind (arith, nat_tests) in
-    let least = sizes.0.least in
-    let here = within_mono p (p + 16) p (p + m) q (omega arith) (omega (arith, least)) in
-    let less = payload_weighs (p + m) (off - m) n q rest sizes.1 (rw (t, u) at at) (omega (arith, low, past)) (omega (arith, high, past)) in omega (arith, less, here))
-    (cases_lt off m))
-    (cases_eq off 0)
-payload_weighs p off n q (Hole m ∷ rest) sizes at low high = ⊎_elim
-    (λ (inside : off < m). let u : nat_lt off m ≡ true = grind (arith, nat_tests) in absurd (none-some n (rw u at at)))
-    (λ (past : m ≤ off).
-    let u : nat_lt off m ≡ false = grind (arith, nat_tests) in
+payload_weighs p off n q (Used m ∷ rest) sizes at low high = elim (used_cases off n m rest at) [
+  | inl both ↦
+      let first = both.0 in
+      let same = both.1 in
+      let one = within_in p (p + m) q (omega (arith, low)) (omega (arith, high, first, same)) in
+      let none_here = within_past p (p + 16) q (omega (arith, low, first)) in
+      let rest_le = heads_in q (p + m) rest sizes.1 in omega (arith, one, none_here, rest_le)
+  | inr later ↦
+      let past = later.0 in
+      let least = sizes.0.least in
+      let here = within_mono p (p + 16) p (p + m) q (omega arith) (omega (arith, least)) in
+      let less = payload_weighs (p + m) (off - m) n q rest sizes.1 later.1 (omega (arith, low, past)) (omega (arith, high, past)) in
+      omega (arith, less, here)
+]
+payload_weighs p off n q (Hole m ∷ rest) sizes at low high =
+    let later = used_past off n m rest at in
+    let past = later.0 in
     let parts = tail_blocks (Hole m) rest sizes in
-    let less = payload_weighs (p + m) (off - m) n q rest parts.1 (rw u at at) (omega (arith, low, past)) (omega (arith, high, past)) in omega (arith, less))
-    (cases_lt off m)
+    let less = payload_weighs (p + m) (off - m) n q rest parts.1 later.1 (omega (arith, low, past)) (omega (arith, high, past)) in
+    omega (arith, less)
 
 -- nor does the whole heap keep them
 heads_all : (q number : ℕ) (heap : model.Heap) → AllByRecursion AreBlocks heap → weigh_all (heads q) none number heap ≤ weigh_all (whole q) none number heap

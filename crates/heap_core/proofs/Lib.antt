@@ -11,6 +11,7 @@ pub mod RoomLemmas
 pub mod TakeLargeLemmas
 pub mod AroundLemmas
 pub mod ChunkLemmas
+pub mod UsedLemmas
 pub mod HoleLemmas
 pub mod ChangeLemmas
 pub mod AddLemmas

@@ -1,6 +1,5 @@
 -- The links of a free block: three words of a dataspace that follow one another.
 use Rattle.std.proofs.Common.{◌≡◌, ℕ, ◌+◌, ◌*◌, ◌/◌, ◌%◌, ◌^◌, ◌<◌, ◌≤◌, List, ◌++◌, length, get_or, refl, sym, ap, subst, ◌∙◌, arith}
-use Rattle.std.proofs.lemmas.List.{length-append}
 use Rattle.std.specs.Prelude.{slice_range}
 use Rattle.trade_base.specs.Word.{word_of, word_bytes}
 use Rattle.trade_base.proofs.WordLemmas.{length-word_bytes}
@@ -9,6 +8,7 @@ use Rattle.avl_alloc.specs.Words.{Words, IsWord, place_at, with_word}
 use Rattle.avl_alloc.specs.FreeBlocks.{links_at, with_links}
 use Rattle.dataspace_core.specs.Store.{Store, Exists, space_at, with_bytes_at}
 use Rattle.dataspace_core.proofs.PutLemmas.{put_there, put_long, put_more}
+use Rattle.dataspace_core.proofs.WriteLemmas.{two_long}
 use Rattle.heap_core.specs.Words.{Around, word_from, word_in, bytes_in_store, around, bytes_around}
 use Rattle.heap_core.specs.Links.{links_bytes, page_word, page_links}
 use Rattle.heap_core.proofs.WordsLemmas.{range_in, range_whole, word_there, word_at_place, IsReached, is_reached, words_stored, around_kept}
@@ -46,9 +46,6 @@ links_at_place keys bytes chunk offset ds there short is =
     λ i. record { left = word 16 (omega arith) i; right = word 24 (omega arith) i; high = word 32 (omega arith) i }
 
 -- ---- stored
-
-two_long : (left right : ℕ) → length (word_bytes left ++ word_bytes right) ≡ 16
-two_long left right = length-append (word_bytes left) (word_bytes right) ∙ omega (arith, length-word_bytes left, length-word_bytes right)
 
 -- the links put one word after another
 module _ (store : Store) (ds offset : ℕ) (links : Links) (exists : Exists store ds) (range : offset + 40 ≤ length (space_at store ds).bytes)

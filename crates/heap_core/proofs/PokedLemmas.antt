@@ -1,9 +1,9 @@
 -- The heap after a poke: one payload has other bytes.
-use Rattle.std.proofs.Common.{◌≡◌, ◌≢◌, ℕ, ◌+◌, ◌-◌, ◌<◌, ◌≤◌, ◌==◌, true, false, cond, eqb, List, [], ◌∷◌, length, refl, ap, ◌∙◌, ⊎_elim, ◌⊎◌, inl, inr, arith, rules, Some}
+use Rattle.std.proofs.Common.{◌≡◌, ◌≢◌, ℕ, ◌+◌, ◌-◌, ◌<◌, ◌≤◌, true, false, cond, eqb, List, [], ◌∷◌, length, refl, ap, ◌∙◌, ⊎_elim, ◌⊎◌, inl, inr, arith, rules, Some, sym}
 use Rattle.std.proofs.lemmas.Bool.{cases_eq, cases_lt}
 use Rattle.std.proofs.lemmas.Bool.Decides.{nat_tests}
 use Rattle.std.proofs.lemmas.List.{same_lists, places}
-use Rattle.std.proofs.lemmas.Option.{none-some, same_Some}
+use Rattle.std.proofs.lemmas.Option.{none-some}
 use Rattle.std.specs.Prelude.{None, nat_lt, nat_le, slice_range}
 use Rattle.std.specs.Option.{option_map}
 use Rattle.trade_base.specs.Bytes.{with_bytes}
@@ -13,55 +13,42 @@ use Rattle.own_model.specs.Heap.{Block, Used, Hole, AreBlocks, bytes_in}
 use Rattle.own_model.specs.OwnState.{with_part}
 use Rattle.own_model.proofs.HeapBlockLemmas.{used_within}
 use Rattle.heap_core.proofs.PayloadLemmas.{told}
+use Rattle.heap_core.proofs.UsedLemmas.{used_cases, used_past}
+
+-- what lies apart among the blocks after one lies apart
+apart_later : (y n z m b : ℕ) → b ≤ y → b ≤ z → (z - b + m ≤ y - b) ⊎ (y - b + n ≤ z - b) → (z + m ≤ y) ⊎ (y + n ≤ z)
+apart_later y n z m b past beyond (inl before) = inl (omega (arith, before, past, beyond))
+apart_later y n z m b past beyond (inr after) = inr (omega (arith, after, past, beyond))
+
+others_later : (y z b : ℕ) → b ≤ y → b ≤ z → y ≢ z → y - b ≢ z - b
+others_later y z b past beyond other same = other (omega (arith, same, past, beyond))
 
 -- two used blocks lie one after the other
 pub used_apart : (y n z m : ℕ) (blocks : List Block) → used_at y blocks ≡ Some n → used_at z blocks ≡ Some m → y ≢ z → (z + m ≤ y) ⊎ (y + n ≤ z)
 used_apart y n z m [] at also other = absurd (none-some n at)
-used_apart y n z m (Used b ∷ rest) at also other = ⊎_elim
-    (λ (first : y ≡ 0).
-    let t : (y == 0) ≡ true = grind (arith, nat_tests) in
-    let same : b ≡ n = same_Some b n (rw t at at) in
-    let u : (z == 0) ≡ false = grind (arith, nat_tests) in
-    ⊎_elim
-    (λ (inside : z < b). let v : nat_lt z b ≡ true = grind (arith, nat_tests) in absurd (none-some m (rw (u, v) at also)))
-    (λ (past : b ≤ z). inr (omega (arith, first, same, past)))
-    (cases_lt z b))
-    (λ (later : y ≢ 0).
-    let t : (y == 0) ≡ false = grind (arith, nat_tests) in
-    ⊎_elim
-    (λ (inside : y < b). let v : nat_lt y b ≡ true = grind (arith, nat_tests) in absurd (none-some n (rw (t, v) at at)))
-    (λ (past : b ≤ y). ⊎_elim
-    (λ (front : z ≡ 0).
-    let u : (z == 0) ≡ true = grind (arith, nat_tests) in
-    let same : b ≡ m = same_Some b m (rw u at also) in inl (omega (arith, front, same, past)))
-    (λ (back : z ≢ 0).
-    let u : (z == 0) ≡ false = grind (arith, nat_tests) in
-    ⊎_elim
-    (λ (inside : z < b). let v : nat_lt z b ≡ true = grind (arith, nat_tests) in absurd (none-some m (rw (u, v) at also)))
-    (λ (beyond : b ≤ z).
-    let v : nat_lt y b ≡ false = grind (arith, nat_tests) in
-    let w : nat_lt z b ≡ false = grind (arith, nat_tests) in
-    ⊎_elim
-    (λ (before : z - b + m ≤ y - b). inl (omega (arith, before, past, beyond)))
-    (λ (after : y - b + n ≤ z - b). inr (omega (arith, after, past, beyond)))
-    (used_apart (y - b) n (z - b) m rest (rw (t, v) at at) (rw (u, w) at also) (λ e. other (omega (arith, e, past, beyond)))))
-    (cases_lt z b))
-    (cases_eq z 0))
-    (cases_lt y b))
-    (cases_eq y 0)
-used_apart y n z m (Hole b ∷ rest) at also other = ⊎_elim
-    (λ (inside : y < b). let v : nat_lt y b ≡ true = grind (arith, nat_tests) in absurd (none-some n (rw v at at)))
-    (λ (past : b ≤ y). ⊎_elim
-    (λ (inside : z < b). let v : nat_lt z b ≡ true = grind (arith, nat_tests) in absurd (none-some m (rw v at also)))
-    (λ (beyond : b ≤ z).
-    let v : nat_lt y b ≡ false = grind (arith, nat_tests) in
-    let w : nat_lt z b ≡ false = grind (arith, nat_tests) in
-    ⊎_elim
-    (λ (before : z - b + m ≤ y - b). inl (omega (arith, before, past, beyond)))
-    (λ (after : y - b + n ≤ z - b). inr (omega (arith, after, past, beyond)))
-    (used_apart (y - b) n (z - b) m rest (rw v at at) (rw w at also) (λ e. other (omega (arith, e, past, beyond)))))
-    (cases_lt z b))
-    (cases_lt y b)
+used_apart y n z m (Used b ∷ rest) at also other = elim (used_cases y n b rest at) [
+  | inl first ↦ elim (used_cases z m b rest also) [
+    | inl front ↦ absurd (other (first.0 ∙ sym front.0))
+    | inr beyond ↦
+        let zero = first.0 in
+        let same = first.1 in
+        let past = beyond.0 in inr (omega (arith, zero, same, past))
+  ]
+  | inr later ↦ elim (used_cases z m b rest also) [
+    | inl front ↦
+        let zero = front.0 in
+        let same = front.1 in
+        let past = later.0 in inl (omega (arith, zero, same, past))
+    | inr beyond ↦
+        apart_later y n z m b later.0 beyond.0
+        (used_apart (y - b) n (z - b) m rest later.1 beyond.1 (others_later y z b later.0 beyond.0 other))
+  ]
+]
+used_apart y n z m (Hole b ∷ rest) at also other =
+    let later = used_past y n b rest at in
+    let beyond = used_past z m b rest also in
+    apart_later y n z m b later.0 beyond.0
+    (used_apart (y - b) n (z - b) m rest later.1 beyond.1 (others_later y z b later.0 beyond.0 other))
 
 -- bytes put within a range are put into the range
 pub put_within : (bytes : List ℕ) (offset : ℕ) (part : List ℕ) (from to : ℕ) → from ≤ offset → offset + length part ≤ to → to ≤ length bytes →
