@@ -2,6 +2,7 @@
 ghost use Rattle.std.specs.Prelude.{◌≡◌, IfOk};
 ghost use Rattle.list_tree.specs.Nodes.{AreNodes};
 
+use crate::kinds::show_kinds;
 use crate::node::TreeNode;
 use crate::script_decision::ScriptDecision;
 use crate::tree::ListTree;
@@ -189,14 +190,15 @@ fn show_node<W: fmt::Write>(f: &mut fmt::Formatter<W>, node: &TreeNode<'_>) -> f
     f.write_str("\"];\n")
 }
 
-// The text of a component: its path, what it has, and what it provides.
+// The text of a component: its path, what it has, what it provides, and the kinds that it declares.
 fn show_text<W: fmt::Write>(f: &mut fmt::Formatter<W>, node: &TreeNode<'_>) -> fmt::Result {
     let entry = node.entry;
     let binary = entry.binary();
     write!(f, "{} ({})\\n", entry.to_path(), binary.as_str())?;
     node.show_budget(f, "\\n")?;
     match binary.service() {
-        Some(service) if entry.provides() => write!(f, "\\nprovides {service}"),
-        _ => Ok(()),
+        Some(service) if entry.provides() => write!(f, "\\nprovides {service}")?,
+        _ => (),
     }
+    show_kinds(f, "\\n", entry)
 }

@@ -7,6 +7,7 @@
 #![tactic(auto)]
 
 mod graph;
+mod kinds;
 mod node;
 mod script_decision;
 mod tree;

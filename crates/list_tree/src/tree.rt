@@ -5,6 +5,7 @@ ghost use Rattle.own_model.specs.Listed.{start_list_of};
 ghost use Rattle.own_model.specs.StartList.{init_at, inits_kept};
 ghost use Rattle.list_tree.specs.Nodes.{AddsNode, AreNodes, IsNode};
 
+use crate::kinds::{kinds_of, show_kinds};
 use crate::node::{ExtraBudget, TreeNode};
 use crate::script_decision::ScriptDecision;
 use list_parser::{ListEntry, StartList};
@@ -12,7 +13,7 @@ use list_parts::{InitQuotas, StartQuota, kept, left_of, show_within};
 use list_reach::ScriptDecisions;
 use std::alloc::{AllocError, Global};
 use std::fmt;
-use view_json::{JsonField, Listing};
+use view_json::{JsonField, JsonMember, Listing, ObjectList};
 
 /// The tree of a start list: its machine, what inits keep, and each component with its budget below its init. For each script and
 /// service it has the server to which requests are routed, and the rules with their conditions on the label. It has a label, if
@@ -113,7 +114,7 @@ fn add_node<'a>(
     Ok(())
 }
 
-// A component with its budget, and what it provides.
+// A component with its budget, what it provides, and the kinds that it declares.
 fn show_node<W: fmt::Write>(f: &mut fmt::Formatter<W>, node: &TreeNode<'_>) -> fmt::Result {
     let entry = node.entry;
     let binary = entry.binary();
@@ -121,10 +122,12 @@ fn show_node<W: fmt::Write>(f: &mut fmt::Formatter<W>, node: &TreeNode<'_>) -> f
     write!(f, "{} ({}): ", entry.to_name(), binary.as_str())?;
     node.show_budget(f, ", ")?;
     match binary.service() {
-        Some(service) if entry.provides() => writeln!(f, ", provides {service}"),
-        Some(_) => f.write_str(", provides nothing\n"),
-        None => f.write_str("\n"),
+        Some(service) if entry.provides() => write!(f, ", provides {service}")?,
+        Some(_) => f.write_str(", provides nothing")?,
+        None => (),
     }
+    show_kinds(f, ", ", entry)?;
+    f.write_str("\n")
 }
 
 // The decisions on the requests of a component, service by service.
@@ -180,15 +183,27 @@ fn show_indent<W: fmt::Write>(f: &mut fmt::Formatter<W>, entry: &ListEntry) -> f
     Ok(())
 }
 
-// Adds a component with its budget, and the service that it provides: null if its binary has one and it provides none.
+// Adds a component with its budget, the service that it provides, and the kinds that it declares.
 fn add_component(
     alloc: Global,
     listing: &mut Listing,
     node: &TreeNode<'_>,
 ) -> Result<(), AllocError> {
+    let kinds = kinds_of(alloc, node.entry)?;
+    add_with_kinds(alloc, listing, node, &kinds)
+}
+
+// Adds a component with its budget, the service that it provides, and these kinds. The service is null if its binary has one
+// and it provides none.
+fn add_with_kinds<'a>(
+    alloc: Global,
+    listing: &mut Listing,
+    node: &'a TreeNode<'a>,
+    kinds: &'a Option<ObjectList>,
+) -> Result<(), AllocError> {
     let entry = node.entry;
     let binary = entry.binary();
-    let mut members = vec![in alloc;
+    let mut members: Vec<JsonMember<'a>> = vec![in alloc;
         ("kind", JsonField::Word("component")),
         ("name", JsonField::Text(entry.path())),
         ("binary", JsonField::Word(binary.as_str())),
@@ -212,6 +227,9 @@ fn add_component(
         }
         Some(_) => members.push(("provides", JsonField::Nothing))?,
         None => {}
+    }
+    if let Some(kinds) = kinds {
+        members.push(("kinds", JsonField::List(kinds)))?;
     }
     listing.add(members.as_slice())
 }
