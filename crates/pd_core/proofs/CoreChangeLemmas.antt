@@ -37,15 +37,15 @@ pub record Rests (account : ℕ) (store store' : Store) : Type 0 where
   pub own : part account store' ≡ part account store
   pub parent : get (parents_in store') account ≡ get (parents_in store) account
 
--- so does each init's
+-- each init's account has the part that it had
 abbrev pub InitsRest : Roles → Store → Store → Type 0
 InitsRest roles store store' = (account : ℕ) → IsInits store roles account → part account store' ≡ part account store
 
--- and that of a role's reserve
+-- so has a role's reserve, if it has one
 abbrev pub ReserveRests : Role → Store → Store → Type 0
 ReserveRests role store store' = (account : ℕ) → reserve_in role ≡ Some account → part account store' ≡ part account store
 
--- and each but two
+-- so has each account except two
 abbrev pub AllRestBut : ℕ → ℕ → Store → Store → Type 0
 AllRestBut one two store store' = (account : ℕ) → account ≢ one → account ≢ two → part account store' ≡ part account store
 
@@ -62,7 +62,7 @@ pub record Follows (store : Store) (before : Role) (store' : Store) (after : Rol
   pub reserve : reserve_in after ≡ reserve_in before
   pub reserved : (account : ℕ) → reserve_in before ≡ Some account → Rests account store store'
 
--- all roles but one do so
+-- each role except one follows the one at its place
 abbrev pub OthersFollow : ℕ → Store → Roles → Store → Roles → Type 0
 OthersFollow i store roles store' roles' = (k : ℕ) → k ≢ i → Follows store (roles k) store' (roles' k)
 
