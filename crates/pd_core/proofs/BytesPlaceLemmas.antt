@@ -82,6 +82,11 @@ module _ (store : Store) (script : Script) (sound : IsSoundScript store script) 
       ]
 
 module _ (store : Store) (script : Script) (sound : IsSoundScript store script) (address ds offset : ℕ) where
+  -- a peek of so many bytes that isn't refused tells those of the dataspace
+  abbrev pub IsPeeked : ℕ → Type 0
+  IsPeeked count = count_refusal count ≡ None → (sessions : Sessions) →
+      record { reply = Bytes (slice_range (space_at store ds).bytes offset (offset + count)); lines = []; next = own_at sessions store script } ≡ script_step (Peek address count) (own_at sessions store script)
+
   -- ---- in a region
 
   module _ (count : ℕ) (few : count_refusal count ≡ None) (at : IsFoundInRegion script address count ds offset) where
@@ -121,8 +126,7 @@ module _ (store : Store) (script : Script) (sound : IsSoundScript store script) 
         (renamed ∙ ap (option_and_then (λ (x : ℕ × ℕ). option_map (λ other. (other, x.1)) (selector_of script.caps.caps x.0))) is.no_region) held.found
 
     -- so a peek tells its bytes
-    payload_peeked : count_refusal count ≡ None → (sessions : Sessions) →
-        record { reply = Bytes (slice_range (space_at store ds).bytes offset (offset + count)); lines = []; next = own_at sessions store script } ≡ script_step (Peek address count) (own_at sessions store script)
+    payload_peeked : IsPeeked count
     unfolding own_of
     payload_peeked few sessions =
         let block = held.start + header in
@@ -196,8 +200,7 @@ module _ (store : Store) (script : Script) (sound : IsSoundScript store script) 
               | inr one ↦ inr (ap is_some (stand s) ∙ one)
             ];
           };
-          held = λ s r there. put.alike r.of ∙ sound.own.blocks.held s r there;
-          unnamed = sound.own.blocks.unnamed;
+          blocks = record { held = λ s r there. put.alike r.of ∙ sound.own.blocks.held s r there; unnamed = sound.own.blocks.unnamed };
           still = λ q d names. put.others d.0 (apart q d names);
           rest = refl;
           ram_limit = ap (λ q. (account_of q).ram_limit) becomes.own;
@@ -237,8 +240,7 @@ module _ (store : Store) (script : Script) (sound : IsSoundScript store script) 
     no_sliced = at_heap store script sound (λ a. block_found (blocks_at a store script.regions) address count ≡ None) is.no_sliced
 
     -- a peek tells the bytes of the payload
-    heap_peeked : count_refusal count ≡ None → (sessions : Sessions) →
-        record { reply = Bytes (slice_range (space_at store ds).bytes offset (offset + count)); lines = []; next = own_at sessions store script } ≡ script_step (Peek address count) (own_at sessions store script)
+    heap_peeked : IsPeeked count
     heap_peeked few sessions =
         ap (λ l. record { reply = Bytes (slice_range l offset (offset + count)); lines = []; next = own_at sessions store script }) block_paid.bytes_are
         ∙ subst (λ a. record { reply = Bytes (slice_range is.holds.bytes offset (offset + count)); lines = []; next = own_in sessions a store script.caps script.regions script.heap }
@@ -268,16 +270,15 @@ module _ (store : Store) (script : Script) (sound : IsSoundScript store script) 
       ]
     ]
 
-    -- a peek tells them
-    pub peek_found : (sessions : Sessions) →
-        record { reply = Bytes (slice_range (space_at store ds).bytes offset (offset + count)); lines = []; next = own_at sessions store script } ≡ script_step (Peek address count) (own_at sessions store script)
-    peek_found sessions = elim is [
-      | inl at ↦ peek_is _ _ _ _ _ sound.own address count ds offset few at (space_at store ds).bytes (region_there count few at).named sessions
-      | inr payload ↦ elim payload [
-        | inl at ↦ payload_peeked count at few sessions
-        | inr at ↦ heap_peeked count at few sessions
-      ]
+  -- a peek tells them
+  pub peek_found : (count : ℕ) → IsFound store script address count ds offset → IsPeeked count
+  peek_found count is few sessions = elim is [
+    | inl at ↦ peek_is _ _ _ _ _ sound.own address count ds offset few at (space_at store ds).bytes (region_there count few at).named sessions
+    | inr payload ↦ elim payload [
+      | inl at ↦ payload_peeked count at few sessions
+      | inr at ↦ heap_peeked count at few sessions
     ]
+  ]
 
   -- a poke puts its bytes over those that the range finds
   pub poke_finishes : (count : ℕ) (bytes : List ℕ) {store' : Store} → count ≡ length bytes → count_refusal count ≡ None → are_bytes bytes ≡ true → IsFound store script address count ds offset →

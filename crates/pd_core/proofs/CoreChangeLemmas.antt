@@ -15,7 +15,7 @@ use Rattle.dataspace_core.specs.Store.{Store, part, account_of, opened_part, par
 use Rattle.server_frame.specs.Frame.{Row}
 use Rattle.trade_base.specs.declared.id.SessionId.{SessionId}
 use Rattle.pd_core.specs.Component.{Pays, payer_in, reserve_in, IsReserve, caps_in, places_in, own_in, lent_of, lent_by, NamesItsSessions, HasPlaces, IsSoundRole}
-use Rattle.pd_core.specs.Core.{Heads, Places, Roles, rows_at, sessions_in, Owner, Owns, NamesAccount, IsInitOf, IsInits, IsSoundCore}
+use Rattle.pd_core.specs.Core.{Heads, Places, Roles, rows_at, sessions_in, Owner, Owns, HaveOneOwner, NamesAccount, IsInitOf, IsInits, IsSoundCore}
 use Rattle.pd_core.specs.Exit.{IsScriptRole}
 use Rattle.pd_core.specs.SessionCalls.{IsBelowParentInit}
 use Rattle.pd_core.proofs.ComponentLemmas.{pays_is}
@@ -37,6 +37,18 @@ pub record Rests (account : ℕ) (store store' : Store) : Type 0 where
   pub own : part account store' ≡ part account store
   pub parent : get (parents_in store') account ≡ get (parents_in store) account
 
+-- each init's account has the part that it had
+abbrev pub InitsRest : Roles → Store → Store → Type 0
+InitsRest roles store store' = (account : ℕ) → IsInits store roles account → part account store' ≡ part account store
+
+-- so has a role's reserve, if it has one
+abbrev pub ReserveRests : Role → Store → Store → Type 0
+ReserveRests role store store' = (account : ℕ) → reserve_in role ≡ Some account → part account store' ≡ part account store
+
+-- so has each account except two
+abbrev pub AllRestBut : ℕ → ℕ → Store → Store → Type 0
+AllRestBut one two store store' = (account : ℕ) → account ≢ one → account ≢ two → part account store' ≡ part account store
+
 -- a role is another's after the change: it is sound, is an init where that is one, and has its accounts, its capabilities and its
 -- own state, and its reserve rests
 pub record Follows (store : Store) (before : Role) (store' : Store) (after : Role) : Type 0 where
@@ -50,6 +62,10 @@ pub record Follows (store : Store) (before : Role) (store' : Store) (after : Rol
   pub reserve : reserve_in after ≡ reserve_in before
   pub reserved : (account : ℕ) → reserve_in before ≡ Some account → Rests account store store'
 
+-- each role except one follows the one at its place
+abbrev pub OthersFollow : ℕ → Store → Roles → Store → Roles → Type 0
+OthersFollow i store roles store' roles' = (k : ℕ) → k ≢ i → Follows store (roles k) store' (roles' k)
+
 -- the row of the session that a change touches: a client's before and after, on an account that nobody else had
 pub record IsTouched (store : Store) (roles : Roles) (i server id : ℕ) (was is : Option (Row Labelled)) : Type 0 where
   pub was_its : (row : Row Labelled) → was ≡ Some row → Pays (roles i) row.client
@@ -60,7 +76,7 @@ pub record IsTouched (store : Store) (roles : Roles) (i server id : ℕ) (was is
 -- follow theirs. An account that is below another was so before, or is below the caller's, where a selector names its session
 pub record ChangesCore (heads : Heads) (i s key : ℕ) (store : Store) (roles : Roles) (store' : Store) (roles' : Roles) : Type 0 where
   pub script : IsScriptRole (roles i)
-  pub others : (k : ℕ) → k ≢ i → Follows store (roles k) store' (roles' k)
+  pub others : OthersFollow i store roles store' roles'
   pub sound : IsSoundRole store' (roles' i)
   pub pays : (account : ℕ) → Pays (roles' i) account → Pays (roles i) account
   pub reserve : (account : ℕ) → reserve_in (roles' i) ≡ Some account → reserve_in (roles i) ≡ Some account
@@ -175,7 +191,7 @@ module _ {i s key : ℕ} {store store' : Store} {roles roles' : Roles} (core : I
         inr (is, λ one has. touched.1.alone account owns one has ∙ is)
   ]
 
-  apart_after : (one other : Owner) (account : ℕ) → Owns store' roles' one account → Owns store' roles' other account → one ≡ other
+  apart_after : HaveOneOwner store' roles'
   apart_after one other account first second = elim (owned one account first) [
     | inl had ↦ elim (owned other account second) [
       | inl both ↦ core.apart one other account had both

@@ -47,7 +47,7 @@ use Rattle.sliced_heap.proofs.HeapLaws.{empty_map}
 use Rattle.pd_core.specs.Own.{Sessions, no_sessions, own_of, own_at, part_at, own_heap_at, sliced_at, object_of, regions_of, selector_of, Lent, lent_in, no_lent}
 use Rattle.pd_core.specs.Sound.{buffer_at, rpc_weight, session_weight, IsLawful, IsSoundScript}
 use Rattle.pd_core.specs.Component.{Place, Pays, amounts_in, with_reserve, reserve_in, reserve_of, reserve_held, entry_of, kind_of, payer_in, payer_of, caps_in, rows_in, tables_in, NamesItsSessions, HasPlaces, HasNewHeap, HasNewHeaps, own_in, own, IsSoundRole}
-use Rattle.pd_core.specs.Core.{Heads, Places, Roles, roles_of, rows_at, sessions_in, inits_of, world_of, Owner, Owns, IsBelowHead, IsCore}
+use Rattle.pd_core.specs.Core.{Heads, Places, Roles, roles_of, rows_at, sessions_in, inits_of, world_of, HaveOneOwner, IsBelowHead, IsCore}
 use Rattle.pd_core.specs.Core.Owner.{Init, Place as PlaceAt, ReserveAt, SessionAt}
 use Rattle.pd_core.proofs.ScriptNameLemmas.{cap_named}
 use Rattle.pd_core.proofs.ComponentLemmas.{pays_is}
@@ -298,7 +298,7 @@ module _ (store : Store) (components : List Component) (fresh : AreFresh store c
       let d = one_of components k at.0 in
       (reserve_fresh k account is).apart (sym (at.1 d) ∙ ap payer_in (sym (role_at components k d at.0)))
 
-  apart : (one other : Owner) (account : ℕ) → Owns store roles one account → Owns store roles other account → one ≡ other
+  apart : HaveOneOwner store roles
   apart Init Init account first second = refl
   apart Init (PlaceAt k) account first second = absurd (no_init k account first second)
   apart (PlaceAt j) Init account first second = absurd (no_init j account second first)

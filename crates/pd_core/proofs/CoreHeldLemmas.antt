@@ -4,7 +4,7 @@ use Rattle.std.proofs.lemmas.Bool.{cases_Bool}
 use Rattle.std.proofs.lemmas.Option.{none-some, same_Some}
 use Rattle.std.specs.FinMap.{get, empty}
 use Rattle.std.specs.Option.{option_map}
-use Rattle.std.specs.Prelude.{Option, None, IfSome}
+use Rattle.std.specs.Prelude.{◌⊎◌, Option, None, IfSome}
 use Rattle.own_model.specs.NatMap.{NatMap}
 use Rattle.own_model.specs.Session.{Labelled}
 use Rattle.own_model.proofs.NatMapLemmas.{get-empty}
@@ -57,6 +57,20 @@ no_reserve_place j k e = cc
 
 pub no_reserve_session : (server id k : ℕ) → SessionAt server id ≢ ReserveAt k
 no_reserve_session server id k e = cc
+
+-- an owner is the component at a place, or its reserve
+abbrev pub IsOf : ℕ → Owner → Type 0
+IsOf i owner = (owner ≡ Place i) ⊎ (owner ≡ ReserveAt i)
+
+-- no session is, and no other component or its reserve
+pub no_session_of : (i server id : ℕ) → IsOf i (SessionAt server id) → ⊥
+no_session_of i server id its = elim its [ inl e ↦ no_place i server id e | inr e ↦ no_reserve_session server id i e ]
+
+pub no_place_of : (i k : ℕ) → k ≢ i → IsOf i (Place k) → ⊥
+no_place_of i k other its = elim its [ inl e ↦ other (same_place k i e) | inr e ↦ no_reserve_place k i e ]
+
+pub no_reserve_of : (i k : ℕ) → k ≢ i → IsOf i (ReserveAt k) → ⊥
+no_reserve_of i k other its = elim its [ inl e ↦ no_reserve_place i k (sym e) | inr e ↦ other (same_reserve k i e) ]
 
 -- ---- inits
 

@@ -1,6 +1,5 @@
 -- A plain call of a component: the change that it makes to the core, and that it goes as the model's.
 use Rattle.std.proofs.Common.{◌≡◌, ℕ, ◌<◌, List, [], Some, is_some, false, get_or, length, set, refl, sym, ap, subst, ◌∙◌, inl, inr}
-use Rattle.std.proofs.lemmas.Bool.{cases_eq}
 use Rattle.std.proofs.lemmas.List.{set-get_or}
 use Rattle.std.specs.FinMap.{get}
 use Rattle.std.specs.Option.{option_map}
@@ -14,7 +13,7 @@ use Rattle.dataspace_core.proofs.PartLaws.{open_in_part, part_open}
 use Rattle.server_frame.specs.Frame.{Row}
 use Rattle.core_calls.specs.ReplyText.{Told as Written}
 use Rattle.pd_core.specs.Answer.{Told, told, told_of}
-use Rattle.pd_core.specs.Component.{Place, Pays, IsReserve, reserve_in, entry_of, payer_in, payer_of, offer_of, caps_in, places_in, rows_in, own_in, own, lent_by, NamesItsSessions, IsSoundRole, IsSound, Keeps}
+use Rattle.pd_core.specs.Component.{Place, Pays, IsReserve, reserve_in, entry_of, EntryStays, payer_in, payer_of, offer_of, caps_in, places_in, rows_in, own_in, own, lent_by, NamesItsSessions, IsSoundRole, IsSound, Keeps}
 use Rattle.pd_core.specs.Core.{Places, Roles, roles_of, rows_at, sessions_in, NamesAccount, IsCore}
 use Rattle.pd_core.specs.Exit.{refusal_of, IsScriptRole}
 use Rattle.pd_core.specs.Own.{Sessions}
@@ -28,7 +27,7 @@ use Rattle.pd_core.proofs.CoreChangeLemmas.{ChangesCore, Follows}
 use Rattle.pd_core.proofs.ComponentLemmas.{pays_is, pays_script, part_becomes, same_caps, same_room}
 use Rattle.pd_core.proofs.CoreHeldLemmas.{held_by}
 use Rattle.pd_core.proofs.CoreSparesLemmas.{SparesRest, spares_beside, spares_lent}
-use Rattle.pd_core.proofs.CoreWorldLemmas.{face_of, face_set, goes, places_kept, stays_goes, role_at, role_set, role_kept, same_inits}
+use Rattle.pd_core.proofs.CoreWorldLemmas.{RowsStay, rows_kept, face_of, face_set, goes, places_kept, stays_goes, role_at, role_set, role_kept, same_inits}
 
 -- a role makes calls or is refused
 by_refusal : (role : Role) (X : Type 0) → (IsScriptRole role → X) → (IsSome (refusal_of role) → X) → X
@@ -42,7 +41,7 @@ pub unlisted : Place
 unlisted = record { name = []; home = 0; routes = [] }
 
 -- what an entry and an offer say is a face
-pub face_is : (before after : Component) → ((place : Place) → entry_of place after ≡ entry_of place before) → offer_of after ≡ offer_of before → face_of after ≡ face_of before
+pub face_is : (before after : Component) → EntryStays before after → offer_of after ≡ offer_of before → face_of after ≡ face_of before
 face_is before after entry offer j = record { label = (entry unlisted j).label; kind = (entry unlisted j).kind; offer = offer j }
 
 module _ (store : Store) (components : List Component) (i : ℕ) (d : Component) (here : i < length components) (core : IsCore store components) where
@@ -97,11 +96,8 @@ module _ (store : Store) (components : List Component) (i : ℕ) (d : Component)
         | inr writes ↦ spares_lent core i (subst (λ caps. WritesLent caps store store') caps_are writes)
       ]
 
-      same_rows : (k : ℕ) → rows_at store' roles' k ≡ rows_at store roles k
-      same_rows k = elim (cases_eq k i) [
-        | inl at ↦ ap (λ n. rows_in store' (roles' n)) at ∙ ap (rows_in store') is_after ∙ keeps.rows ∙ ap (rows_in store) (sym is_caller) ∙ ap (λ n. rows_in store (roles n)) (sym at)
-        | inr other ↦ ap (rows_in store') (role_kept components i after k other) ∙ rest.rows k other
-      ]
+      same_rows : RowsStay store roles store' roles'
+      same_rows = rows_kept components i after store store' (ap (rows_in store') is_after ∙ keeps.rows ∙ ap (rows_in store) (sym is_caller)) rest.rows
 
       -- so all sessions stay
       same_sessions : sessions_in store' roles' ≡ S
@@ -147,8 +143,8 @@ module _ (store : Store) (components : List Component) (i : ℕ) (d : Component)
           }
 
       -- its reserve is what it was
-      has_reserve : (account : ℕ) → reserve_in (roles' i) ≡ Some account → reserve_in (roles i) ≡ Some account
-      has_reserve account is = ap reserve_in is_caller ∙ sym keeps.reserve ∙ ap reserve_in (sym is_after) ∙ is
+      reserve_kept : reserve_in (roles i) ≡ reserve_in (roles' i)
+      reserve_kept = ap reserve_in is_caller ∙ sym keeps.reserve ∙ ap reserve_in (sym is_after)
 
       same_payer : payer_in (roles i) ≡ payer_in (roles' i)
       same_payer =
@@ -175,8 +171,8 @@ module _ (store : Store) (components : List Component) (i : ℕ) (d : Component)
               (rest.follows k other);
           sound = subst (IsSoundRole store') (sym is_after) keeps.sound;
           pays = λ account its. subst (λ r. Pays r account) (sym is_caller) (keeps.pays account (subst (λ r. Pays r account) is_after its));
-          reserve = λ account is. has_reserve account is;
-          reserved = λ account is. reserve_rests account (has_reserve account is);
+          reserve = λ account is. reserve_kept ∙ is;
+          reserved = λ account is. reserve_rests account (reserve_kept ∙ is);
           rows = λ server id _. ap (λ (m : NatMap (Row Labelled)). get m id) (same_rows server);
           row = inl (ap (λ (m : NatMap (Row Labelled)). get m 0) (same_rows 0));
           named = named;

@@ -14,7 +14,7 @@ use Rattle.server_frame.specs.Frame.{Row}
 use Rattle.server_frame.specs.Theorems.{WritesLent as WritesRow}
 use Rattle.server_frame.proofs.FrameLaws.{stays_of_others}
 use Rattle.server_kinds.proofs.HostLaws.{written as host_written}
-use Rattle.pd_core.specs.Component.{Pays, reserve_in, caps_in, rows_in, Works, IsSoundRole}
+use Rattle.pd_core.specs.Component.{Pays, caps_in, rows_in, Works, IsSoundRole}
 use Rattle.pd_core.specs.Core.{Heads, Roles, rows_at, Owner, Owns, IsInits, IsSoundCore}
 use Rattle.pd_core.specs.Exit.{IsScriptRole}
 use Rattle.pd_core.specs.Core.Owner.{Place, ReserveAt, SessionAt}
@@ -22,7 +22,7 @@ use Rattle.pd_core.specs.Own.{no_sessions, no_lent, own_of}
 use Rattle.pd_core.specs.Sound.{WritesLent}
 use Rattle.pd_core.specs.declared.component.Role.{Role}
 use Rattle.pd_core.specs.declared.component.Role.TheVariants.{Script as AScript, Server as AServer, Init as AnInit, Gone as AGone}
-use Rattle.pd_core.proofs.CoreChangeLemmas.{Follows}
+use Rattle.pd_core.proofs.CoreChangeLemmas.{InitsRest, ReserveRests, Follows, OthersFollow}
 use Rattle.pd_core.proofs.CoreHeldLemmas.{IsLender, lender, same_place, no_place, no_reserve_place, no_reserve_session, same_session, session_no_init, pays_alone, script_inits}
 use Rattle.pd_core.proofs.LentWriteLemmas.{same_books, room_by_books}
 use Rattle.pd_core.proofs.CoreRoleLemmas.{Leaves, role_left, rows_left}
@@ -31,9 +31,9 @@ use Rattle.pd_core.proofs.ServerLemmas.{server_of_row, sound_works}
 -- all sessions of the others and all their roles stay, and so do inits' parts, the caller's reserve and the room for accounts
 pub record SparesRest (heads : Heads) (i : ℕ) (store : Store) (roles : Roles) (store' : Store) : Type 0 where
   pub rows : (k : ℕ) → k ≢ i → rows_in store' (roles k) ≡ rows_in store (roles k)
-  pub follows : (k : ℕ) → k ≢ i → Follows store (roles k) store' (roles k)
-  pub inits : (account : ℕ) → IsInits store roles account → part account store' ≡ part account store
-  pub reserve : (account : ℕ) → reserve_in (roles i) ≡ Some account → part account store' ≡ part account store
+  pub follows : OthersFollow i store roles store' roles
+  pub inits : InitsRest roles store store'
+  pub reserve : ReserveRests (roles i) store store'
   pub caps : caps_limits_in store' ≡ caps_limits_in store
   pub room : HasRoom heads store'
 

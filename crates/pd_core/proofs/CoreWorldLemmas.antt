@@ -27,14 +27,14 @@ use Rattle.dataspace_core.proofs.PartLaws.{account_of-part}
 use Rattle.core_calls.specs.ReplyText.{Told}
 use Rattle.trade_base.specs.declared.refusal.Refusal.{Refusal}
 use Rattle.pd_core.specs.Answer.{told_alone}
-use Rattle.pd_core.specs.Component.{entry_of, kind_of, offer_in, offer_of, places_in, own_in, own, HasPlaces}
-use Rattle.pd_core.specs.Core.{roles_of, Places, IsInitOf, IsInits, init_in, inits_of, entries_of, sessions_in, world_of, IsCore, IsCoreAt}
+use Rattle.pd_core.specs.Component.{entry_of, kind_of, offer_in, offer_of, places_in, rows_in, own_in, own, HasPlaces}
+use Rattle.pd_core.specs.Core.{Roles, roles_of, rows_at, Places, IsInitOf, init_in, inits_of, entries_of, sessions_in, world_of, IsCore, IsCoreAt}
 use Rattle.pd_core.specs.Own.{Sessions}
 use Rattle.pd_core.specs.SessionCalls.{Agrees, AreBelowParents, Answers, Goes, Leads, server_at, offer_at}
 use Rattle.pd_core.specs.declared.component.Component.{Component}
 use Rattle.pd_core.specs.declared.component.Role.{Role}
 use Rattle.pd_core.specs.declared.component.Role.TheVariants.{Script as AScript, Server as AServer, Init as AnInit, Gone}
-use Rattle.pd_core.proofs.CoreChangeLemmas.{ChangesCore, core_after, own_follows, homes_after, init_follows}
+use Rattle.pd_core.proofs.CoreChangeLemmas.{InitsRest, ChangesCore, core_after, own_follows, homes_after, init_follows}
 
 -- a list with a place has an element
 pub one_of : {X : Type 0} (xs : List X) (i : ℕ) → i < length xs → X
@@ -75,6 +75,18 @@ role_set components i after k at within =
 pub role_kept : (components : List Component) (i : ℕ) (after : Component) (k : ℕ) → k ≢ i → roles_of (set components i after) k ≡ roles_of components k
 role_kept components i after k other =
     ap (λ l. get_or l k Gone) (map-set (λ (c : Component). c.role) components i after) ∙ get_or-set_other (map (λ c. c.role) components) i k after.role Gone other
+
+-- the servers' rows stay
+abbrev pub RowsStay : Store → Roles → Store → Roles → Type 0
+RowsStay store roles store' roles' = (k : ℕ) → rows_at store' roles' k ≡ rows_at store roles k
+
+-- they do where one is set that has the rows of its place, and the others keep theirs
+pub rows_kept : (components : List Component) (i : ℕ) (after : Component) (store store' : Store) → rows_at store' (roles_of (set components i after)) i ≡ rows_at store (roles_of components) i →
+    ((k : ℕ) → k ≢ i → rows_at store' (roles_of components) k ≡ rows_at store (roles_of components) k) → RowsStay store (roles_of components) store' (roles_of (set components i after))
+rows_kept components i after store store' here others k = elim (cases_eq k i) [
+  | inl at ↦ ap (rows_at store' (roles_of (set components i after))) at ∙ here ∙ ap (rows_at store (roles_of components)) (sym at)
+  | inr other ↦ ap (rows_in store') (role_kept components i after k other) ∙ others k other
+]
 
 -- ---- what a start list and the routes see of a component
 
@@ -234,7 +246,7 @@ module _ {i s key : ℕ} {store store' : Store} (before after : List Component) 
       (subst (λ r. IsInitOf r account) is (init_follows core changes k account had), account_kept store store' account (stays account had)))
 
   -- so inits' accounts stay
-  pub same_inits : ((account : ℕ) → IsInits store (roles_of before) account → part account store' ≡ part account store) → inits_of store' after ≡ inits_of store before
+  pub same_inits : InitsRest (roles_of before) store store' → inits_of store' after ≡ inits_of store before
   same_inits stays =
       let root : account_in store' (root_in store') ≡ account_in store (root_in store) = ap (account_in store') changes.root ∙ account_kept store store' (root_in store) (stays (root_in store) (inl refl)) in
       let many = as_many before after faces in

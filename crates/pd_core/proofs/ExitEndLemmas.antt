@@ -98,7 +98,7 @@ module _ (store : Store) (script : Script) (sound : IsSoundScript store script) 
           ∙ ap (λ h. credited (account_of (part (heap_payer script.heap) mid)) (heap_size h) (heap_count h)) heap_left.value)
 
       -- other accounts keep their parts
-      parts_on : (other : ℕ) → other ≢ script.account.0 → part other new ≡ part other mid
+      parts_on : OthersStay script.account.0 mid new
       unfolding share_in
       parts_on other apart = ap (λ (s : Share). s.part) (others_on.shares other (λ e. apart (e ∙ sound.heaps.heap_pays)))
 

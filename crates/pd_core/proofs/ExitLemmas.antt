@@ -26,18 +26,18 @@ use Rattle.pd_core.specs.Core.{Places, Roles, roles_of, rows_at, sessions_in, en
 use Rattle.pd_core.specs.Core.Owner.{Init, Place, ReserveAt, SessionAt}
 use Rattle.pd_core.specs.Exit.{IsScriptRole, ClosesBoth}
 use Rattle.pd_core.specs.Own.{Sessions, own_of}
-use Rattle.pd_core.specs.SessionCalls.{Agrees, AreBelowParents, Leads}
+use Rattle.pd_core.specs.SessionCalls.{AreBelowParents, ParentsStay, RoutesStay}
 use Rattle.pd_core.specs.Sound.{session_at, buffer_at}
 use Rattle.pd_core.specs.declared.component.Component.{Component}
 use Rattle.pd_core.specs.declared.component.Role.{Role}
 use Rattle.pd_core.specs.declared.component.Role.TheVariants.{Script as AScript, Server as AServer, Init as AnInit, Gone as AGone}
-use Rattle.pd_core.proofs.CoreChangeLemmas.{ChangesCore, Follows, core_after, homes_after}
+use Rattle.pd_core.proofs.CoreChangeLemmas.{ChangesCore, Follows, OthersFollow, core_after, homes_after}
 use Rattle.pd_core.proofs.ComponentLemmas.{a_script, pays_is, pays_script}
 use Rattle.dataspace_core.proofs.RoomLaws.{room_after_exit}
-use Rattle.pd_core.proofs.CoreHeldLemmas.{names_none, same_place, same_reserve, not_place, no_place, no_reserve_place, no_reserve_session, init_pays, session_no_init, reserve_no_init, reserve_no_head, place_outer, pays_alone, script_inits, held_by, client_pays}
+use Rattle.pd_core.proofs.CoreHeldLemmas.{names_none, same_place, not_place, no_reserve_place, IsOf, no_session_of, no_place_of, no_reserve_of, init_pays, session_no_init, reserve_no_init, reserve_no_head, place_outer, pays_alone, script_inits, held_by, client_pays}
 use Rattle.pd_core.proofs.ExitHomeLemmas.{inits_gain}
 use Rattle.pd_core.proofs.CoreRoleLemmas.{Leaves, role_left, rows_left}
-use Rattle.pd_core.proofs.CoreWorldLemmas.{same_leads, SameFaces, face_set, entries_at, world_changed, role_at, role_set, role_kept}
+use Rattle.pd_core.proofs.CoreWorldLemmas.{RowsStay, rows_kept, same_leads, SameFaces, face_set, entries_at, world_changed, role_at, role_set, role_kept}
 
 -- ---- a role that is a script's
 
@@ -203,7 +203,7 @@ module _ {store : Store} {components : List Component} {i : ℕ} {d : Component}
 
     -- its init and it are touched, and its reserve
     abbrev Touched : Owner → Type 0
-    Touched owner = Owns store roles owner head ⊎ ((owner ≡ Place i) ⊎ (owner ≡ ReserveAt i))
+    Touched owner = Owns store roles owner head ⊎ IsOf i owner
 
     was_child : (child parent : ℕ) → IsChildIn store' child parent → IsChildIn store child parent
     was_child child parent is =
@@ -223,7 +223,7 @@ module _ {store : Store} {components : List Component} {i : ℕ} {d : Component}
     rest : (account : ℕ) → account ≢ payer → account ≢ reserve → account ≢ head → part account store' ≡ part account store
     rest account not_payer not_reserve not_head = last.others account not_reserve not_head ∙ first.others account not_payer not_head
 
-    leaves : Leaves store roles store' (λ owner. Owns store roles owner head ⊎ ((owner ≡ Place i) ⊎ (owner ≡ ReserveAt i)))
+    leaves : Leaves store roles store' (λ owner. Owns store roles owner head ⊎ IsOf i owner)
     leaves = record {
       stays = λ owner account other owns regions.
           let not_head : account ≢ head = λ e. other (inl (subst (Owns store roles owner) e owns)) in
@@ -241,7 +241,7 @@ module _ {store : Store} {components : List Component} {i : ℕ} {d : Component}
     }
 
     no_session : (k id : ℕ) → Touched (SessionAt k id) → ⊥
-    no_session k id touched = elim touched [ inl owns ↦ session_no_init core k id head owns head_inits | inr its ↦ elim its [ inl e ↦ no_place i k id e | inr e ↦ no_reserve_session k id i e ] ]
+    no_session k id touched = elim touched [ inl owns ↦ session_no_init core k id head owns head_inits | inr its ↦ no_session_of i k id its ]
 
     other_place : (k : ℕ) → k ≢ i → (IsInitOf (roles k) head → ⊥) → Touched (Place k) → ⊥
     other_place k other no_init touched = elim touched [
@@ -249,13 +249,13 @@ module _ {store : Store} {components : List Component} {i : ℕ} {d : Component}
         | inl root ↦ not_place k (core.apart Init (Place k) head root owns)
         | inr its ↦ no_init (subst (λ n. IsInitOf (roles n) head) (same_place its.0 k (core.apart (Place its.0) (Place k) head (init_pays (roles its.0) head its.1) owns)) its.1)
       ]
-      | inr its ↦ elim its [ inl e ↦ other (same_place k i e) | inr e ↦ no_reserve_place k i e ]
+      | inr its ↦ no_place_of i k other its
     ]
 
     other_reserve : (k : ℕ) → k ≢ i → Touched (ReserveAt k) → ⊥
     other_reserve k other touched = elim touched [
       | inl owns ↦ reserve_no_init core k head owns head_inits
-      | inr its ↦ elim its [ inl e ↦ no_reserve_place i k (sym e) | inr e ↦ other (same_reserve k i e) ]
+      | inr its ↦ no_reserve_of i k other its
     ]
 
     head_open : IsOpenIn store' head
@@ -265,7 +265,7 @@ module _ {store : Store} {components : List Component} {i : ℕ} {d : Component}
     follows_but : (k : ℕ) → k ≢ i → (IsInitOf (roles k) head → ⊥) → Follows store (roles k) store' (roles k)
     follows_but k other no_init = role_left leaves k (no_session k) core (other_place k other no_init) (other_reserve k other) (λ server id _ _ _. no_session server id)
 
-    follows : (k : ℕ) → k ≢ i → Follows store (roles k) store' (roles k)
+    follows : OthersFollow i store roles store' roles
     follows k other = elim head_inits [
       | inl root ↦ follows_but k other (λ its. not_place k (core.apart Init (Place k) head root (init_pays (roles k) head its)))
       | inr its ↦ elim (cases_eq k its.0) [
@@ -274,13 +274,8 @@ module _ {store : Store} {components : List Component} {i : ℕ} {d : Component}
       ]
     ]
 
-    same_rows : (k : ℕ) → rows_at store' roles' k ≡ rows_at store roles k
-    same_rows k = elim (cases_eq k i) [
-      | inl at ↦
-          ap (λ n. rows_in store' (roles' n)) at ∙ ap (rows_in store') is_gone
-          ∙ sym (rows_of_script store (roles i) (subst IsScriptRole (sym is_caller) is_script)) ∙ ap (λ n. rows_in store (roles n)) (sym at)
-      | inr other ↦ ap (rows_in store') (role_kept components i after k other) ∙ rows_left leaves k (no_session k)
-    ]
+    same_rows : RowsStay store roles store' roles'
+    same_rows = rows_kept components i after store store' (ap (rows_in store') is_gone ∙ sym (rows_of_script store (roles i) calls)) (λ k _. rows_left leaves k (no_session k))
 
     -- there is room after one close, and after the other
     room_between : HasRoom core.heads between
@@ -336,10 +331,10 @@ module _ {store : Store} {components : List Component} {i : ℕ} {d : Component}
     pub core_alone : IsCore store' components'
     core_alone = core_after core changes
 
-    pub homes_alone : (places : Places) → AreBelowParents places store components → AreBelowParents places store' components'
+    pub homes_alone : ParentsStay store components store' components'
     homes_alone places = homes_after core changes places
 
-    pub leads_alone : (places : Places) (leads : Leads) → Agrees places leads store components → Agrees places leads store' components'
+    pub leads_alone : RoutesStay store components store' components'
     leads_alone places leads = same_leads components components' same_faces store store' places leads (homes_after core changes places)
 
     -- its init gains the limits of its account and of its reserve

@@ -4,7 +4,7 @@ use Rattle.std.proofs.lemmas.Option.{same_Some}
 use Rattle.std.specs.FinMap.{get, len}
 use Rattle.trade_base.specs.declared.id.DsId.{DsId}
 use Rattle.own_model.specs.Call.{Call}
-use Rattle.own_model.specs.NatMap.{total}
+use Rattle.own_model.specs.NatMap.{NatMap, total}
 use Rattle.own_model.specs.OwnState.{OwnState}
 use Rattle.own_model.specs.OwnStep.{script_step}
 use Rattle.own_model.specs.Region.{Region}
@@ -22,7 +22,7 @@ use Rattle.sliced_heap.proofs.ShareLemmas.{shown_block}
 use Rattle.heap_core.specs.declared.heap.Heap.{Heap}
 use Rattle.heap_core.specs.Heap.{payer_of as heap_payer, heap_at, IsSound as IsSoundHeap}
 use Rattle.pd_core.specs.Own.{Sessions, own_of, own_at, lent_in}
-use Rattle.pd_core.specs.Sound.{IsScript, IsSoundScript, rpc_weight}
+use Rattle.pd_core.specs.Sound.{IsScript, IsSoundScript, OthersStay, rpc_weight}
 use Rattle.pd_core.specs.declared.script.Script.{Script}
 use Rattle.sliced_heap.proofs.BesideLemmas.{maps_memory}
 use Rattle.pd_core.specs.Does.{Does}
@@ -56,6 +56,11 @@ pub record Alone (account : ℕ) (store : Store) (space : Space) (regions : Regi
   pub ram_limit : (account_of (part account store')).ram_limit ≡ (account_of (part account store)).ram_limit
   pub caps_limit : (account_of (part account store')).caps_limit ≡ (account_of (part account store)).caps_limit
   pub spare : len (part account store').spaces + total rpc_weight space.caps ≤ (account_of (part account store')).caps_used
+
+-- accounts whose shares stay keep their parts
+pub parts_with_shares : {account : ℕ} {store store' : Store} {heap after : NatMap Region} {tags numbers : NatMap ℕ} → KeepsShares account store store' heap tags after numbers → OthersStay account store store'
+unfolding share_in
+parts_with_shares keeps other apart = ap (λ (s : Share). s.part) (keeps.shares other apart)
 
 -- and does that to the own state which the model's call does
 pub record Ends (account : ℕ) (call : Call) (reply : Reply) (store : Store) (space : Space) (regions : Regions) (heap : Heap) (store' : Store) (after : Regions) (heap' : Heap) : Type 0 where
@@ -96,11 +101,6 @@ module _ (store : Store) (script : Script) (sound : IsSoundScript store script) 
     blocks_stay : blocks_at script.account.0 store' after ≡ blocks_at script.account.0 store script.regions
     blocks_stay = subst (λ x. blocks_at x store' after ≡ blocks_at x store script.regions) sound.heaps.sliced_pays stays.blocks
 
-    -- other accounts keep their parts
-    parts_stay : (other : ℕ) → other ≢ script.account.0 → part other store' ≡ part other store
-    unfolding share_in
-    parts_stay other apart = ap (λ (s : Share). s.part) (alone.shares.shares other apart)
-
     -- so the heaps change, and nothing else of the script
     changes : ChangesHeaps store script store' after heap' script.sliced
     changes = record {
@@ -111,14 +111,13 @@ module _ (store : Store) (script : Script) (sound : IsSoundScript store script) 
         sliced_pays = sound.heaps.sliced_pays;
         all = λ s r there. of_either script.account.0 store' after s r there (alone.tags s r there);
       };
-      held = λ s r there. (alone.tags s r there).paid;
-      unnamed = alone.unnamed;
+      blocks = record { held = λ s r there. (alone.tags s r there).paid; unnamed = alone.unnamed };
       still = λ q ds names. alone.kept ds.0 (sound.own.named.there q ds names) (λ t k r there tag low e. sound.own.blocks.unnamed t q r ds there names (sym e));
       rest = alone.rest;
       ram_limit = alone.ram_limit;
       caps_limit = alone.caps_limit;
       spare = alone.spare;
-      others = parts_stay;
+      others = parts_with_shares alone.shares;
       root = alone.shares.root;
       parents = alone.shares.parents;
       room = alone.shares.room;

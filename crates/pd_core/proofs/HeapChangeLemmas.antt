@@ -11,7 +11,7 @@ use Rattle.own_model.proofs.NatMapLemmas.{get-insert_same, get-insert_other, get
 use Rattle.cap_space.specs.Space.{Space}
 use Rattle.region_map.specs.Regions.{Regions, heap_attached, heap_detached}
 use Rattle.dataspace_core.specs.Store.{Store, Part, part, account_in, account_of}
-use Rattle.dataspace_core.specs.Share.{Share, share_in, KeepsShares}
+use Rattle.dataspace_core.specs.Share.{KeepsShares}
 use Rattle.dataspace_core.proofs.PartLaws.{account_of-part}
 use Rattle.dataspace_core.proofs.WindowLaws.{in_part, in_none}
 use Rattle.sliced_heap.specs.Heap.{share_at}
@@ -20,7 +20,7 @@ use Rattle.heap_core.specs.Calls.{KeepsSpaces, AddsSpace, Attaches}
 use Rattle.heap_core.specs.Heap.{payer_of as heap_payer, large_tag, large_regions, IsSound as IsSoundHeap}
 use Rattle.sliced_heap.proofs.WindowLemmas.{IsTagged, tagged, ShowAlike}
 use Rattle.heap_core.proofs.BesideLemmas.{LeavesRest, rest_in_place, alike_in_place, count_in_place, rest_attached, fresh_attached, alike_attached, rest_detached, alike_detached}
-use Rattle.pd_core.proofs.HeapCallLemmas.{Owns, Alone}
+use Rattle.pd_core.proofs.HeapCallLemmas.{Owns, Alone, parts_with_shares}
 
 module _ {store : Store} {space : Space} {regions : Regions} {heap : Heap} (o : Owns (heap_payer heap) store space regions heap) where
   -- the account, and its part
@@ -77,11 +77,6 @@ module _ {store : Store} {space : Space} {regions : Regions} {heap : Heap} (o : 
         alike : ShowAlike p p' regions.heap
         alike = alike_attached heap store store' regions o.sound ds bytes tag start low sound.window attaches.gap spaces
 
-        -- another account's part is as it was
-        part_stays : (other : ℕ) → other ≢ a → part other store' ≡ part other store
-        unfolding share_in
-        part_stays other apart = ap (λ (x : Share). x.part) (shares.shares other apart)
-
         -- so the account has it now
         paid_now : IsSome (get p'.spaces ds)
         paid_now =
@@ -90,7 +85,7 @@ module _ {store : Store} {space : Space} {regions : Regions} {heap : Heap} (o : 
               | inl own ↦ ap is_some (ap (λ x. get (part x store').spaces ds) (sym own) ∙ in_part store' ds shown.space shown.there)
               | inr other ↦
                   absurd (none-some shown.space.bytes (sym (in_none shown.space.payer ds store spaces.fresh)
-                  ∙ ap (λ (q : Part). get q.spaces ds) (sym (part_stays shown.space.payer other)) ∙ in_part store' ds shown.space shown.there))
+                  ∙ ap (λ (q : Part). get q.spaces ds) (sym (parts_with_shares shares shown.space.payer other)) ∙ in_part store' ds shown.space shown.there))
             ]
 
         -- and the charge is the account's
@@ -138,9 +133,6 @@ module _ {store : Store} {space : Space} {regions : Regions} {heap : Heap} (o : 
         less : LeavesRest a store store' regions (heap_detached regions start)
         less = rest_detached heap store store' regions o.sound ds pages start was others
 
-        still_there : (s : ℕ) (r : Region) → s ≢ start → get regions.heap s ≡ Some r → is_some (get p'.spaces r.of) ≡ is_some (get p.spaces r.of)
-        still_there = alike_detached heap store store' regions o.sound ds pages start was others
-
         credit : account_of p' ≡ credited (account_of p) bytes 1
         credit = ap (λ (y : Option Account). unwrap_or y (opened 0 0)) charge ∙ ap (λ x. credited x bytes 1) (sym (account_of-part a store))
 
@@ -150,7 +142,7 @@ module _ {store : Store} {space : Space} {regions : Regions} {heap : Heap} (o : 
             let old = before_remove regions.heap start s r there in
             let is = tagged a store regions s r old (o.all s r old) in
             let kept : get (remove regions.tags start) s ≡ get regions.tags s = get-remove_other regions.tags start s apart in record {
-              paid = still_there s r apart old ∙ is.paid;
+              paid = alike_detached heap store store' regions o.sound ds pages start was others s r apart old ∙ is.paid;
               tag = elim is.tag [ inl tag ↦ inl (kept ∙ tag) | inr tag ↦ inr (tag.0, kept ∙ tag.1, tag.2) ];
             }
 

@@ -1,8 +1,7 @@
 -- The accounts of components and of their sessions, as own states tell them.
 use Rattle.std.proofs.Common.{◌≡◌, ◌≢◌, ℕ, ◌+◌, add-one, ◌<◌, ◌≤◌, List, Some, IsSome, is_some, length, get_or, refl, sym, ap, subst, ◌∙◌, arith, true≢false}
 use Rattle.std.proofs.lemmas.List.{get_or-map}
-use Rattle.std.proofs.lemmas.Option.{none-some}
-use Rattle.std.specs.Prelude.{Option, None, Result, Ok, Err, IfSome}
+use Rattle.std.specs.Prelude.{Option, None, Result, Ok, Err}
 use Rattle.std.specs.Option.{option_map, option_and_then, ok_or}
 use Rattle.std.specs.FinMap.{get, empty}
 use Rattle.trade_base.specs.declared.id.AccountId.{AccountId}
@@ -32,10 +31,9 @@ use Rattle.server_kinds.specs.Host.{offer_of as offer_of_host}
 use Rattle.server_kinds.specs.declared.any_server.AnyServer.{AnyServer}
 use Rattle.pd_core.specs.Own.{Sessions, no_sessions, object_of, own_of, part_at, Lent, lent_in, no_lent}
 use Rattle.pd_core.specs.Component.{Pays, kind_of, caps_in, rows_in, own_in, own, rows_of}
-use Rattle.pd_core.specs.Core.{Places, Roles, init_in, inits_of, roles_of, rows_at, sessions_in, world_of, IsCore}
+use Rattle.pd_core.specs.Core.{Places, init_in, inits_of, roles_of, rows_at, sessions_in, world_of, IsCore}
 use Rattle.pd_core.specs.Exit.{HasSelectorsTo}
 use Rattle.pd_core.specs.SessionCalls.{named_in}
-use Rattle.pd_core.specs.Sessions.{row_session}
 use Rattle.pd_core.specs.Sound.{session_at}
 use Rattle.pd_core.proofs.SessionBetweenLemmas.{its as named_row}
 use Rattle.pd_core.proofs.SessionRefusedLemmas.{no_space}

@@ -3,7 +3,6 @@ use Rattle.std.proofs.Common.{◌≡◌, ◌≢◌, ℕ, ◌+◌, ◌*◌, ◌�
 use Rattle.std.proofs.lemmas.Option.{same_Some}
 use Rattle.std.specs.FinMap.{get}
 use Rattle.std.specs.Option.{option_map}
-use Rattle.std.specs.Prelude.{◌⊎◌}
 use Rattle.own_model.specs.Account.{Account, WithinLimits}
 use Rattle.own_model.specs.Amounts.{Amounts}
 use Rattle.own_model.specs.Call.{Call, is_exit}
@@ -36,12 +35,12 @@ use Rattle.pd_core.specs.Sound.{buffer_at, session_weight, IsLawful, IsScript, I
 use Rattle.pd_core.specs.declared.component.Component.{Component}
 use Rattle.pd_core.specs.declared.component.Role.TheVariants.{Script as AScript}
 use Rattle.pd_core.specs.declared.script.Script.{Script}
-use Rattle.pd_core.proofs.CoreChangeLemmas.{ChangesCore}
-use Rattle.pd_core.proofs.CoreHeldLemmas.{lender, same_place, same_reserve, no_place, no_reserve_place, no_reserve_session, reserve_no_init, script_inits, held_by}
+use Rattle.pd_core.proofs.CoreChangeLemmas.{InitsRest, AllRestBut, ChangesCore}
+use Rattle.pd_core.proofs.CoreHeldLemmas.{lender, IsOf, no_session_of, no_place_of, no_reserve_of, reserve_no_init, script_inits, held_by}
 use Rattle.pd_core.proofs.LentLemmas.{LendersStay, LendAlike, own_lent, script_lent, others_still, lent_still}
 use Rattle.pd_core.proofs.CoreRoleLemmas.{Leaves, role_left, rows_left}
 use Rattle.pd_core.proofs.SessionScriptLemmas.{own_still, same_heap, same_sliced, heaps_stay}
-use Rattle.pd_core.proofs.CoreWorldLemmas.{places_kept}
+use Rattle.pd_core.proofs.CoreWorldLemmas.{RowsStay, places_kept}
 
 -- ---- the account has other limits
 
@@ -133,7 +132,7 @@ module _ (store store' : Store) (script : Script) (sound : IsSoundScript store s
 pub record Shifts (heads : Heads) (script : Script) (a : Account) (has : Amounts) (store store' : Store) : Type 0 where
   pub own : part script.account.0 store' ≡ record (part_at store script) { account = Some a }
   pub kept : part script.reserve.0 store' ≡ opened_part has.ram has.caps
-  pub others : (other : ℕ) → other ≢ script.account.0 → other ≢ script.reserve.0 → part other store' ≡ part other store
+  pub others : AllRestBut script.account.0 script.reserve.0 store store'
   pub root : root_in store' ≡ root_in store
   pub parents : parents_in store' ≡ parents_in store
   pub ram : ram_limits_in store' ≡ ram_limits_in store
@@ -154,10 +153,7 @@ module _ {store store' : Store} {roles : Roles} (core : IsSoundCore store roles)
   has_reserve = ap reserve_in is_script
 
   -- the component and its reserve are touched
-  abbrev Touched : Owner → Type 0
-  Touched owner = (owner ≡ Place i) ⊎ (owner ≡ ReserveAt i)
-
-  module _ (owner : Owner) (one : ℕ) (other : Touched owner → ⊥) (owns : Owns store roles owner one) where
+  module _ (owner : Owner) (one : ℕ) (other : IsOf i owner → ⊥) (owns : Owns store roles owner one) where
     not_payer : one ≢ payer
     not_payer e = other (inl (core.apart owner (Place i) payer (subst (Owns store roles owner) e owns) pays))
 
@@ -167,7 +163,7 @@ module _ {store store' : Store} {roles : Roles} (core : IsSoundCore store roles)
     rests : part one store' ≡ part one store
     rests = shifts.others one not_payer not_reserve
 
-  leaves : Leaves store roles store' (λ owner. (owner ≡ Place i) ⊎ (owner ≡ ReserveAt i))
+  leaves : Leaves store roles store' (IsOf i)
   leaves = record {
     stays = λ owner one other owns regions.
         let own = rests owner one other owns in
@@ -181,21 +177,12 @@ module _ {store store' : Store} {roles : Roles} (core : IsSoundCore store roles)
     caps = shifts.caps;
   }
 
-  no_session : (k id : ℕ) → Touched (SessionAt k id) → ⊥
-  no_session k id touched = elim touched [ inl e ↦ no_place i k id e | inr e ↦ no_reserve_session k id i e ]
-
-  other_place : (k : ℕ) → k ≢ i → Touched (Place k) → ⊥
-  other_place k other touched = elim touched [ inl e ↦ other (same_place k i e) | inr e ↦ no_reserve_place k i e ]
-
-  other_reserve : (k : ℕ) → k ≢ i → Touched (ReserveAt k) → ⊥
-  other_reserve k other touched = elim touched [ inl e ↦ no_reserve_place i k (sym e) | inr e ↦ other (same_reserve k i e) ]
-
   calls : IsScriptRole (roles i)
   calls = subst IsScriptRole (sym is_script) refl
 
   -- all rows stay
-  same_rows : (k : ℕ) → rows_at store' roles k ≡ rows_at store roles k
-  same_rows k = rows_left leaves k (no_session k)
+  same_rows : RowsStay store roles store' roles
+  same_rows k = rows_left leaves k (no_session_of i k)
 
   all_rows : ◌≡◌ {A = ℕ → NatMap (Row Labelled)} (rows_at store roles) (rows_at store' roles)
   all_rows j k = sym (same_rows k) j
@@ -205,7 +192,7 @@ module _ {store store' : Store} {roles : Roles} (core : IsSoundCore store roles)
   sessions_same j server session = option_map (row_session server) (get (same_rows server j) session)
 
   -- inits' accounts rest
-  pub inits_rest : (one : ℕ) → IsInits store roles one → part one store' ≡ part one store
+  pub inits_rest : InitsRest roles store store'
   inits_rest one its =
       shifts.others one (λ e. script_inits core i payer pays calls (subst (IsInits store roles) e its)) (λ e. reserve_no_init core i reserve has_reserve (subst (IsInits store roles) e its))
 
@@ -213,7 +200,7 @@ module _ {store store' : Store} {roles : Roles} (core : IsSoundCore store roles)
   lenders : LendersStay store store' script.caps.caps
   lenders s q key names =
       let by = lender core i s q key (ap (λ r. buffer_at (get (caps_in r) s)) is_script ∙ names) in
-      rests (SessionAt by.server by.id) (space_at store key).payer (no_session by.server by.id) by.owns
+      rests (SessionAt by.server by.id) (space_at store key).payer (no_session_of i by.server by.id) by.owns
 
   script_sound : IsSoundScript store script
   script_sound = subst (IsSoundRole store) is_script (core.sound i)
@@ -228,7 +215,7 @@ module _ {store store' : Store} {roles : Roles} (core : IsSoundCore store roles)
     pub shift_change : ChangesCore core.heads i 0 0 store roles store' roles
     shift_change = record {
       script = calls;
-      others = λ k other. role_left leaves k (no_session k) core (other_place k other) (other_reserve k other) (λ server id _ _ _. no_session server id);
+      others = λ k other. role_left leaves k (no_session_of i k) core (no_place_of i k other) (no_reserve_of i k other) (λ server id _ _ _. no_session_of i server id);
       sound = subst (IsSoundRole store') (sym is_script) (sound_moved store store' script script_sound a shifts.own shifts.ram lenders as_much placed);
       pays = λ account its. its;
       reserve = λ account is. is;

@@ -21,7 +21,7 @@ use Rattle.own_model.specs.Reply.Reply.{Selected, Done}
 use Rattle.own_model.specs.Services.ServiceState.{Logging}
 use Rattle.own_model.specs.Use.{object_caps}
 use Rattle.own_model.specs.StartList.{Entry}
-use Rattle.own_model.proofs.NatMapLemmas.{same, get-insert_same, get-insert_other, get-remove_same, get-remove_other, get-picked, picked-insert_some, picked-remove, picked_alike, alike_insert, alike_remove, and_then_alike, after_insert, apart_from_free, none_at, before_remove}
+use Rattle.own_model.proofs.NatMapLemmas.{same, some_of, get-insert_same, get-insert_other, get-remove_same, get-remove_other, get-picked, picked-insert_some, picked-remove, picked_alike, alike_insert, alike_remove, and_then_alike, after_insert, apart_from_free, none_at, before_remove}
 use Rattle.own_model.proofs.NewSelector.{new_selector_is, new_selector_positive, new_selector_free, new_selector_least}
 use Rattle.own_model.proofs.Totals.{len-insert_new, len-insert_at, len-remove_at, total-insert_new, total-remove}
 use Rattle.own_model.proofs.StepSoundLemmas.{step_sound}
@@ -51,19 +51,14 @@ pub value_of : (o : Option (List ℕ)) → IsSome o → o ≡ Some (unwrap_or o 
 value_of None h = absurd (true≢false (sym h))
 value_of (Some bytes) h = refl
 
--- what is made of something is there where that is
-map_some : {X Y : Type 0} (f : X → Y) (o : Option X) → is_some (option_map f o) ≡ is_some o
-map_some f None = refl
-map_some f (Some x) = refl
-
 -- there is an object where there is a capability, and nowhere else
 has_object : (L : Lent) (sessions : Sessions) (p : Part) (o : Option Cap) → ((ds : DsId) → o ≡ Some (Dataspace ds) → IsSome (get p.spaces ds.0)) →
     ((server : ℕ) (session : SessionId) → o ≡ Some (Session server session) → IsSome (sessions server session.0)) → is_some (option_and_then (object_of L sessions p) o) ≡ is_some o
 has_object L sessions p None there ready = refl
-has_object L sessions p (Some (Dataspace ds)) there ready = map_some ADataspace (get p.spaces ds.0) ∙ there ds refl
+has_object L sessions p (Some (Dataspace ds)) there ready = ap (λ s. is_some (option_map ADataspace s)) (some_of (get p.spaces ds.0) (there ds refl)).1
 has_object L sessions p (Some RpcObject) there ready = refl
 has_object L sessions p (Some (Buffer space session)) there ready = refl
-has_object L sessions p (Some (Session server session)) there ready = map_some OpenSession (sessions server session.0) ∙ ready server session refl
+has_object L sessions p (Some (Session server session)) there ready = ap (λ s. is_some (option_map OpenSession s)) (some_of (sessions server session.0) (ready server session refl)).1
 
 -- ---- sessions
 

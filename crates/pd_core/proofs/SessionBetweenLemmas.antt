@@ -37,6 +37,7 @@ use Rattle.pd_core.specs.Sessions.{row_session, IsLentAt, HoldsLent, NamesSessio
 use Rattle.pd_core.specs.Sound.{session_at, buffer_at, lent_from, IsOthers, AreOthers, session_weight, lent_weight, IsOne, IsSoundScript}
 use Rattle.pd_core.specs.declared.component.Role.TheVariants.{Script as AScript}
 use Rattle.pd_core.specs.declared.script.Script.{Script}
+use Rattle.pd_core.proofs.CoreChangeLemmas.{AllRestBut}
 use Rattle.pd_core.proofs.CoreHeldLemmas.{no_place, same_session, lender, owned_open, owns_row, place_outer, script_head, row_paid as paid_row}
 use Rattle.pd_core.proofs.ScriptCostLemmas.{row_covers, cost, weight, cost_covers}
 use Rattle.pd_core.proofs.LentPlaceLemmas.{counted_by_sessions}
@@ -79,7 +80,7 @@ module _ {store : Store} {roles : Roles} {i s : ℕ} {script : Script} (two : Ar
 
   -- a call touches the client's account and one that nobody had but this session
   module _ (account : ℕ) (id : ℕ) (alone : (owner : Owner) → Owns store roles owner account → owner ≡ SessionAt s id) (store' : Store)
-      (others : (other : ℕ) → other ≢ payer → other ≢ account → part other store' ≡ part other store) where
+      (others : AllRestBut payer account store store') where
     -- a buffer that another session lends stays what it is, and its payer is neither
     pub lent_beside : (p by key : ℕ) → buffer_at (get script.caps.caps p) ≡ Some (by, key) → ((r : Row Labelled) → get rows id ≡ Some r → r.buffer ≡ Some key → ⊥) →
         IsPaidBy (space_at store key).payer key (space_at store key).bytes store' × (((space_at store key).payer ≢ payer) × ((space_at store key).payer ≢ account))
@@ -208,7 +209,7 @@ module _ {store : Store} {roles : Roles} {i s : ℕ} {script : Script} (two : Ar
         apart (one p under key (buffer_key (get script.caps.caps p) by key has)
         (buffer_key (get script.caps.caps under) q key (holds_lent.at.has ∙ ap (lent_from q) (ap (λ (x : Row Labelled). x.buffer) same ∙ lends))))
 
-    module _ (store' : Store) (others : (other : ℕ) → other ≢ payer → other ≢ row.key → part other store' ≡ part other store) where
+    module _ (store' : Store) (others : AllRestBut payer row.key store store') where
       -- the bytes of other buffers stay
       pub lent_alike : (p by key : ℕ) → p ≢ under → buffer_at (get script.caps.caps p) ≡ Some (by, key) → lent_in store' key ≡ lent_in store key
       lent_alike p by key apart has = (lent_beside row.key session.0 row_alone store' others p by key has (not_its p by key apart has)).0.bytes_are

@@ -38,7 +38,7 @@ use Rattle.pd_core.specs.declared.component.Role.TheVariants.{Script as AScript,
 use Rattle.pd_core.specs.declared.script.Script.{Script}
 use Rattle.core_calls.specs.Call.{is_of_reserve}
 use Rattle.pd_core.proofs.ReserveAsideLemmas.{outcome_with, stands_aside}
-use Rattle.pd_core.proofs.CoreChangeLemmas.{ChangesCore, Follows}
+use Rattle.pd_core.proofs.CoreChangeLemmas.{InitsRest, ReserveRests, AllRestBut, ChangesCore, Follows, OthersFollow}
 use Rattle.pd_core.proofs.ComponentLemmas.{account_open, pays_is, pays_server}
 use Rattle.pd_core.proofs.CoreHeldLemmas.{names_open, same_place, no_place, no_reserve_place, no_reserve_session, same_session, not_session, init_pays, reserve_pays, pays_alone, script_inits, held_by}
 use Rattle.pd_core.proofs.ScriptNameLemmas.{buffer_key, lent_aside}
@@ -63,7 +63,7 @@ pub record ReplacesTwo (before after : Roles) (i s : ℕ) (client host : Role) :
 
 -- the parts of all accounts stay but those of a client and of its session, which is below nobody else; no limit is lost
 pub record MovesAccounts (heads : Heads) (payer account : ℕ) (old new : Store) : Type 0 where
-  pub others : (other : ℕ) → other ≢ payer → other ≢ account → part other new ≡ part other old
+  pub others : AllRestBut payer account old new
   pub parents : (other : ℕ) → other ≢ account → get (parents_in new) other ≡ get (parents_in old) other
   pub parent : (other : ℕ) → IsChildIn new account other → other ≡ payer
   pub root : root_in new ≡ root_in old
@@ -272,7 +272,7 @@ module _ {store : Store} {roles : Roles} {i s : ℕ} {script : Script} (two : Ar
           reserved = λ one is. absurd (none-some one (sym was_serving.reserve ∙ is));
         }
 
-    follows : (k : ℕ) → k ≢ i → Follows store (roles k) store' (roles' k)
+    follows : OthersFollow i store roles store' roles'
     follows k other = elim (cases_eq k s) [
       | inl at ↦
           subst (λ n. Follows store (roles n) store' (roles' n)) (sym at)
@@ -437,19 +437,20 @@ module _ {store : Store} {roles : Roles} {i s : ℕ} {script : Script} (two : Ar
     ]
 
     -- inits' accounts have the parts that they had
-    pub inits_rest : (one : ℕ) → IsInits store roles one → part one store' ≡ part one store
+    pub inits_rest : InitsRest roles store store'
     inits_rest one its =
         others one (λ e. script_inits core i payer pays_client calls (subst (IsInits store roles) e its)) (inits_apart one its)
 
     -- a reserve's account rests
-    reserve_rests : (one : ℕ) → reserve_in (roles i) ≡ Some one → part one store' ≡ part one store
+    reserve_rests : ReserveRests (roles i) store store'
     reserve_rests one is = others one (not_payer (ReserveAt i) one (other_reserve i) is) (not_account (ReserveAt i) one (other_reserve i) is)
 
     pub its_reserve : part script.reserve.0 store' ≡ part script.reserve.0 store
     its_reserve = reserve_rests script.reserve.0 (ap reserve_in is_script)
 
-    has_reserve : (one : ℕ) → reserve_in (roles' i) ≡ Some one → reserve_in (roles i) ≡ Some one
-    has_reserve one is = ap reserve_in is_script ∙ ap (λ (a : AccountId). Some a.0) (sym changes.stays.reserve) ∙ ap reserve_in (sym replaced.client_at) ∙ is
+    -- it has that reserve still
+    reserve_kept : reserve_in (roles i) ≡ reserve_in (roles' i)
+    reserve_kept = ap reserve_in is_script ∙ ap (λ (a : AccountId). Some a.0) (sym changes.stays.reserve) ∙ ap reserve_in (sym replaced.client_at)
 
     -- no component's account is the session's
     not_place_account : (k one : ℕ) → Pays (roles k) one → one ≢ account
@@ -465,9 +466,9 @@ module _ {store : Store} {roles : Roles} {i s : ℕ} {script : Script} (two : Ar
       others = follows;
       sound = subst (IsSoundRole store') (sym replaced.client_at) changes.sound;
       pays = λ one its. subst (λ r. Pays r one) (sym is_script) (ap (λ (a : AccountId). a.0) (sym changes.stays.account) ∙ subst (λ r. Pays r one) replaced.client_at its);
-      reserve = has_reserve;
+      reserve = λ one is. reserve_kept ∙ is;
       reserved = λ one is.
-          let was = has_reserve one is in
+          let was = reserve_kept ∙ is in
           let before = core.reserved i one was in
           record {
             beside = parents one (not_account (ReserveAt i) one (other_reserve i) was) ∙ before.beside

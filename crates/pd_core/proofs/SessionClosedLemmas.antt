@@ -1,5 +1,5 @@
 -- A session that a selector names is closed, with its buffer if it has one: that it goes as the model's.
-use Rattle.std.proofs.Common.{◌≡◌, ◌≢◌, ℕ, ◌<◌, List, Option, None, Some, get_or, set, refl, sym, ap, subst, ◌∙◌, [], ◌+◌}
+use Rattle.std.proofs.Common.{◌≡◌, ℕ, ◌<◌, List, Option, None, Some, get_or, set, refl, sym, ap, subst, ◌∙◌, [], ◌+◌}
 use Rattle.std.proofs.lemmas.Grind.{get_or-set_at}
 use Rattle.std.proofs.lemmas.List.{get_or-set_other, length-set}
 use Rattle.std.proofs.lemmas.Option.{none-some}
@@ -13,7 +13,7 @@ use Rattle.own_model.specs.Reply.Reply.{Done}
 use Rattle.own_model.specs.Session.{Labelled}
 use Rattle.cap_space.specs.Space.{is_buffer, without_cap}
 use Rattle.cap_space.specs.declared.cap.Cap.TheVariants.{Session}
-use Rattle.dataspace_core.specs.Store.{Store, part, ClosesPart}
+use Rattle.dataspace_core.specs.Store.{Store, ClosesPart}
 use Rattle.server_frame.specs.Frame.{Row}
 use Rattle.server_frame.specs.SessionBuffer.{key_of}
 use Rattle.pd_core.specs.Answer.{told_alone}
@@ -25,6 +25,7 @@ use Rattle.pd_core.specs.Sound.{session_weight, lent_weight, buffer_at}
 use Rattle.pd_core.specs.declared.component.Component.{Component}
 use Rattle.pd_core.specs.declared.component.Role.TheVariants.{Script as AScript}
 use Rattle.pd_core.specs.declared.script.Script.{Script}
+use Rattle.pd_core.proofs.CoreChangeLemmas.{AllRestBut}
 use Rattle.pd_core.proofs.SessionBetweenLemmas.{under, holds_lent, lent_alike, are_others, row_paid, row_alone, changes_closed, keeps_but, script_sound}
 use Rattle.pd_core.proofs.ScriptNameLemmas.{buffer_key, buffer_test, tested_key, key_before}
 use Rattle.pd_core.proofs.SessionNamedLemmas.{closes_done}
@@ -53,7 +54,7 @@ module _ {store : Store} (components : List Component) {i s : ℕ} {script : Scr
   its_client : its_row.client ≡ script.account.0
   its_client = pays components two d host host_is q session names
 
-  others : (other : ℕ) → other ≢ script.account.0 → other ≢ its_row.key → part other store' ≡ part other store
+  others : AllRestBut script.account.0 its_row.key store store'
   others other client key = closes.others other key (λ e. client (e ∙ its_client))
 
   -- a close goes as the model's where the client has turned so

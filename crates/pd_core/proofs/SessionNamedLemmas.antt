@@ -35,7 +35,7 @@ use Rattle.pd_core.specs.Sound.{session_weight, lent_weight, buffer_at, AreOther
 use Rattle.pd_core.specs.declared.script.Script.{Script}
 use Rattle.pd_core.proofs.ScriptOwnLemmas.{same_new_selector}
 use Rattle.pd_core.proofs.SessionOwnLemmas.{regions_after}
-use Rattle.pd_core.proofs.SessionStepLemmas.{ChangesTwo, named_at, some_sessions, some_are_open, some_same, with_session, with_session_same, with_session_other, closes_own, upgrades_own, serves_own, lawful_after}
+use Rattle.pd_core.proofs.SessionStepLemmas.{ChangesTwo, others_agree, named_at, some_sessions, some_are_open, some_same, with_session, with_session_same, with_session_other, closes_own, upgrades_own, serves_own, lawful_after}
 use Rattle.pd_core.proofs.SessionScriptLemmas.{own_still, sound_still}
 use Rattle.pd_core.proofs.SessionTurnLemmas.{Turns}
 
@@ -69,12 +69,8 @@ module _ (store store' : Store) (script script' : Script) (rows : NatMap (Row La
   account_is : account_of p' ≡ a
   account_is = ap account_of own
 
-  -- another selector names another session
-  others_agree : (S S' : Sessions) → AgreeBut S S' server session.0 → (s other : ℕ) (at : SessionId) → s ≢ selector → get script.caps.caps s ≡ Some (Session other at) → S' other at.0 ≡ S other at.0
-  others_agree S S' agree s other at apart is = agree other at.0 (λ e f. apart (names.once s at (subst (λ n. get script.caps.caps s ≡ Some (Session n at)) e is) f))
-
   changes : (S S' : Sessions) → AgreeBut S S' server session.0 → ChangesTwo (lent_in store) (lent_in store') S S' p p' script.caps.caps script'.caps.caps script.regions.user script'.regions.user selector names.under names.row.buffer lent'
-  changes S S' agree = record { tables = turns.tables; spaces = ap (λ (q : Part). q.spaces) own; agrees = others_agree S S' agree; alike = alike }
+  changes S S' agree = record { tables = turns.tables; spaces = ap (λ (q : Part). q.spaces) own; agrees = others_agree script.caps.caps selector server session names.once S S' agree; alike = alike }
 
   -- its own state after it
   still : (S : Sessions) → own_at S store' script' ≡ after S

@@ -33,7 +33,7 @@ use Rattle.pd_core.specs.declared.script.Script.{Script}
 use Rattle.pd_core.proofs.ScriptOwnLemmas.{same_new_selector}
 use Rattle.pd_core.proofs.LentLemmas.{LendAlike}
 use Rattle.pd_core.proofs.SessionOwnLemmas.{TurnsTables, AreCounted, lawful_whichever}
-use Rattle.pd_core.proofs.SessionStepLemmas.{ChangesTwo, some_sessions, some_are_open, some_same, own_put, opens_own}
+use Rattle.pd_core.proofs.SessionStepLemmas.{ChangesTwo, others_agree, some_sessions, some_are_open, some_same, own_put, opens_own}
 use Rattle.pd_core.proofs.SessionScriptLemmas.{own_still, sound_still}
 use Rattle.pd_core.proofs.SessionNamedLemmas.{limit_within}
 
@@ -125,14 +125,12 @@ module _ (store store' : Store) (script : Script) (rows : NatMap (Row Labelled))
     }
 
     -- no selector named it before
-    others_agree : (S S' : Sessions) → AgreeBut S S' server session.0 → (q other : ℕ) (at : SessionId) → q ≢ selector → get script.caps.caps q ≡ Some (Session other at) → S' other at.0 ≡ S other at.0
-    others_agree S S' agree q other at apart is = agree other at.0 (λ e f.
-        let was = named q at (subst (λ k. get script.caps.caps q ≡ Some (Session k at)) e is) in
-        absurd (true≢false (sym was ∙ ap (λ k. is_some (get rows k)) f ∙ ap is_some free)))
+    not_named : (q : ℕ) (at : SessionId) → get script.caps.caps q ≡ Some (Session server at) → at.0 ≢ session.0
+    not_named q at is e = true≢false (sym (named q at is) ∙ ap (λ k. is_some (get rows k)) e ∙ ap is_some free)
 
     changes : (S S' : Sessions) → AgreeBut S S' server session.0 →
         ChangesTwo (lent_in store) (lent_in store') S S' (part_at store script) (part script.account.0 store') script.caps.caps opened_space.caps script.regions.user script.regions.user selector next None None
-    changes S S' agree = record { tables = opened_tables; spaces = ap (λ (q : Part). q.spaces) parted; agrees = others_agree S S' agree; alike = λ s by key _ is. alike s by key is }
+    changes S S' agree = record { tables = opened_tables; spaces = ap (λ (q : Part). q.spaces) parted; agrees = others_agree script.caps.caps selector server session (λ q at is e. absurd (not_named q at is e)) S S' agree; alike = λ s by key _ is. alike s by key is }
 
     module _ (is_new : selector ≡ new_selector script.caps.caps) where
       own_opens : (entry : Entry) (S S' : Sessions) (service text : List ℕ) (w : Wish) → HasSessions S script.caps.caps → wish entry.label entry.routes service text ≡ Ok w → w.ram ≡ ram → w.caps ≡ caps → AgreeBut S S' server session.0 →

@@ -44,6 +44,7 @@ use Rattle.pd_core.specs.declared.component.Role.{Role}
 use Rattle.pd_core.specs.declared.component.Role.TheVariants.{Script as AScript}
 use Rattle.pd_core.specs.declared.script.Script.{Script}
 use Rattle.pd_core.proofs.CorePlainLemmas.{unlisted}
+use Rattle.pd_core.proofs.CoreChangeLemmas.{AllRestBut}
 use Rattle.pd_core.proofs.SessionBetweenLemmas.{under, holds_lent, lent_alike, are_others, fresh_lent, row_paid, row_alone, serve_moves, changes_written, keeps_but, script_sound}
 use Rattle.pd_core.proofs.ScriptNameLemmas.{buffer_key, buffer_test, tested_key}
 use Rattle.pd_core.proofs.SessionNamedLemmas.{IsDone, serves_done}
@@ -161,7 +162,7 @@ module _ {store : Store} (components : List Component) {i s : ℕ} {script : Scr
   apart : script.account.0 ≢ its_row.key
   apart same = (row_paid two q session names).apart (pays components two d host host_is q session names ∙ same)
 
-  others : (other : ℕ) → other ≢ script.account.0 → other ≢ its_row.key → part other store' ≡ part other store
+  others : AllRestBut script.account.0 its_row.key store store'
   others other _ beside = serves.others other beside
 
   same_part : part script.account.0 store' ≡ part script.account.0 store

@@ -32,7 +32,7 @@ use Rattle.cap_space.specs.declared.cap.Cap.{Cap}
 use Rattle.cap_space.specs.declared.cap.Cap.TheVariants.{Dataspace, RpcObject, Session, Buffer}
 use Rattle.dataspace_core.specs.Store.{Part, account_of}
 use Rattle.pd_core.specs.Own.{Sessions, HasSessions, object_of, selector_of, regions_of, own_of, Lent}
-use Rattle.pd_core.specs.Sessions.{IsLentAt, HoldsLent}
+use Rattle.pd_core.specs.Sessions.{AgreeBut, IsLentAt, HoldsLent}
 use Rattle.pd_core.specs.Sound.{buffer_at, lent_from, IsOne, AreNamed, IsLawful}
 use Rattle.pd_core.proofs.ScriptNameLemmas.{is_named, named_is}
 use Rattle.pd_core.proofs.SessionOwnLemmas.{TurnsTables, regions_after, regions_turn, lent_names, lawful_step, lawful_whichever}
@@ -182,6 +182,11 @@ pub record ChangesTwo (L L' : Lent) (S S' : Sessions) (p p' : Part) (caps caps' 
   pub spaces : p'.spaces ≡ p.spaces
   pub agrees : (s server : ℕ) (session : SessionId) → s ≢ q → get caps s ≡ Some (Session server session) → S' server session.0 ≡ S server session.0
   pub alike : (s by key : ℕ) → s ≢ k → buffer_at (get caps s) ≡ Some (by, key) → L' key ≡ L key
+
+-- where no other selector names the session that changes, each other one names a session that stays
+pub others_agree : (caps : NatMap Cap) (q server : ℕ) (session : SessionId) → ((s : ℕ) (at : SessionId) → get caps s ≡ Some (Session server at) → at.0 ≡ session.0 → s ≡ q) → (S S' : Sessions) → AgreeBut S S' server session.0 →
+    (s other : ℕ) (at : SessionId) → s ≢ q → get caps s ≡ Some (Session other at) → S' other at.0 ≡ S other at.0
+others_agree caps q server session once S S' agree s other at apart is = agree other at.0 (λ e f. apart (once s at (subst (λ n. get caps s ≡ Some (Session n at)) e is) f))
 
 module _ {L L' : Lent} {S S' : Sessions} {p p' : Part} {caps caps' : NatMap Cap} {user user' : NatMap Region} {q k : ℕ} {lent lent' : Option ℕ} (changes : ChangesTwo L L' S S' p p' caps caps' user user' q k lent lent')
     (heap : OwnHeap) (sliced : NatMap (List ℕ)) (one : IsOne caps) (attached : AreNamed caps user) where

@@ -38,6 +38,7 @@ use Rattle.pd_core.specs.declared.component.Role.{Role}
 use Rattle.pd_core.specs.declared.component.Role.TheVariants.{Script as AScript, Gone as AGone}
 use Rattle.pd_core.specs.declared.script.Script.{Script}
 use Rattle.pd_core.proofs.ReserveAsideLemmas.{refused_aside}
+use Rattle.pd_core.proofs.CoreChangeLemmas.{AllRestBut}
 use Rattle.pd_core.proofs.CorePlainLemmas.{face_is}
 use Rattle.pd_core.proofs.ServerLemmas.{server_of_row, lent_paid}
 use Rattle.pd_core.proofs.SessionBetweenLemmas.{its as its_row, under, holds_lent, its_lent, lent_alike, are_others, names_session, row_alone, raise_moves, changes_written, script_sound}
@@ -210,7 +211,7 @@ module _ {store : Store} (components : List Component) {i s : ℕ} {script : Scr
         let next : Row Labelled = record row { account = raised row.account more.ram more.caps } in
         let written = written_by row there ∙ ap (λ r. insert (rows_in store r) session.0 next) (sym host_is) in
         let now = ap (λ (m : NatMap (Row Labelled)). get m session.0) (written_by row there) ∙ get-insert_same (rows_of store host) session.0 next session.0 refl in
-        let others : (other : ℕ) → other ≢ script.account.0 → other ≢ row.key → part other store' ≡ part other store = λ other client account. raises.others other (λ e. client (e ∙ pays)) account in
+        let others : AllRestBut script.account.0 row.key store store' = λ other client account. raises.others other (λ e. client (e ∙ pays)) account in
         let alike = lent_alike two q session names store' others in
         let turns = turns_same script q (under two q session names) s session names row.buffer (holds_lent two q session names).at (script_sound two).own.named.one in
         let keeps : KeepsBut script script q (under two q session names) = record { account = refl; reserve = refl; places = refl; caps = λ p _ _. refl } in

@@ -38,7 +38,7 @@ use Rattle.sliced_heap.specs.Sliced.{sliced_tag, block_regions}
 use Rattle.sliced_heap.proofs.ShareLemmas.{shown_block}
 use Rattle.sliced_heap.proofs.HeapLaws.{blocks_are_regions}
 use Rattle.pd_core.specs.Own.{Sessions, lent_in, own_at, own_of, part_at, own_heap_at, sliced_at}
-use Rattle.pd_core.specs.Sound.{rpc_weight, HasHeaps, IsSoundScript}
+use Rattle.pd_core.specs.Sound.{rpc_weight, AreBlocks, HasHeaps, IsSoundScript, OthersStay}
 use Rattle.pd_core.specs.declared.script.Script.{Script}
 use Rattle.sliced_heap.proofs.BesideLemmas.{map_of, standing, whole_standing, sliced_no_block, stands_beside_more, stands_beside_less, ranges_alike, gap_is_free, lie_with, lie_without}
 use Rattle.heap_core.proofs.StayLemmas.{heap_stays}
@@ -56,14 +56,13 @@ none_freed address refusal b (Some payload) is = cc
 -- a call changes the heaps, the account's use and nothing else of a script
 pub record ChangesHeaps (store : Store) (script : Script) (store' : Store) (after : Regions) (heap' : Heap) (sliced' : SlicedHeap) : Type 0 where
   pub has : HasHeaps store' (record script { regions = after; heap = heap'; sliced = sliced' })
-  pub held : (start : ℕ) (region : Region) → get after.heap start ≡ Some region → IsSome (get (part script.account.0 store').spaces region.of)
-  pub unnamed : (start selector : ℕ) (region : Region) (ds : DsId) → get after.heap start ≡ Some region → get script.caps.caps selector ≡ Some (Dataspace ds) → ds.0 ≢ region.of
+  pub blocks : AreBlocks (part script.account.0 store') script.caps.caps after.heap
   pub still : (selector : ℕ) (ds : DsId) → get script.caps.caps selector ≡ Some (Dataspace ds) → get (part script.account.0 store').spaces ds.0 ≡ get (part_at store script).spaces ds.0
   pub rest : after ≡ record script.regions { heap = after.heap; tags = after.tags }
   pub ram_limit : (account_of (part script.account.0 store')).ram_limit ≡ (account_of (part_at store script)).ram_limit
   pub caps_limit : (account_of (part script.account.0 store')).caps_limit ≡ (account_of (part_at store script)).caps_limit
   pub spare : len (part script.account.0 store').spaces + total rpc_weight script.caps.caps ≤ (account_of (part script.account.0 store')).caps_used
-  pub others : (other : ℕ) → other ≢ script.account.0 → part other store' ≡ part other store
+  pub others : OthersStay script.account.0 store store'
   pub root : root_in store' ≡ root_in store
   pub parents : parents_in store' ≡ parents_in store
   pub room : room_in store' ≡ room_in store
@@ -107,7 +106,7 @@ module _ (store : Store) (script : Script) (sound : IsSoundScript store script) 
       let pages : after.pages ≡ script.regions.pages = ap (λ (r : Regions). r.pages) changes.rest in
       let is_open = part_open account store' (subst (IsOpenIn store') has.sliced_pays has.sliced.opens) in
       let made = slices (part_at store script) script.caps script.regions (own_heap_at store script) (sliced_at store script) sound.own call p' after (heap_at heap' store' after) (blocks_at account store' after) reply
-      changes.still user most pages is_open changes.ram_limit changes.caps_limit changes.spare (record { held = changes.held; unnamed = changes.unnamed }) is in record {
+      changes.still user most pages is_open changes.ram_limit changes.caps_limit changes.spare changes.blocks is in record {
         outcome = λ sessions ready. ap {B = Outcome} (λ s. record { reply = reply; lines = []; next = s }) (own_lent (lent_in store) (lent_in store') p' script.caps.caps seen after.user (heap_at heap' store' after) (blocks_at account store' after) sessions) ∙ made.outcome sessions ready;
         keeps = record {
           sound = record {
@@ -163,7 +162,7 @@ module _ (store : Store) (script : Script) (sound : IsSoundScript store script) 
   module _ {store' : Store} {after : Regions} {sliced' : SlicedHeap} (sound' : IsSoundSliced sliced' store' after) (pays : payer_of sliced' ≡ payer_of script.sliced)
       (others : KeepsOthers (payer_of script.sliced) store store' script.regions after) where
     -- other accounts keep their parts
-    pub parts_stay : (other : ℕ) → other ≢ script.account.0 → part other store' ≡ part other store
+    pub parts_stay : OthersStay script.account.0 store store'
     unfolding share_in
     parts_stay other apart = ap (λ (s : Share). s.part) (others.shares other (λ e. apart (e ∙ sound.heaps.sliced_pays)))
 
@@ -214,8 +213,7 @@ module _ (store : Store) (script : Script) (sound : IsSoundScript store script) 
               | inr old ↦ inr (ap is_some (stand_after leaves s) ∙ old.1)
             ];
           };
-          held = held_after leaves;
-          unnamed = changed.unnamed;
+          blocks = record { held = held_after leaves; unnamed = changed.unnamed };
           still = λ q d names. leaves.keeps d.0 (no_block q d names) (sound.own.named.there q d names);
           rest = others.rest;
           ram_limit = changed.ram_limit;

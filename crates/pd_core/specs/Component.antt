@@ -124,6 +124,10 @@ entry_of place component = record {
   routes = place.routes;
 }
 
+-- a component's entry is unchanged at each place
+abbrev pub EntryStays : Component → Component → Type 0
+EntryStays before after = (place : Place) → entry_of place after ≡ entry_of place before
+
 -- what a role offers to each session, if it is a server
 abbrev pub offer_in : Role → Option Offer
 offer_in role = option_map offer_of_host (host_in role)
@@ -261,7 +265,7 @@ IsSound store component = IsSoundRole store component.role
 -- after a call of one of its sessions a server works on the memory, and is unchanged except for its sessions; so are all
 -- limits of RAM together
 pub record StaysServer (old : Store) (before : Component) (new : Store) (after : Component) : Type 0 where
-  pub entry : (place : Place) → entry_of place after ≡ entry_of place before
+  pub entry : EntryStays before after
   pub service : offer_of after ≡ offer_of before
   pub account : payer_of after ≡ payer_of before
   pub capacity : capacity_in after.role ≡ capacity_in before.role
@@ -279,7 +283,7 @@ pub record Serves (store : Store) (component : Component) (id : ℕ) : Type 0 wh
 -- all limits of RAM. The parts of all other accounts stay too, except for a session's buffer into which the call writes
 pub record Keeps (old : Store) (before : Component) (new : Store) (after : Component) : Type 0 where
   pub sound : IsSound new after
-  pub entry : (place : Place) → entry_of place after ≡ entry_of place before
+  pub entry : EntryStays before after
   pub service : offer_of after ≡ offer_of before
   pub pays : (account : ℕ) → Pays after.role account → Pays before.role account
   pub paid : (account : ℕ) → Pays before.role account → Pays after.role account

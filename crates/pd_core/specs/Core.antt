@@ -115,6 +115,10 @@ AreHeld heads store roles =
     (child parent : ℕ) → IsChildIn store child parent → heads parent ≡ false →
     (place : ℕ) × NamesAccount (rows_at store roles) (roles place) child parent
 
+-- no account has two owners
+abbrev pub HaveOneOwner : Store → Roles → Type 0
+HaveOneOwner store roles = (one other : Owner) (account : ℕ) → Owns store roles one account → Owns store roles other account → one ≡ other
+
 -- it is known which accounts are inits'; the root is one and is open. Each component is sound, its account is below an
 -- init's, and its reserve is next to it and unused. No account has two owners, and no init is a session's client. Each
 -- session that a component names is its own, and so is the session's buffer. Its capabilities have places, each session is
@@ -127,7 +131,7 @@ pub record IsSoundCore (store : Store) (roles : Roles) : Type 0 where
   pub sound : (place : ℕ) → IsSoundRole store (roles place)
   pub children : (place account : ℕ) → Pays (roles place) account → IsBelowHead store heads account
   pub reserved : (place account : ℕ) → reserve_in (roles place) ≡ Some account → IsReserve store (payer_in (roles place)) account
-  pub apart : (one other : Owner) (account : ℕ) → Owns store roles one account → Owns store roles other account → one ≡ other
+  pub apart : HaveOneOwner store roles
   pub clients : (server id : ℕ) (row : Row Labelled) → get (rows_at store roles server) id ≡ Some row → heads row.client ≡ false
   pub named : (place : ℕ) → NamesItsSessions (rows_at store roles) (roles place)
   pub placed : (place : ℕ) → HasPlaces (sessions_in store roles) store (roles place)

@@ -10,7 +10,7 @@ use Rattle.own_model.specs.World.{World}
 use Rattle.pd_core.specs.Component.{caps_in}
 use Rattle.dataspace_core.specs.Store.{Store, ClosesPart, caps_limits_in}
 use Rattle.pd_core.specs.Core.{Places, world_of, IsCore}
-use Rattle.pd_core.specs.SessionCalls.{Agrees, AreBelowParents, Leads}
+use Rattle.pd_core.specs.SessionCalls.{ParentsStay, RoutesStay}
 use Rattle.pd_core.specs.declared.component.Component.{Component}
 use Rattle.pd_core.specs.declared.component.Role.{Role}
 use Rattle.pd_core.specs.declared.component.Role.TheVariants.{Script, Server, Init, Gone}
@@ -61,5 +61,5 @@ pub record HasClosedAt (i count : ℕ) (old new : World) : Type 0 where
 pub record ClosesTo (i count : ℕ) (old : Store) (before : List Component) (new : Store) (after : List Component) : Type 0 where
   pub closed : (places : Places) → HasClosedAt i count (world_of places old before) (world_of places new after)
   pub core : IsCore new after
-  pub homes : (places : Places) → AreBelowParents places old before → AreBelowParents places new after
-  pub leads : (places : Places) (leads : Leads) → Agrees places leads old before → Agrees places leads new after
+  pub homes : ParentsStay old before new after
+  pub leads : RoutesStay old before new after

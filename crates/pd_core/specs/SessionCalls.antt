@@ -127,12 +127,24 @@ pub record Answers (places : Places) (call : Call) (i : ℕ) (reply : Told) (old
   pub lines : reply.lines ≡ flat_map log_text (outcome_at (world_of places old before) i call).lines
   pub stepped : world_of places new after ≡ with_state (world_of places old before) i (outcome_at (world_of places old before) i call).next
 
+-- a relation of components on a memory and those on a later memory
+abbrev pub CoreRelation : Type 1
+CoreRelation = Store → List Component → Store → List Component → Type 0
+
+-- each component's account is still below that of its init
+abbrev pub ParentsStay : CoreRelation
+ParentsStay old before new after = (places : Places) → AreBelowParents places old before → AreBelowParents places new after
+
+-- requests are routed as before
+abbrev pub RoutesStay : CoreRelation
+RoutesStay old before new after = (places : Places) (leads : Leads) → Agrees places leads old before → Agrees places leads new after
+
 -- the call is answered so, the core is sound afterwards, each account is still below its init's, and routes are unchanged
 pub record Goes (places : Places) (call : Call) (i : ℕ) (reply : Told) (old : Store) (before : List Component) (new : Store) (after : List Component) : Type 0 where
   pub answers : Answers places call i reply old before new after
   pub core : IsCore new after
-  pub homes : (all : Places) → AreBelowParents all old before → AreBelowParents all new after
-  pub leads : (all : Places) (leads : Leads) → Agrees all leads old before → Agrees all leads new after
+  pub homes : ParentsStay old before new after
+  pub leads : RoutesStay old before new after
 
 -- the same of a call with this result and no log lines
 abbrev pub GoesWith : Places → Call → ℕ → Result CallValue Refusal → Store → List Component → Store → List Component → Type 0

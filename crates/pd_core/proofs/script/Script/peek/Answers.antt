@@ -30,7 +30,7 @@ returns-in-Ok-clause-outcome c sessions ready =
     ∙ ap (λ reply. told reply (own_at sessions c.args.memory.now c.args.self.now))
     (c.write_range.ensures
     ∙ ap (λ m. told_alone (codes "data " ++ hex_text (slice_range (space_at m c.in-Ok.space.0).bytes c.in-Ok.offset (c.in-Ok.offset + c.args.count)))) c.in-Ok.ensures.memory)
-    ∙ ap told_of (peek_found _ _ c.requires c.args.address _ _ c.args.count some c.in-Ok.ensures.found sessions)
+    ∙ ap told_of (peek_found _ _ c.requires c.args.address _ _ c.args.count c.in-Ok.ensures.found some sessions)
 
 pub returns-in-Err-clause-outcome : goal.returns-in-Err-clause-outcome
 returns-in-Err-clause-outcome c sessions ready =
