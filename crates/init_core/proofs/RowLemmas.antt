@@ -9,8 +9,8 @@ use Rattle.own_model.specs.Routes.{Lead, Level, ServerAt, decided, label_with, l
 use Rattle.own_model.specs.Routes.Lead.{To, Nowhere, Outward}
 use Rattle.pd_core.specs.Core.{Places}
 use Rattle.init_core.specs.Boot.{place_of, places_at}
-use Rattle.init_core.specs.Rows.{RouteRow, init_row, levels, levels_at, place_by, places_in, row_of, rows_of, step_of}
-use Rattle.init_core.specs.declared.rule.RouteStep.TheVariants as step
+use Rattle.init_core.specs.Rows.{RouteRow, destination_of, init_row, levels, levels_at, place_by, places_in, row_of, rows_of}
+use Rattle.init_core.specs.declared.rule.Destination.TheVariants as destination
 
 -- the row of an init is that of its entry
 init_listed : (list : Listed) (home : ℕ) → init_row (rows_of list) home ≡ option_map (row_of list) (init_entry list home)
@@ -67,12 +67,12 @@ one_level rows (suc lists) row service label some = rw (fewer lists) refl where
   fewer n = omega arith
 
 -- a lead by its step
-nowhere_by : (lead : Lead) → step.Nowhere ≡ step_of lead → Nowhere ≡ lead
+nowhere_by : (lead : Lead) → destination.Nowhere ≡ destination_of lead → Nowhere ≡ lead
 nowhere_by (To server) is = cc
 nowhere_by Nowhere is = refl
 nowhere_by Outward is = cc
 
-outward_by : (lead : Lead) → step.Outward ≡ step_of lead → Outward ≡ lead
+outward_by : (lead : Lead) → destination.Outward ≡ destination_of lead → Outward ≡ lead
 outward_by (To server) is = cc
 outward_by Nowhere is = cc
 outward_by Outward is = refl
@@ -85,24 +85,24 @@ module _ (rows : List RouteRow) (lists client : ℕ) (service label : List ℕ) 
       ∙ ap (λ to. led_to to (provider (outer (lists - 1) rows row.home) service (label_with row.level.name label))) (sym is)
 
   -- to a server
-  pub leads_to : (place : ℕ) → step.Server place ≡ step_of (decided row.level.rules service label) → Some place ≡ place_of_server (provider (levels_at lists rows client) service label)
+  pub leads_to : (place : ℕ) → destination.Server place ≡ destination_of (decided row.level.rules service label) → Some place ≡ place_of_server (provider (levels_at lists rows client) service label)
   leads_to place is = by_step (decided row.level.rules service label) refl is where
-    by_step : (lead : Lead) → lead ≡ decided row.level.rules service label → step.Server place ≡ step_of lead → Some place ≡ place_of_server (provider (levels_at lists rows client) service label)
+    by_step : (lead : Lead) → lead ≡ decided row.level.rules service label → destination.Server place ≡ destination_of lead → Some place ≡ place_of_server (provider (levels_at lists rows client) service label)
     by_step (To server) same to = let there : place ≡ server.place = cc in ap Some there ∙ sym (ap place_of_server (by_lead (To server) same))
     by_step Nowhere same to = cc
     by_step Outward same to = cc
 
   -- to none
-  pub leads_nowhere : step.Nowhere ≡ step_of (decided row.level.rules service label) → None ≡ place_of_server (provider (levels_at lists rows client) service label)
+  pub leads_nowhere : destination.Nowhere ≡ destination_of (decided row.level.rules service label) → None ≡ place_of_server (provider (levels_at lists rows client) service label)
   leads_nowhere is = sym (ap place_of_server (by_lead Nowhere (nowhere_by (decided row.level.rules service label) is)))
 
   -- outward of the machine's list to none
-  pub leads_out : step.Outward ≡ step_of (decided row.level.rules service label) → row.home ≡ 0 → None ≡ place_of_server (provider (levels_at lists rows client) service label)
+  pub leads_out : destination.Outward ≡ destination_of (decided row.level.rules service label) → row.home ≡ 0 → None ≡ place_of_server (provider (levels_at lists rows client) service label)
   leads_out is machine =
       sym (ap place_of_server (by_lead Outward (outward_by (decided row.level.rules service label) is) ∙ ap (λ home. provider (outer (lists - 1) rows home) service (label_with row.level.name label)) machine))
 
   -- and of another where the init's row leads, with the name before the label
-  pub leads_outward : (longer : List ℕ) (found : Option ℕ) → step.Outward ≡ step_of (decided row.level.rules service label) → 0 < row.home → longer ≡ label_with row.level.name label →
+  pub leads_outward : (longer : List ℕ) (found : Option ℕ) → destination.Outward ≡ destination_of (decided row.level.rules service label) → 0 < row.home → longer ≡ label_with row.level.name label →
       found ≡ place_of_server (provider (levels_at (lists - 1) rows (row.home - 1)) service longer) → found ≡ place_of_server (provider (levels_at lists rows client) service label)
   leads_outward longer found is inner named by_init =
       by_init

@@ -15,8 +15,8 @@ use Rattle.pd_core.specs.Component.{Place}
 use Rattle.pd_core.specs.Core.{Places}
 use Rattle.init_core.specs.declared.rule.ResolvedTarget.{ResolvedTarget}
 use Rattle.init_core.specs.declared.rule.ResolvedTarget.TheVariants.{ToBuiltIn, ToDeclared, Nowhere, Outward}
-use Rattle.init_core.specs.declared.rule.RouteStep.{RouteStep}
-use Rattle.init_core.specs.declared.rule.RouteStep.TheVariants as step
+use Rattle.init_core.specs.declared.rule.Destination.{Destination}
+use Rattle.init_core.specs.declared.rule.Destination.TheVariants as destination
 use Rattle.init_core.specs.declared.rule.ServiceTest.{ServiceTest}
 use Rattle.init_core.specs.declared.rule.ServiceTest.TheVariants.{Known, Named, Any}
 
@@ -28,11 +28,11 @@ model_lead (ToDeclared service place) = model.Lead.To (record { kind = OffersObj
 model_lead Nowhere = model.Lead.Nowhere
 model_lead Outward = model.Lead.Outward
 
--- the step of a route that a lead decides
-abbrev pub step_of : model.Lead → RouteStep
-step_of (model.Lead.To server) = step.Server server.place
-step_of model.Lead.Nowhere = step.Nowhere
-step_of model.Lead.Outward = step.Outward
+-- the destination that a lead decides
+abbrev pub destination_of : model.Lead → Destination
+destination_of (model.Lead.To server) = destination.Server server.place
+destination_of model.Lead.Nowhere = destination.Nowhere
+destination_of model.Lead.Outward = destination.Outward
 
 -- the name that is asked for, if one is
 abbrev pub name_asked : ServiceTest → Option (List ℕ)

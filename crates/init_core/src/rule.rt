@@ -4,7 +4,7 @@ ghost use Rattle.std.specs.Str.{bytes_eq};
 ghost use Rattle.own_model.specs.Listed.{own_rule};
 ghost use Rattle.own_model.specs.Routes.{as_asked, decided, matches};
 ghost use Rattle.list_parser.specs.Services.{service_text};
-ghost use Rattle.init_core.specs.Rows.{model_lead, name_asked, service_named, step_of};
+ghost use Rattle.init_core.specs.Rows.{destination_of, model_lead, name_asked, service_named};
 
 use list_parser::{DeclaredService, LabelTest, ListService, Name, Rule};
 use std::alloc::{AllocError, Global};
@@ -27,22 +27,22 @@ pub(crate) enum ResolvedTarget {
 }
 
 impl ResolvedTarget {
-    /// Returns the step of a route that the rule decides.
-    fn step(&self) -> RouteStep
-        ensures { result ≡ step_of (model_lead self.now) }
+    /// Returns the destination that the rule decides.
+    fn destination(&self) -> Destination
+        ensures { result ≡ destination_of (model_lead self.now) }
     {
         match self {
-            ResolvedTarget::ToBuiltIn(_, place) => RouteStep::Server(*place),
-            ResolvedTarget::ToDeclared(_, place) => RouteStep::Server(*place),
-            ResolvedTarget::Nowhere => RouteStep::Nowhere,
-            ResolvedTarget::Outward => RouteStep::Outward,
+            ResolvedTarget::ToBuiltIn(_, place) => Destination::Server(*place),
+            ResolvedTarget::ToDeclared(_, place) => Destination::Server(*place),
+            ResolvedTarget::Nowhere => Destination::Nowhere,
+            ResolvedTarget::Outward => Destination::Outward,
         }
     }
 }
 
-/// A step of a route.
+/// The destination of a session request by the rules of one list.
 #[derive(Clone, Copy)]
-pub(crate) enum RouteStep {
+pub(crate) enum Destination {
     /// To the server at this place among the components.
     Server(usize),
     /// To no server.
@@ -194,26 +194,26 @@ impl ResolvedRule {
         self.service.holds(service) && self.labels.holds(label)
     }
 
-    /// Returns the step that the rule decides.
-    fn step(&self) -> RouteStep
-        ensures { result ≡ step_of self.now.to }
+    /// Returns the destination that the rule decides.
+    fn destination(&self) -> Destination
+        ensures { result ≡ destination_of self.now.to }
     {
-        self.to.step()
+        self.to.destination()
     }
 }
 
-/// Returns the step of the first rule that matches, or `Nowhere` if no rule matches.
+/// Returns the destination by the first rule that matches, or `Nowhere` if no rule matches.
 pub(crate) fn resolve_request(
     rules: &[ResolvedRule],
     service: &ServiceName<'_>,
     label: &[u8],
-) -> RouteStep
-    ensures { result ≡ step_of (decided rules.now service.now label.now) }
+) -> Destination
+    ensures { result ≡ destination_of (decided rules.now service.now label.now) }
 {
     for rule in rules {
         if rule.matches(service, label) {
-            return rule.step();
+            return rule.destination();
         }
     }
-    RouteStep::Nowhere
+    Destination::Nowhere
 }

@@ -6,7 +6,7 @@ ghost use Rattle.own_model.specs.Routes.{provider};
 ghost use Rattle.init_core.specs.Rows.{server_by_rows, levels_at, places_in, row_of, rows_of};
 
 use crate::resolve::rules_of;
-use crate::rule::{ResolvedRule, RouteStep, ServiceName, resolve_request};
+use crate::rule::{Destination, ResolvedRule, ServiceName, resolve_request};
 use core_calls::label_of;
 use list_parser::{Name, Path, StartList};
 use list_routes::MOST_LISTS;
@@ -106,9 +106,9 @@ fn server_for(
         return None;
     };
     match resolve_request(row.rules.as_slice(), service, label) {
-        RouteStep::Server(place) => Some(place),
-        RouteStep::Nowhere => None,
-        RouteStep::Outward => if row.home == 0 {
+        Destination::Server(place) => Some(place),
+        Destination::Nowhere => None,
+        Destination::Outward => if row.home == 0 {
             None
         } else {
             let label = label_of(row.name.as_bytes(), label);

@@ -8,7 +8,7 @@ use Rattle.serde_json.specs.declared.value.Value.{Value}
 use Rattle.list_findings.specs.Findings.{finding_on}
 use Rattle.list_findings.specs.Unread.{names_of, unread, unread_in}
 use Rattle.list_findings.specs.declared.finding.Finding.{Finding}
-use Rattle.list_findings.specs.declared.members.ObjectKind.{ObjectKind}
+use Rattle.list_findings.specs.declared.members.MemberOwner.{MemberOwner}
 use Rattle.list_parts.specs.declared.list_part.ListPart.{ListPart}
 
 -- the findings on each name
@@ -17,7 +17,7 @@ findings_each : (f : List ℕ → List Finding) (entries : List (String Global �
 findings_each f [] = refl
 findings_each f (e ∷ entries) = ap (λ rest. f (string_bytes e.0) ++ rest) (findings_each f entries)
 
-pub findings_members : (kind : ObjectKind) (part : ListPart) (d : Option Data) (entries : List (String Global × Value))
+pub findings_members : (kind : MemberOwner) (part : ListPart) (d : Option Data) (entries : List (String Global × Value))
     → Some (members_view entries) ≡ option_and_then as_object d
     → flat_map (λ key. finding_on part (unread kind (string_bytes key))) (map (λ e. e.0) entries) ≡ unread_in kind part d
 findings_members kind part d entries is = findings_each (λ name. finding_on part (unread kind name)) entries ∙ rw (← is) refl

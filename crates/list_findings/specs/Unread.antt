@@ -12,8 +12,8 @@ use Rattle.list_faults.specs.Values.{EntryValue, elements_in, found_in, runs}
 use Rattle.list_findings.specs.declared.finding.Finding.{Finding}
 use Rattle.list_findings.specs.declared.finding.Remark.{Remark}
 use Rattle.list_findings.specs.declared.finding.Remark.TheVariants.{Unread}
-use Rattle.list_findings.specs.declared.members.ObjectKind.{ObjectKind}
-use Rattle.list_findings.specs.declared.members.ObjectKind.TheVariants as table
+use Rattle.list_findings.specs.declared.members.MemberOwner.{MemberOwner}
+use Rattle.list_findings.specs.declared.members.MemberOwner.TheVariants as table
 use Rattle.list_parts.specs.declared.list_part.RuleOwner.{RuleOwner}
 use Rattle.list_parts.specs.declared.list_part.RuleOwner.TheVariants as owner
 use Rattle.list_parts.specs.declared.list_part.ListPart.{ListPart}
@@ -34,7 +34,7 @@ rule_members =
     ∷ codes "child" ∷ codes "any-child" ∷ codes "parent" ∷ []
 
 -- the members that are read of an object; of the list itself also the one by which editors find their schema
-abbrev pub members_read : ObjectKind → List (List ℕ)
+abbrev pub members_read : MemberOwner → List (List ℕ)
 members_read table.List = codes "machine" ∷ codes "default-route" ∷ codes "start" ∷ codes "$schema" ∷ []
 members_read table.Machine = codes "pages" ∷ codes "caps" ∷ []
 members_read table.Entry = entry_members
@@ -48,11 +48,11 @@ members_read table.Kind = codes "kind" ∷ codes "block" ∷ codes "bytes" ∷ [
 abbrev pub is_comment : List ℕ → Bool
 is_comment name = starts_with nat_eq name (codes "_")
 
-abbrev pub is_read : ObjectKind → List ℕ → Bool
+abbrev pub is_read : MemberOwner → List ℕ → Bool
 is_read kind name = list_any (λ known. bytes_eq known name) (members_read kind)
 
 -- the remark that nothing reads a member, and the name that may have been meant
-abbrev pub unread : ObjectKind → List ℕ → Option Remark
+abbrev pub unread : MemberOwner → List ℕ → Option Remark
 unread kind name =
     if is_comment name || is_read kind name then None else Some (Unread name (nearest (members_read kind) name))
 
@@ -64,7 +64,7 @@ names_of (member name value others) = name ∷ names_of others
 abbrev pub names_in : Option Data → List (List ℕ)
 names_in d = unwrap_or (option_map names_of (option_and_then as_object d)) []
 
-abbrev pub unread_in : ObjectKind → ListPart → Option Data → List Finding
+abbrev pub unread_in : MemberOwner → ListPart → Option Data → List Finding
 unread_in kind part d = flat_map (λ name. finding_on part (unread kind name)) (names_in d)
 
 -- ---- of a list
@@ -86,7 +86,7 @@ unread_in_kinds number steps d =
     flat_map (λ kind. unread_in table.Kind (parts.Kind number steps kind.0) (Some kind.1)) (enumerate_from 0 (elements_in d))
 
 -- which object an entry is, by its binary
-abbrev pub entry_kind : Data → ObjectKind
+abbrev pub entry_kind : Data → MemberOwner
 entry_kind entry =
     if runs (codes "init") entry then table.Init else (if runs (codes "server") entry then table.Server else table.Entry)
 

@@ -8,9 +8,9 @@ use crate::finding::{FindingText, Remark, StaticName};
 use std::alloc::{AllocError, Global};
 use text_near_words::nearest;
 
-/// The kinds of objects in a start list.
+/// The objects of a start list that have members, by what they are.
 #[derive(Clone, Copy)]
-pub(crate) enum ObjectKind {
+pub(crate) enum MemberOwner {
     /// The list itself.
     List,
     /// Its machine.
@@ -29,15 +29,15 @@ pub(crate) enum ObjectKind {
     Kind,
 }
 
-impl ObjectKind {
+impl MemberOwner {
     /// Returns the members of this kind of object that are read, and `$schema`, by which an editor finds the schema.
     fn members(self) -> &'static [&'static str]
         ensures { map (λ known. known.now) result.now ≡ members_read self }
     {
         match self {
-            ObjectKind::List => &["machine", "default-route", "start", "$schema"],
-            ObjectKind::Machine => &["pages", "caps"],
-            ObjectKind::Entry => &[
+            MemberOwner::List => &["machine", "default-route", "start", "$schema"],
+            MemberOwner::Machine => &["pages", "caps"],
+            MemberOwner::Entry => &[
                 "name",
                 "binary",
                 "quantum",
@@ -47,7 +47,7 @@ impl ObjectKind {
                 "reserve",
                 "reserve-caps",
             ],
-            ObjectKind::Server => &[
+            MemberOwner::Server => &[
                 "name",
                 "binary",
                 "quantum",
@@ -58,7 +58,7 @@ impl ObjectKind {
                 "reserve-caps",
                 "kinds",
             ],
-            ObjectKind::Init => &[
+            MemberOwner::Init => &[
                 "name",
                 "binary",
                 "quantum",
@@ -69,8 +69,8 @@ impl ObjectKind {
                 "reserve-caps",
                 "config",
             ],
-            ObjectKind::Config => &["default-route", "start"],
-            ObjectKind::Rule => &[
+            MemberOwner::Config => &["default-route", "start"],
+            MemberOwner::Rule => &[
                 "service",
                 "any-service",
                 "label",
@@ -80,7 +80,7 @@ impl ObjectKind {
                 "any-child",
                 "parent",
             ],
-            ObjectKind::Kind => &["kind", "block", "bytes"],
+            MemberOwner::Kind => &["kind", "block", "bytes"],
         }
     }
 

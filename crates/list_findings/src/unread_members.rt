@@ -8,7 +8,7 @@ ghost use Rattle.list_findings.specs.Unread.{entry_kind, unread_in, unread_in_co
 ghost use Rattle.list_faults.specs.Values.{seen};
 
 use crate::finding::{Finding, Remark};
-use crate::members::ObjectKind;
+use crate::members::MemberOwner;
 use list_faults::{EntryValue, elements, find_entries, member, runs};
 use list_parts::{EntrySteps, ListPart, RuleOwner, rule_at};
 use serde_json::{Map, Value};
@@ -19,12 +19,12 @@ use std::alloc::{AllocError, Global};
 pub fn add_unread(found: &mut Vec<Finding>, alloc: Global, list: &Value) -> Result<(), AllocError>
     ensures { OnOk result (found.new.items ≡ found.old.items ++ unread_of (view list.now)) }
 {
-    add_members(found, alloc, ObjectKind::List, &ListPart::List, Some(list))?;
+    add_members(found, alloc, MemberOwner::List, &ListPart::List, Some(list))?;
     let machine = list.get("machine");
     add_members(
         found,
         alloc,
-        ObjectKind::Machine,
+        MemberOwner::Machine,
         &ListPart::Machine,
         machine,
     )?;
@@ -82,15 +82,15 @@ fn add_within(
 }
 
 // Which object an entry is, by its binary.
-fn entry_kind(entry: &Value) -> ObjectKind
+fn entry_kind(entry: &Value) -> MemberOwner
     ensures { result ≡ entry_kind (view entry.now) }
 {
     if runs(entry, "init") {
-        ObjectKind::Init
+        MemberOwner::Init
     } else if runs(entry, "server") {
-        ObjectKind::Server
+        MemberOwner::Server
     } else {
-        ObjectKind::Entry
+        MemberOwner::Entry
     }
 }
 
@@ -100,7 +100,7 @@ fn add_own(
     alloc: Global,
     number: usize,
     entry: &EntryValue<'_>,
-    table: ObjectKind,
+    table: MemberOwner,
 ) -> Result<(), AllocError>
     ensures { OnOk result (found.new.items ≡ found.old.items
         ++ unread_in table (ListPart.Entry number entry.now.steps) (Some (view entry.now.value.now))) }
@@ -121,7 +121,7 @@ fn add_config(
         ++ unread_in_config number steps.now (option_map (λ value. view value.now) config.entry)) }
 {
     let part = ListPart::Config(number, steps.copy(alloc)?);
-    add_members(found, alloc, ObjectKind::Config, &part, config)?;
+    add_members(found, alloc, MemberOwner::Config, &part, config)?;
     let rules = member(config, "default-route");
     add_rules(found, alloc, RuleOwner::Inner(number), steps, rules)
 }
@@ -139,7 +139,7 @@ fn add_kinds(
 {
     for (place, kind) in elements(kinds).iter().enumerate() {
         let part = ListPart::Kind(number, steps.copy(alloc)?, place);
-        add_members(found, alloc, ObjectKind::Kind, &part, Some(kind))?;
+        add_members(found, alloc, MemberOwner::Kind, &part, Some(kind))?;
     }
     Ok(())
 }
@@ -157,7 +157,7 @@ fn add_rules(
 {
     for (place, rule) in elements(rules).iter().enumerate() {
         let part = rule_at(alloc, owner, steps, place)?;
-        add_members(found, alloc, ObjectKind::Rule, &part, Some(rule))?;
+        add_members(found, alloc, MemberOwner::Rule, &part, Some(rule))?;
     }
     Ok(())
 }
@@ -166,7 +166,7 @@ fn add_rules(
 fn add_members(
     found: &mut Vec<Finding>,
     alloc: Global,
-    table: ObjectKind,
+    table: MemberOwner,
     part: &ListPart,
     value: Option<&Value>,
 ) -> Result<(), AllocError>

@@ -1,7 +1,7 @@
 use Rattle.std.proofs.Common.{◌++◌, Some, ap, ◌∙◌}
 use Rattle.serde_json.specs.View.{view}
 use Rattle.list_findings.specs.Unread.{unread_in}
-use Rattle.list_findings.specs.declared.members.ObjectKind.TheVariants as table
+use Rattle.list_findings.specs.declared.members.MemberOwner.TheVariants as table
 use Rattle.list_parts.specs.declared.list_part.ListPart.TheVariants as parts
 use Rattle.list_faults.proofs.ValueLemmas.{place_more}
 use Rattle.list_findings.proofs.unread_members.add_kinds.Goals as goal

@@ -2,7 +2,7 @@ use Rattle.std.proofs.Common.{◌≡◌, ◌++◌, drop, map, Some}
 use Rattle.std.specs.List.{enumerate_from, flat_map}
 use Rattle.serde_json.specs.View.{view}
 use Rattle.list_findings.specs.Unread.{unread_in}
-use Rattle.list_findings.specs.declared.members.ObjectKind.TheVariants as table
+use Rattle.list_findings.specs.declared.members.MemberOwner.TheVariants as table
 use Rattle.list_parts.specs.declared.list_part.ListPart.TheVariants as parts
 use Rattle.list_findings.proofs.unread_members.add_kinds.Given as goal
 

@@ -3,7 +3,7 @@ use Rattle.std.specs.List.{enumerate_from, flat_map}
 use Rattle.serde_json.specs.View.{view}
 use Rattle.list_parts.specs.Steps.{rule_at}
 use Rattle.list_findings.specs.Unread.{unread_in}
-use Rattle.list_findings.specs.declared.members.ObjectKind.TheVariants as table
+use Rattle.list_findings.specs.declared.members.MemberOwner.TheVariants as table
 use Rattle.list_findings.proofs.unread_members.add_rules.Given as goal
 
 abbrev pub invariant-loop-place : goal.invariant-loop-place
