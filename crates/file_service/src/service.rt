@@ -20,7 +20,7 @@ use crate::session::{FileRange, FileSession};
 use core_calls::Reply;
 use dataspace_core::Memory;
 use region_map::RegionMap;
-use server_frame::{Effect, Service};
+use server_frame::{Effect, SessionService};
 use session_nodes::SessionHeaps;
 use session_proto::{FileError, FileReply, FileRequest};
 use sliced_heap::SlicedHeap;
@@ -46,7 +46,7 @@ const FEW_READ: usize = 128;
 #[derive(Clone, Copy, Drop)]
 pub struct FileService;
 
-impl Service for FileService {
+impl SessionService for FileService {
     ghost use Rattle.file_service.specs.Session.{value_of, IsSession};
 
     type State = FileSession;

@@ -12,7 +12,7 @@ use crate::session::LogSession;
 use core_calls::Reply;
 use dataspace_core::Memory;
 use region_map::RegionMap;
-use server_frame::{Effect, Service};
+use server_frame::{Effect, SessionService};
 use session_proto::{LogReply, LogRequest};
 use sliced_heap::SlicedHeap;
 use trade_base::DsId;
@@ -45,7 +45,7 @@ impl LogService {
     }
 }
 
-impl Service for LogService {
+impl SessionService for LogService {
     type State = LogSession;
 
     ghost Value = { Labelled };

@@ -18,7 +18,7 @@ use core_calls::Reply;
 use dataspace_core::Memory;
 use object_kinds::ObjectKind;
 use region_map::RegionMap;
-use server_frame::{Effect, Service};
+use server_frame::{Effect, SessionService};
 use session_nodes::SessionHeaps;
 use session_proto::{FileError, ObjectError, ObjectReply, ObjectRequest};
 use sliced_heap::SlicedHeap;
@@ -59,7 +59,7 @@ impl ObjectService {
     }
 }
 
-impl Service for ObjectService {
+impl SessionService for ObjectService {
     ghost use Rattle.std.specs.Prelude.{◌≡◌};
     ghost use Rattle.own_model.specs.Offer.Offer.{OffersObjects};
     ghost use Rattle.own_model.specs.Session.{Labelled, state_at_first};

@@ -11,5 +11,5 @@ mod theorems;
 pub use core_calls::{LONGEST_LABEL, MOST_LINES, Quotas, Reply};
 pub use effect::Effect;
 pub use server::Server;
-pub use service::Service;
+pub use service::SessionService;
 pub use theorems::{lent_bytes_are_the_clients, sessions_find_places};

@@ -20,7 +20,7 @@ use file_service::FileService;
 use log_service::LogService;
 use object_kinds::ObjectKind;
 use object_service::ObjectService;
-use server_frame::{Effect, Server};
+use server_frame::{Effect, Server, SessionService};
 use std::alloc::Global;
 use trade_base::{AccountId, Caps, DsId, NoMemory, Ram, Refusal, Service, SessionId};
 
@@ -235,7 +235,7 @@ impl AnyServer {
 }
 
 // Opens a session of any server. Its contract is one fact, so that the proof is the same for all servers.
-fn open<S: server_frame::Service + Drop>(
+fn open<S: SessionService + Drop>(
     server: &mut Server<S>,
     memory: &mut Memory,
     client: AccountId,

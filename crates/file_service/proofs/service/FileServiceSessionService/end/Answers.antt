@@ -1,7 +1,7 @@
--- The buffer is freed, and then the nodes.
-use Rattle.object_service.proofs.ReadyLemmas.{is_ready}
+-- What is lent goes, and then the nodes.
+use Rattle.file_service.proofs.ReadyLemmas.{is_ready}
 use Rattle.sliced_heap.proofs.EndLemmas.{keeps_then}
-use Rattle.object_service.proofs.service.ObjectServiceService.end.Goals as goal
+use Rattle.file_service.proofs.service.FileServiceSessionService.end.Goals as goal
 
 pub give_any-requires-clause-furnished : goal.give_any-requires-clause-furnished
 give_any-requires-clause-furnished c = (is_ready c.requires.account c.requires.kept c.lies_apart.ensures.sound).furnished
