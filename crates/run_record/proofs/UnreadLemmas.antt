@@ -1,47 +1,21 @@
 -- The lines that can't be parsed are reported one after another.
-use Rattle.std.proofs.Common.{◌≡◌, ℕ, List, [], ◌∷◌, ◌++◌, None, Result, IfOk, OnOk, append-nil, append_assoc, ap, subst, sym, ◌∙◌}
+use Rattle.std.proofs.Common.{◌≡◌, ℕ, List, [], ◌∷◌, ◌++◌, None, Result, IfOk, append_assoc, ap, subst, sym, ◌∙◌}
 use Rattle.own_model.specs.World.{World}
 use Rattle.list_parser.specs.declared.fault.BootFault.{BootFault}
-use Rattle.line_steps.specs.ResolvedLines.{ResolvedLine, resolved_line}
-use Rattle.line_steps.specs.RunPosition.{RunPosition, passed}
+use Rattle.line_steps.specs.RunPosition.{RunPosition}
+use Rattle.run_scenario.specs.LineSteps.{resolved_at}
 use Rattle.run_record.specs.Recorded.{pieces_of}
 use Rattle.run_record.specs.RecordedCalls.{RecordingState, first_recording, recording_behind}
 use Rattle.run_record.specs.Unread.{Unread, unread_from, unread_in, unread_lines, unread_view}
 use Rattle.run_record.specs.declared.recording.Recording.{Recording}
-use Rattle.run_record.proofs.RecordedLemmas.{on_ok}
 
--- a line by what it is
-pub unread_by : {E : Type 0} (r : Result Unit E) (number : ℕ) (resolved shown : ResolvedLine) (before after : List Unread) → resolved ≡ shown →
-    OnOk r (after ≡ before ++ unread_in number shown) → OnOk r (after ≡ before ++ unread_in number resolved)
-unread_by r number resolved shown before after is unread = subst (λ l. OnOk r (after ≡ before ++ unread_in number l)) (sym is) unread
-
--- one that is parsed isn't reported
-pub read_by : (number : ℕ) (resolved shown : ResolvedLine) (before after : List Unread) → resolved ≡ shown → unread_in number shown ≡ [] → after ≡ before →
-    after ≡ before ++ unread_in number resolved
-read_by number resolved shown before after is none same =
-    same ∙ sym (append-nil before) ∙ ap (λ us. before ++ us) (sym none) ∙ ap (λ l. before ++ unread_in number l) (sym is)
-
-pub read_on : {E : Type 0} (r : Result Unit E) (number : ℕ) (resolved shown : ResolvedLine) (before after : List Unread) → resolved ≡ shown →
-    unread_in number shown ≡ [] → after ≡ before → OnOk r (after ≡ before ++ unread_in number resolved)
-read_on r number resolved shown before after is none same = on_ok r (read_by number resolved shown before after is none same)
-
--- after the position has passed it
-pub unread_passed : {E : Type 0} (r : Result Unit E) (line : List ℕ) (old next : RunPosition) (number : ℕ) (before after : List Unread) →
-    next ≡ passed old → number ≡ old.number → after ≡ before ++ unread_in number (resolved_line None next.known line) →
-    OnOk r (after ≡ before ++ unread_in old.number (resolved_line None old.known line))
-unread_passed r line old next number before after is numbered unread =
-    on_ok r
-    (unread
-    ∙ ap (λ n. before ++ unread_in n (resolved_line None next.known line)) numbered
-    ∙ ap (λ (s : RunPosition). before ++ unread_in old.number (resolved_line None s.known line)) is)
-
--- and one line more
+-- one line more
 pub unread_more : (whole before now : List Unread) (stage next : RecordingState) (text line : List ℕ) (behind : List (List ℕ)) →
     before ++ unread_from stage (pieces_of text) ≡ whole → pieces_of text ≡ line ∷ behind →
-    now ≡ before ++ unread_in stage.stand.number (resolved_line None stage.stand.known line) → next ≡ recording_behind stage line →
+    now ≡ before ++ unread_in stage.stand.number (resolved_at None stage.stand line) → next ≡ recording_behind stage line →
     now ++ unread_from next behind ≡ whole
 unread_more whole before now stage next text line behind so pieces now_is next_is =
-    let here : List Unread = unread_in stage.stand.number (resolved_line None stage.stand.known line) in
+    let here : List Unread = unread_in stage.stand.number (resolved_at None stage.stand line) in
     ap (λ us. us ++ unread_from next behind) now_is
     ∙ ap (λ s. (before ++ here) ++ unread_from s behind) next_is
     ∙ append_assoc before here (unread_from (recording_behind stage line) behind)

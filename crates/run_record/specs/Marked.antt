@@ -1,8 +1,7 @@
 -- The results of each line of a scenario, event by event.
-use Rattle.std.specs.Prelude.{◌≡◌, ℕ, ◌+◌, Bool, true, false, List, [], ◌∷◌, map, nat_eq, if◌then◌else◌, Option, Some, None}
+use Rattle.std.specs.Prelude.{ℕ, ◌+◌, Bool, true, false, List, [], ◌∷◌, map, nat_eq, if◌then◌else◌, Option, Some, None}
 use Rattle.run_record.specs.LineRecords.{record_of_first, record_of_more}
-use Rattle.run_record.specs.RecordedCalls.{Event, RecordedCall, Meeting, RecordingState, events_in, recording_after}
-use Rattle.line_steps.specs.ResolvedLines.{ResolvedLine}
+use Rattle.run_record.specs.RecordedCalls.{Event, RecordedCall, Meeting}
 use Rattle.run_record.specs.RecordedCalls.Meeting.{Logs, Hears}
 use Rattle.run_record.specs.Recorded.{LineMark, LineRecord}
 
@@ -30,8 +29,3 @@ marks_after number event (mark ∷ marks) =
 abbrev pub all_marked : List Event → List LineMark → List LineMark
 all_marked [] marks = marks
 all_marked (event ∷ events) marks = all_marked events (marks_after 1 event marks)
-
--- the line of a number leads from one state to the next, and its results are recorded
-pub record StepsTo (all : Bool) (number : ℕ) (resolved : ResolvedLine) (old new : RecordingState) (before after : List LineMark) : Type 0 where
-  pub stage : new ≡ recording_after old resolved
-  pub marks : after ≡ all_marked (events_in all number old resolved) before

@@ -1,12 +1,13 @@
 -- The lines of a scenario that can't be parsed.
 use Rattle.std.specs.Prelude.{ℕ, List, [], ◌∷◌, ◌++◌, map, if◌then◌else◌, None}
 use Rattle.own_model.specs.World.{World}
-use Rattle.line_steps.specs.ResolvedLines.{ResolvedLine, is_unread, resolved_line}
+use Rattle.line_steps.specs.ResolvedLines.{ResolvedLine, is_unread}
 use Rattle.line_steps.specs.ResolvedLines.ResolvedLine.{TooLong, BadName, Misplaced, BadLine}
 use Rattle.line_steps.specs.RunPosition.{RunPosition}
 use Rattle.line_steps.specs.declared.unread_line.UnreadLine.{UnreadLine}
 use Rattle.line_steps.specs.declared.unread_line.UnreadReason.{UnreadReason}
 use Rattle.line_steps.specs.declared.unread_line.UnreadReason.TheVariants as why
+use Rattle.run_scenario.specs.LineSteps.{resolved_at}
 use Rattle.run_record.specs.Recorded.{pieces_of}
 use Rattle.run_record.specs.RecordedCalls.{RecordingState, first_recording, recording_behind}
 
@@ -22,7 +23,7 @@ unread_in number resolved = if is_unread resolved then record { number = number;
 abbrev pub unread_from : RecordingState → List (List ℕ) → List Unread
 unread_from stage [] = []
 unread_from stage (line ∷ lines) =
-    unread_in stage.stand.number (resolved_line None stage.stand.known line) ++ unread_from (recording_behind stage line) lines
+    unread_in stage.stand.number (resolved_at None stage.stand line) ++ unread_from (recording_behind stage line) lines
 
 -- and of a text that is run from a position on
 abbrev pub unread_lines : World → RunPosition → List ℕ → List Unread

@@ -1,11 +1,11 @@
 //! The record of all steps of a line.
 ghost use Rattle.std.specs.Prelude.{◌≡◌, ◌++◌, ℕ, List, IfOk, OnOk, Some};
 ghost use Rattle.run_record.specs.LineRecords.{record_of_first, record_of_more};
-ghost use Rattle.run_record.specs.Recorded.{anew, stays, verdict, written_anew};
+ghost use Rattle.run_record.specs.Recorded.{anew, expecting, stays, verdict, written_anew};
 ghost use Rattle.run_record.specs.Views.{IsOfLine, recorded_call_view, line_by, note_view};
 
 use crate::recorded_call::RecordedCall;
-use crate::writing::{expecting, put_expected, put_kept};
+use crate::writing::{put_expected, put_expecting, put_kept};
 use line_friendly::meets;
 use line_steps::LineBuffers;
 use std::alloc::{AllocError, Global};
@@ -91,38 +91,31 @@ impl LineRecord {
     }
 
     /// Writes the line: a new one after its log lines, or the old one. The error is that the host is out of memory.
-    pub(crate) fn put(
-        &self,
-        alloc: Global,
-        all: bool,
-        line: &[u8],
-        text: &mut Vec<u8>,
-    ) -> Result<(), AllocError>
+    pub(crate) fn put(&self, all: bool, line: &[u8], text: &mut Vec<u8>) -> Result<(), AllocError>
         ensures { OnOk result (text.new.items ≡ text.old.items ++ written_anew line.now
             (note_view self.now).lines (anew all line.now (note_view self.now))) }
     {
         let reply = self.reply.as_slice();
         match self.form(all) {
             RecordedForm::Stays => put_kept(text, line),
-            RecordedForm::Own => self.put_new(text, line, line),
-            RecordedForm::Exact => {
-                let new = expecting(alloc, line, reply)?;
-                self.put_new(text, line, new.as_slice())
+            RecordedForm::Own => {
+                put_expected(text, self.lines.as_slice(), line)?;
+                put_kept(text, line)
             }
-            RecordedForm::Told => {
-                let new = expecting(alloc, line, verdict(reply))?;
-                self.put_new(text, line, new.as_slice())
-            }
+            RecordedForm::Exact => self.put_new(text, line, reply),
+            RecordedForm::Told => self.put_new(text, line, verdict(reply)),
         }
     }
 
-    // Writes a new line in place of one, after its log lines.
-    fn put_new(&self, text: &mut Vec<u8>, line: &[u8], new: &[u8]) -> Result<(), AllocError>
-        ensures { OnOk result (text.new.items ≡ text.old.items
-            ++ written_anew line.now (note_view self.now).lines (Some new.now)) }
+    // Writes a line with this expected reply, after its log lines.
+    fn put_new(&self, text: &mut Vec<u8>, line: &[u8], reply: &[u8]) -> Result<(), AllocError>
+        ensures { OnOk result (text.new.items ≡ text.old.items ++ written_anew line.now
+            (note_view self.now).lines (Some (expecting line.now reply.now))) }
     {
         put_expected(text, self.lines.as_slice(), line)?;
-        put_kept(text, new)
+        put_expecting(text, line, reply)?;
+        text.push(b'\n')?;
+        Ok(())
     }
 
     // Returns the way in which the line is written.

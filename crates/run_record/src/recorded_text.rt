@@ -11,7 +11,6 @@ use std::alloc::{AllocError, Global};
 /// left out with its expectation.
 #[derive(Drop)]
 pub(crate) struct RecordedText {
-    alloc: Global,
     /// Whether each reply is written again.
     all: bool,
     /// The text up to the last call.
@@ -29,7 +28,6 @@ impl RecordedText {
         ensures empty { (stays : Bool) → settled result stays ≡ [] }
     {
         RecordedText {
-            alloc,
             all,
             text: Vec::new(alloc),
             staying: Vec::new(alloc),
@@ -47,7 +45,7 @@ impl RecordedText {
         match &mark.note {
             Some(note) => {
                 self.settle(note.stays(self.all))?;
-                note.put(self.alloc, self.all, mark.line, &mut self.text)
+                note.put(self.all, mark.line, &mut self.text)
             }
             None => self.put_aside(mark.line, mark.logs && self.all),
         }

@@ -14,6 +14,7 @@ use init_core::boot;
 use line_steps::{RunPosition, UnreadLine};
 use list_parser::{BootFault, StartList};
 use pd_core::{Core, Router};
+use run_scenario::CallBuffers;
 use std::alloc::Global;
 
 /// A scenario that is to be recorded.
@@ -78,7 +79,8 @@ fn record_on<R: Router + Drop>(
     ensures fault { IfErr result (λ fault. fault ≡ NoMemory) }
 {
     let marks = LineMarks::new(alloc, scenario.text)?;
-    let mut player = RecordingRun::new(alloc, marks, start, all)?;
-    player.run_scenario_lines(list, core, scenario.unfolded)?;
+    let mut buffers = CallBuffers::new(alloc)?;
+    let mut player = RecordingRun::new(alloc, marks, start, all);
+    player.run_scenario_lines(list, core, scenario.unfolded, &mut buffers)?;
     Ok(player.into_recording()?)
 }

@@ -1,31 +1,31 @@
 //! The run of a scenario that is recorded.
-ghost use Rattle.std.specs.Prelude.{◌≡◌, ◌++◌, ◌∷◌, [], None, false, OnOk, IfOk, IfErr, is_some, length, nat_lt, if◌then◌else◌};
-ghost use Rattle.list_parser.specs.declared.fault.BootFault.TheVariants.{NoMemory};
-ghost use Rattle.line_grammar.specs.Read.{IsReadAs};
+ghost use Rattle.std.specs.Prelude.{◌≡◌, ◌++◌, ◌∷◌, [], None, false, OnOk, IfOk, is_some, length, nat_lt, if◌then◌else◌};
+ghost use Rattle.std.specs.Option.{option_copied};
+ghost use Rattle.own_model.specs.Listed.{start_list_of};
+ghost use Rattle.own_model.specs.StartList.{entries_of};
+ghost use Rattle.own_model.specs.World.{World};
 ghost use Rattle.line_names.specs.Views.{filled_view};
 ghost use Rattle.line_steps.specs.ResolvedLines.{resolved_line};
-ghost use Rattle.std.specs.Option.{option_copied};
-ghost use Rattle.line_steps.specs.ResolvedViews.{call_view};
-ghost use Rattle.run_record.specs.Marked.{StepsTo, all_marked};
-ghost use Rattle.run_record.specs.RecordedCalls.{events, events_in, recording_behind};
+ghost use Rattle.line_steps.specs.ResolvedViews.{call_view, resolved_view};
+ghost use Rattle.run_lines.specs.Answer.{AnswersLine};
+ghost use Rattle.run_scenario.specs.CallAnswers.{AnswersIn, answer_of};
+ghost use Rattle.run_scenario.specs.LineSteps.{calls_in, resolved_at};
+ghost use Rattle.run_record.specs.Marked.{all_marked};
+ghost use Rattle.run_record.specs.RecordedCalls.{awaits_after, events, events_in, recording_behind};
 ghost use Rattle.run_record.specs.Recorded.{pieces_of, without_last, written_lines};
 ghost use Rattle.run_record.specs.Unread.{line_by_reason, unread_from, unread_in, unread_view};
 ghost use Rattle.run_record.specs.Views.{IsOfLine, marks_view, recorded_call_view, recording_in};
-ghost use Rattle.own_model.specs.Listed.{start_list_of};
-ghost use Rattle.own_model.specs.StartList.{entries_of};
 
 use crate::line_marks::LineMarks;
 use crate::pieces::first_piece;
 use crate::recorded_call::RecordedCall;
 use crate::recording::Recording;
-use core_calls::Reply;
 use line_names::NameTable;
-use line_steps::{
-    LineBuffers, ResolvedLine, RunPosition, ScenarioCall, UnreadLine, UnreadReason, resolve,
-};
-use list_parser::{BootFault, StartList};
+use line_steps::{ResolvedLine, RunPosition, ScenarioCall, UnreadLine, UnreadReason};
+use list_parser::StartList;
 use pd_core::{Core, Router};
 use run_lines::{LineAnswer, LineDispatcher};
+use run_scenario::{CallBuffers, LineStep, answer_in, move_past, take_step};
 use std::alloc::{AllocError, Global};
 
 /// The run of a scenario that is recorded.
@@ -38,32 +38,29 @@ pub(crate) struct RecordingRun<'a, 'm> {
     awaits: bool,
     marks: LineMarks<'a>,
     unread: Vec<UnreadLine>,
-    reply: Reply,
 }
 
 impl<'a, 'm> RecordingRun<'a, 'm> {
-    /// Returns the run before its first line. The error is that the host is out of memory.
+    /// Returns the run before its first line.
     pub(crate) fn new(
         alloc: Global,
         marks: LineMarks<'a>,
         start: RunPosition<'m>,
         all: bool,
-    ) -> Result<RecordingRun<'a, 'm>, BootFault>
-        ensures all { IfOk result (λ player. player.all ≡ all) }
-        ensures marks { IfOk result (λ player. player.marks ≡ marks.entry) }
-        ensures stand { IfOk result (λ player. player.stand ≡ start.entry) }
-        ensures awaits { IfOk result (λ player. player.awaits ≡ false) }
-        ensures unread { IfOk result (λ player. player.unread.items ≡ []) }
-        ensures fault { IfErr result (λ fault. fault ≡ NoMemory) }
+    ) -> RecordingRun<'a, 'm>
+        ensures all { result.all ≡ all }
+        ensures marks { result.marks ≡ marks.entry }
+        ensures stand { result.stand ≡ start.entry }
+        ensures awaits { result.awaits ≡ false }
+        ensures unread { result.unread.items ≡ [] }
     {
-        Ok(RecordingRun {
+        RecordingRun {
             all,
             stand: start,
             awaits: false,
             marks,
             unread: Vec::new(alloc),
-            reply: Reply::boot(alloc)?,
-        })
+        }
     }
 
     /// Runs each line of a text. The error is that the host is out of memory.
@@ -72,6 +69,7 @@ impl<'a, 'm> RecordingRun<'a, 'm> {
         list: &StartList,
         core: &mut Core<R>,
         scenario: &[u8],
+        buffers: &mut CallBuffers,
     ) -> Result<(), AllocError>
         requires listed { core.old.entries ≡ entries_of (start_list_of list.now) }
         ensures all { self.new.all ≡ self.old.all }
@@ -81,116 +79,108 @@ impl<'a, 'm> RecordingRun<'a, 'm> {
         ensures unread { OnOk result (unread_view self.new.unread.items ≡ unread_view self.old.unread.items
             ++ unread_from (recording_in self.old.stand self.old.awaits core.old) (pieces_of scenario.now)) }
     {
-        let mut buffers = LineBuffers::new();
         let mut rest = Some(scenario);
         while let Some(text) = rest {
             let (line, behind) = first_piece(text);
-            self.play(list, core, line, &mut buffers)?;
+            self.run_line(list, core, line, buffers)?;
             rest = behind;
         }
         Ok(())
     }
 
-    // Runs a line, and enters and leaves the rounds after it.
-    fn play<R: Router + Drop>(
+    // Runs a line: takes its step, records the step, and moves the position past the line.
+    fn run_line<R: Router + Drop>(
         &mut self,
         list: &StartList,
         core: &mut Core<R>,
         line: &[u8],
-        buffers: &mut LineBuffers,
+        buffers: &mut CallBuffers,
     ) -> Result<(), AllocError>
         requires listed { core.old.entries ≡ entries_of (start_list_of list.now) }
         ensures all { self.new.all ≡ self.old.all }
         ensures stage { OnOk result (recording_in self.new.stand self.new.awaits core.new
             ≡ recording_behind (recording_in self.old.stand self.old.awaits core.old) line.now) }
         ensures marks { OnOk result (marks_view self.new.marks.marks.items ≡ all_marked
-            (events_in self.old.all self.old.stand.number (recording_in self.old.stand self.old.awaits core.old)
-            (resolved_line None self.old.stand.known line.now)) (marks_view self.old.marks.marks.items)) }
+            (events_in self.old.all (recording_in self.old.stand self.old.awaits core.old)
+            (resolved_at None self.old.stand line.now)) (marks_view self.old.marks.marks.items)) }
         ensures unread { OnOk result (unread_view self.new.unread.items ≡ unread_view self.old.unread.items
-            ++ unread_in self.old.stand.number (resolved_line None self.old.stand.known line.now)) }
+            ++ unread_in self.old.stand.number (resolved_at None self.old.stand line.now)) }
     {
-        let number = self.stand.pass();
-        self.run_passed(list, core, number, line, buffers)?;
-        self.stand.arrive()
+        let run = LineDispatcher { list, only: None };
+        let turn = take_step(&run, core, &self.stand, line, buffers);
+        self.note(line, &turn)?;
+        move_past(&mut self.stand, &turn)
     }
 
-    // Runs a line of this number, after the position has passed it.
-    fn run_passed<R: Router + Drop>(
-        &mut self,
-        list: &StartList,
-        core: &mut Core<R>,
-        number: u64,
-        line: &[u8],
-        buffers: &mut LineBuffers,
-    ) -> Result<(), AllocError>
-        requires listed { core.old.entries ≡ entries_of (start_list_of list.now) }
+    // Records the step of a line, before the position moves past it.
+    fn note(&mut self, line: &[u8], turn: &LineStep<'_>) -> Result<(), AllocError>
+        requires { resolved_view turn.now.resolved ≡ resolved_at None self.old.stand line.now }
         ensures all { self.new.all ≡ self.old.all }
-        ensures turned { OnOk result (StepsTo self.old.all number
-            (resolved_line None self.old.stand.known line.now)
-            (recording_in self.old.stand self.old.awaits core.old) (recording_in self.new.stand self.new.awaits core.new)
-            (marks_view self.old.marks.marks.items) (marks_view self.new.marks.marks.items)) }
+        ensures stand { self.new.stand ≡ self.old.stand }
+        ensures awaits { OnOk result
+            (self.new.awaits ≡ awaits_after self.old.awaits (resolved_view turn.now.resolved)) }
+        ensures marks { (world : World) → AnswersIn None world
+            (calls_in (resolved_view turn.now.resolved)) (answer_of turn.now.answered) →
+            OnOk result (marks_view self.new.marks.marks.items ≡ all_marked
+            (events_in self.old.all (recording_in self.old.stand self.old.awaits world)
+            (resolved_view turn.now.resolved)) (marks_view self.old.marks.marks.items)) }
         ensures unread { OnOk result (unread_view self.new.unread.items ≡ unread_view self.old.unread.items
-            ++ unread_in number (resolved_line None self.old.stand.known line.now)) }
+            ++ unread_in self.old.stand.number (resolved_view turn.now.resolved)) }
     {
-        match resolve(None, self.stand.known(), line, buffers) {
-            ResolvedLine::TooLong => self.miss(number, UnreadReason::TooLong),
-            ResolvedLine::Skipped => Ok(()),
-            ResolvedLine::BadName(fault) => self.miss(number, UnreadReason::Name(fault)),
-            ResolvedLine::Directive(directive) => self.stand.follow(directive),
+        match &turn.resolved {
+            ResolvedLine::TooLong => self.miss(UnreadReason::TooLong),
+            ResolvedLine::BadName(fault) => self.miss(UnreadReason::Name(*fault)),
             ResolvedLine::Misplaced(column, why) => {
-                self.miss(number, UnreadReason::Misplaced(column, why))
+                self.miss(UnreadReason::Misplaced(*column, *why))
             }
-            ResolvedLine::Nothing => Ok(()),
+            ResolvedLine::BadLine(fault) => self.miss(UnreadReason::Fault(*fault)),
             ResolvedLine::Log(_) => {
                 self.awaits = true;
-                self.marks.log(number);
+                self.marks.log(self.stand.number());
                 Ok(())
             }
-            ResolvedLine::Call(call) => self.run_call(list, core, number, line, &call),
-            ResolvedLine::BadLine(fault) => self.miss(number, UnreadReason::Fault(fault)),
+            ResolvedLine::Call(call) => self.note_call(line, call, answer_in(&turn.answered)),
+            ResolvedLine::Skipped | ResolvedLine::Directive(_) | ResolvedLine::Nothing => Ok(()),
         }
     }
 
-    // Runs the call of a line of this number.
-    fn run_call<R: Router + Drop>(
+    // Records the call of a line, if it was answered.
+    fn note_call(
         &mut self,
-        list: &StartList,
-        core: &mut Core<R>,
-        number: u64,
         line: &[u8],
         call: &ScenarioCall<'_>,
+        answer: Option<LineAnswer<'_>>,
     ) -> Result<(), AllocError>
-        requires listed { core.old.entries ≡ entries_of (start_list_of list.now) }
-        requires read { IsReadAs call.now.line.now call.now.call }
-        requires resolved { resolved_line None self.old.stand.known line.now ≡ call_view call.now }
+        requires { resolved_at None self.old.stand line.now ≡ call_view call.now }
         ensures all { self.new.all ≡ self.old.all }
-        ensures turned { OnOk result (StepsTo self.old.all number (call_view call.now)
-            (recording_in self.old.stand self.old.awaits core.old) (recording_in self.new.stand self.new.awaits core.new)
-            (marks_view self.old.marks.marks.items) (marks_view self.new.marks.marks.items)) }
+        ensures stand { self.new.stand ≡ self.old.stand }
+        ensures awaits { self.new.awaits ≡ false }
+        ensures marks { (world : World) → AnswersLine None world call.now.line.now answer.entry →
+            OnOk result (marks_view self.new.marks.marks.items ≡ all_marked
+            (events_in self.old.all (recording_in self.old.stand self.old.awaits world) (call_view call.now))
+            (marks_view self.old.marks.marks.items)) }
         ensures unread { self.new.unread ≡ self.old.unread }
     {
-        let run = LineDispatcher { list, only: None };
-        let Some(answer) = run.answer_read(core, call.line, call.call, &mut self.reply) else {
+        let awaited = self.awaits && !self.all;
+        self.awaits = false;
+        let Some(answer) = answer else {
             return Ok(());
         };
-        let reply = answer.reply;
-        let lines = lines_for(self.awaits && !self.all, answer);
-        let heard = recorded_call(self.stand.known(), line, call, reply, lines);
-        self.marks.hear(number, &heard)?;
-        self.stand.learn(&call.filled, reply)?;
-        self.awaits = false;
-        Ok(())
+        let lines = lines_for(awaited, answer);
+        let heard = recorded_call(self.stand.known(), line, call, answer.reply, lines);
+        self.marks.hear(self.stand.number(), &heard)
     }
 
-    // Records why a line can't be parsed.
-    fn miss(&mut self, number: u64, why: UnreadReason) -> Result<(), AllocError>
+    // Records why the next line can't be parsed.
+    fn miss(&mut self, why: UnreadReason) -> Result<(), AllocError>
         ensures all { self.new.all ≡ self.old.all }
         ensures stand { self.new.stand ≡ self.old.stand }
         ensures awaits { self.new.awaits ≡ self.old.awaits }
         ensures marks { self.new.marks ≡ self.old.marks }
         ensures unread { OnOk result (unread_view self.new.unread.items ≡ unread_view self.old.unread.items
-            ++ record { number = number; line = line_by_reason why } ∷ []) }
+            ++ record { number = self.old.stand.number; line = line_by_reason why } ∷ []) }
     {
+        let number = self.stand.number();
         self.unread.push(UnreadLine { number, why })?;
         Ok(())
     }

@@ -33,23 +33,33 @@ pub(crate) fn put_expected(text: &mut Vec<u8>, lines: &[u8], line: &[u8]) -> Res
 
 /// Returns a line with this expected reply in place of its own, and its other bytes unchanged. The error is that the host is out
 /// of memory.
-#[tactic(auto, unfolding(crate::specs::Recorded::expecting))]
 pub(crate) fn expecting(alloc: Global, line: &[u8], reply: &[u8]) -> Result<Vec<u8>, AllocError>
     ensures { IfOk result (λ new. new.items ≡ expecting line.now reply.now) }
 {
     let mut new = Vec::new(alloc);
-    new.extend_from_slice(first(call_end(line), line))?;
-    new.extend_from_slice(b" => ")?;
-    new.extend_from_slice(reply)?;
-    new.extend_from_slice(behind(end_of(line), line))?;
+    put_expecting(&mut new, line, reply)?;
     Ok(new)
 }
 
-// Returns the end of a line's call: before its expectation and its comment.
-fn call_end(line: &[u8]) -> usize
-    ensures { result ≡ call_end line.now }
+/// Writes a line with this expected reply in place of its own, and its other bytes unchanged. The error is that the host is out
+/// of memory.
+#[tactic(auto, unfolding(crate::specs::Recorded::expecting))]
+pub(crate) fn put_expecting(text: &mut Vec<u8>, line: &[u8], reply: &[u8]) -> Result<(), AllocError>
+    ensures { OnOk result (text.new.items ≡ text.old.items ++ expecting line.now reply.now) }
 {
     let end = end_of(line);
+    text.extend_from_slice(first(call_end(line, end), line))?;
+    text.extend_from_slice(b" => ")?;
+    text.extend_from_slice(reply)?;
+    text.extend_from_slice(behind(end, line))?;
+    Ok(())
+}
+
+// Returns the end of a line's call, before its expectation and its comment, which begins at `end`.
+fn call_end(line: &[u8], end: usize) -> usize
+    requires { end ≡ end_of line.now }
+    ensures { result ≡ call_end line.now }
+{
     match arrow_of(first(end, line)) {
         Some(place) => place,
         None => end,

@@ -13,3 +13,4 @@ pub mod TextLemmas
 pub mod TurnLemmas
 pub mod WriteLemmas
 pub mod RunReportLemmas
+pub mod StepLemmas

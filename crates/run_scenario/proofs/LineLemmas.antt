@@ -94,7 +94,7 @@ module _ {only : Option (List ℕ)} {tells : World → List (List ℕ) → ℕ �
 
 -- ---- what is complained of it, and what comes of it
 
-answers_in : (only : Option (List ℕ)) (world : World) (number : ℕ) (calls : List (List ℕ)) (o : Option ObservedCall) → IsAnsweredCall only world number calls o → AnswersIn only world calls (answer_of o)
+pub answers_in : (only : Option (List ℕ)) (world : World) (number : ℕ) (calls : List (List ℕ)) (o : Option ObservedCall) → IsAnsweredCall only world number calls o → AnswersIn only world calls (answer_of o)
 answers_in only world number calls (Some it) is = (it.line.now, is.said, is.answers)
 answers_in only world number calls None none = none
 

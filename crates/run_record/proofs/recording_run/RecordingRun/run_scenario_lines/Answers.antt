@@ -1,4 +1,4 @@
--- A line more is played, and then no line is left.
+-- A line more is run, and then no line is left.
 use Rattle.std.proofs.Common.{◌++◌, ap, sym, ◌∙◌}
 use Rattle.std.specs.Option.{option_copied}
 use Rattle.run_record.specs.Marked.{all_marked}
@@ -6,7 +6,7 @@ use Rattle.run_record.specs.Pieces.{pieces_in}
 use Rattle.run_record.specs.RecordedCalls.{events}
 use Rattle.run_record.specs.Unread.{unread_from, unread_view}
 use Rattle.run_record.specs.Views.{marks_view, recording_in}
-use Rattle.run_record.proofs.RecordedLemmas.{entries_behind, one_more}
+use Rattle.run_record.proofs.RecordedLemmas.{one_more}
 use Rattle.run_record.proofs.UnreadLemmas.{unread_more}
 use Rattle.run_record.proofs.recording_run.RecordingRun.run_scenario_lines.Goals as goal
 
@@ -18,16 +18,14 @@ loop-rest-preserved g c = record {
       (c.loop-rest.invariant.marked
       ∙ ap (λ rest. all_marked (events c.loop-rest.self.all (recording_in c.loop-rest.self.stand c.loop-rest.self.awaits c.loop-rest.core) (pieces_in (option_copied rest)))
       (marks_view c.loop-rest.self.marks.marks.items)) c.in-Some.is)
-      c.first_piece.ensures.pieces c.in_ok-play.ensures.marks c.in_ok-play.ensures.all c.in_ok-play.ensures.stage;
+      c.first_piece.ensures.pieces c.in_ok-run_line.ensures.marks c.in_ok-run_line.ensures.all c.in_ok-run_line.ensures.stage;
   unread =
       unread_more _ _ _ (recording_in c.loop-rest.self.stand c.loop-rest.self.awaits c.loop-rest.core) _ c.in-Some.text.now c.first_piece.result.0.now
       (pieces_in (option_copied c.first_piece.result.1))
       (ap (λ rest. unread_view c.loop-rest.self.unread.items
       ++ unread_from (recording_in c.loop-rest.self.stand c.loop-rest.self.awaits c.loop-rest.core) (pieces_in (option_copied rest))) (sym c.in-Some.is)
       ∙ c.loop-rest.invariant.unread)
-      c.first_piece.ensures.pieces c.in_ok-play.ensures.unread c.in_ok-play.ensures.stage;
-  all = c.in_ok-play.ensures.all ∙ c.loop-rest.invariant.all;
-  listed =
-      ap (λ s. s.world.entries) c.in_ok-play.ensures.stage
-      ∙ entries_behind (recording_in c.loop-rest.self.stand c.loop-rest.self.awaits c.loop-rest.core) c.first_piece.result.0.now ∙ c.loop-rest.invariant.listed;
+      c.first_piece.ensures.pieces c.in_ok-run_line.ensures.unread c.in_ok-run_line.ensures.stage;
+  all = c.in_ok-run_line.ensures.all ∙ c.loop-rest.invariant.all;
+  listed = ap (λ s. s.world.entries) c.in_ok-run_line.ensures.stage ∙ c.loop-rest.invariant.listed;
 }
