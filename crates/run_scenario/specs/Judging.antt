@@ -57,6 +57,11 @@ is_unknown reply = bytes_eq reply (refusal_name UnknownComponent)
 abbrev pub is_unknown_call : Bool → List ℕ → Bool
 is_unknown_call passed reply = is_unknown reply && not passed
 
+-- the name of an answered call is unknown
+abbrev pub is_unknown_in : Option AnswerText → Bool
+is_unknown_in None = false
+is_unknown_in (Some answer) = is_unknown answer.reply
+
 -- an answer differs from its expectation: its reply doesn't match, or it has other log lines. Without an expected reply, it
 -- differs if log lines are expected or the call's name is unknown. A skipped call never differs
 abbrev pub is_other : Bool → Option (List ℕ) → Option AnswerText → Awaited → Bool

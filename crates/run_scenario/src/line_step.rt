@@ -88,7 +88,9 @@ where
     }
 }
 
-/// Answers a call in a plain line at a position of the run, or nothing if the call is skipped.
+/// Answers a call in a plain line at a position of the run, or nothing if the call is skipped. The function isn't inlined, so that
+/// its result is written in its place once.
+#[inline(never)]
 pub fn answer_plain<'a, 'b, R: Router + Drop>(
     run: &LineDispatcher<'a>,
     core: &mut Core<R>,
@@ -110,6 +112,7 @@ where
 }
 
 // Answers the engine's line of a line at a position of the run. `call` is what was parsed of it.
+#[inline(always)]
 fn answer<'a, 'b, R: Router + Drop>(
     run: &LineDispatcher<'a>,
     core: &mut Core<R>,
@@ -145,6 +148,16 @@ pub fn answer_in<'a>(heard: &Option<ObservedCall<'a>>) -> Option<LineAnswer<'a>>
 {
     match heard {
         Some(heard) => Some(heard.answer),
+        None => None,
+    }
+}
+
+/// Borrows the answer to a call, if the call was answered.
+pub fn answer_of<'x, 'a>(heard: &'x Option<ObservedCall<'a>>) -> Option<&'x LineAnswer<'a>>
+    ensures { option_copied result ≡ answer_of heard.now }
+{
+    match heard {
+        Some(heard) => Some(&heard.answer),
         None => None,
     }
 }

@@ -15,7 +15,7 @@ ghost use Rattle.view_diagnostics.specs.Diagnostics.{subject_at};
 ghost use Rattle.line_steps.specs.ResolvedLines.{is_skipped};
 
 use crate::call_observer::CallObserver;
-use crate::line_step::{CallBuffers, LineStep, answer_plain, report_call, take_step};
+use crate::line_step::{CallBuffers, LineStep, answer_of, answer_plain, report_call, take_step};
 use crate::scenario_state::ScenarioState;
 use line_friendly::plain_call;
 use line_steps::{ResolvedLine, is_skipped};
@@ -93,7 +93,7 @@ impl<W: CallObserver, E: Sink> ScenarioRunner<'_, '_, '_, '_, '_, '_, '_, W, E> 
             (E.contents self.new.complaints.now)) }
     {
         match plain_call(line) {
-            Some(call) if !is_skipped(self.run.only, line) => {
+            Some(call) if !skips(self.run.only, line) => {
                 self.run_plain_line(core, line, call, gathered, writer)
             }
             _ => self.run_any_line(core, line, gathered, writer),
@@ -143,7 +143,10 @@ impl<W: CallObserver, E: Sink> ScenarioRunner<'_, '_, '_, '_, '_, '_, '_, W, E> 
         let list = self.run.list;
         let heard = answer_plain(self.run, core, &self.notes.stand, line, call, self.rooms);
         match report_call(self.watch, core, list, &heard, gathered, writer) {
-            Ok(()) => self.notes.take_plain(list, line, &heard, self.complaints),
+            Ok(()) => {
+                self.notes
+                    .take_plain(list, line, answer_of(&heard), self.complaints)
+            }
             Err(fault) => Err(fault),
         }
     }
@@ -248,6 +251,16 @@ impl<W: CallObserver, E: Sink> LineHandler for ScenarioRunner<'_, '_, '_, '_, '_
             .notes
             .take_in(self.run.list, b"", &turn, self.complaints);
         count(&mut self.complained, judged)
+    }
+}
+
+// Returns whether a line is skipped if the lines of the component `only` alone are run. If all lines are run, none is read.
+fn skips(only: Option<&[u8]>, line: &[u8]) -> bool
+    ensures { result ≡ is_skipped (option_copied only.entry) line.now }
+{
+    match only {
+        Some(_) => is_skipped(only, line),
+        None => false,
     }
 }
 

@@ -16,7 +16,6 @@ ghost use Rattle.run_scenario.specs.RunReports.{line_report, scope_of};
 ghost use Rattle.view_diagnostics.specs.Diagnostics.{subject_at};
 ghost use Rattle.run_lines.specs.declared.line_run_fault.LineRunFault.TheVariants.{NoMemory as NoRoom};
 
-use crate::call_observer::ObservedCall;
 use crate::line_step::{LineStep, answer_in};
 use crate::reply_checker::ReplyChecker;
 use crate::source_line::{JudgedLine, SourceLine};
@@ -133,39 +132,35 @@ impl<'a> ScenarioState<'a> {
         }
     }
 
-    /// Accepts a plain call on the machine of a list: checks its answer, and enters and leaves the rounds after it. Returns
+    /// Accepts a plain call on the machine of a list: checks its answer, if it was answered, and enters and leaves the rounds after it. Returns
     /// whether the line has an error. The error is a failed write or that the host is out of memory.
     pub fn take_plain<E: Sink>(
         &mut self,
         list: &StartList,
         line: &[u8],
-        heard: &Option<ObservedCall<'_>>,
+        answer: Option<&LineAnswer<'_>>,
         complaints: &mut E,
     ) -> Result<bool, LineRunFault>
         requires works { E.has_failed complaints.old ≡ false }
         ensures judged { IfOk result (λ complained. complained ≡ is_complained
-            (plain_line line.now) (text_in (answer_of heard.now)) self.old.critic.expected) }
+            (plain_line line.now) (text_in (option_copied answer.entry)) self.old.critic.expected) }
         ensures expects { OnOk result (self.new.critic.expected ≡ awaited_after
             self.old.stand.number (plain_line line.now) self.old.critic.expected) }
         ensures stands { OnOk result (Arrives self.old.stand
-            (plain_line line.now) (answer_of heard.now) self.new.stand) }
+            (plain_line line.now) (option_copied answer.entry) self.new.stand) }
         ensures failing { Fails result (E.has_failed complaints.new)
             (takes_memory false (plain_line line.now) || crosses self.old.stand) }
         ensures reports { OnOk result (Appends (E.contents complaints.old) (E.contents complaints.new)
             (line_report (scope_of (subject_at self.old.critic.scenario) list.now) self.old.stand
-            line.now (plain_line line.now) (answer_of heard.now) self.old.critic.expected)) }
+            line.now (plain_line line.now) (option_copied answer.entry) self.old.critic.expected)) }
         ensures subject { subject_at self.new.critic.scenario ≡ subject_at self.old.critic.scenario }
     {
         let number = self.stand.pass();
-        let asked = JudgedLine {
-            given: SourceLine { number, line },
-            line,
-            reply: None,
-        };
+        let asked = SourceLine { number, line };
         let known = self.stand.known();
         match self
             .critic
-            .judge(list, asked, known, answer_in(heard), complaints)
+            .judge_plain(list, asked, known, answer, complaints)
         {
             Ok(complained) => self.arrive(complained),
             Err(fault) => Err(fault),
@@ -173,6 +168,7 @@ impl<'a> ScenarioState<'a> {
     }
 
     // Enters and leaves the rounds after a line.
+    #[inline]
     fn arrive(&mut self, complained: bool) -> Result<bool, LineRunFault>
         ensures judged { IfOk result (λ judged. judged ≡ complained) }
         ensures fault { IfErr result (λ fault. fault ≡ NoRoom) }

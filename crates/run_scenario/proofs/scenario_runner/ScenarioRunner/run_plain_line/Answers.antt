@@ -13,7 +13,7 @@ returns-in-Ok-clause-plays g c =
     plays_as (resolved_plain (option_copied c.args.self.now.run.now.only) c.args.self.now.notes.now.stand c.args.line.now c.requires.short c.requires.own c.requires.bare c.requires.plain)
     (turn_judged _ _ (plain_line c.args.line.now) c.answer_plain-heard.result heard c.take_plain.result
     (c.in-Ok.ensures.hears (option_copied c.args.self.now.run.now.only) c.args.self.now.notes.now.stand.number c.args.core.now _ c.answer_plain-heard.ensures.world heard)
-    c.in-Ok.ensures.failing c.take_plain.ensures.judged c.take_plain.ensures.expects c.take_plain.ensures.stands c.take_plain.ensures.failing)
+    c.in-Ok.ensures.failing (rw c.answer_of.ensures at c.take_plain.ensures.judged) c.take_plain.ensures.expects (rw c.answer_of.ensures at c.take_plain.ensures.stands) c.take_plain.ensures.failing)
 
 pub returns-in-Err-clause-plays : goal.returns-in-Err-clause-plays
 returns-in-Err-clause-plays g c =
@@ -28,4 +28,4 @@ returns-in-Ok-clause-reports g c =
     reports_line (scope_of (subject_at c.args.self.now.notes.now.critic.scenario) c.args.self.now.run.now.list.now) (option_copied c.args.self.now.run.now.only) c.args.core.now c.args.self.now.notes.now.stand c.args.line.now c.args.self.now.notes.now.critic.expected
     (g.E.Sink.contents c.args.self.now.complaints.now) (g.E.Sink.contents c.take_plain.new.complaints) (plain_line c.args.line.now) c.answer_plain-heard.result c.take_plain.result
     (resolved_plain (option_copied c.args.self.now.run.now.only) c.args.self.now.notes.now.stand c.args.line.now c.requires.short c.requires.own c.requires.bare c.requires.plain)
-    c.answer_plain-heard.ensures.heard c.take_plain.ensures.reports
+    c.answer_plain-heard.ensures.heard (rw c.answer_of.ensures at c.take_plain.ensures.reports)
