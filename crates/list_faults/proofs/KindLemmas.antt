@@ -1,6 +1,7 @@
 -- Where the engine reads no kinds of a list.
 use Rattle.std.proofs.Common.{◌≡◌, ◌<◌, ℕ, ◌+◌, true, false, cond, Bool, List, [], ◌∷◌, ◌++◌, codes, drop, get_or, is_some, length, map, not, take, Option, Some, None, refl, sym, ap, ◌∙◌, ◌||◌, arith, add-one}
 use Rattle.std.specs.Prelude.{find, if◌then◌else◌}
+use Rattle.std.specs.Cmp.{both_ways}
 use Rattle.std.specs.List.{list_any}
 use Rattle.std.specs.Option.{option_and_then, option_or}
 use Rattle.std.specs.Str.{bytes_eq}
@@ -51,15 +52,9 @@ find_any p (x ∷ xs) = by_test (p x) (find_any p xs) where
   by_test true rest = refl
   by_test false rest = rest
 
--- two tests that pass together
-same_test : (x y : Bool) → (x ≡ true → y ≡ true) → (y ≡ true → x ≡ true) → x ≡ y
-same_test true y there back = sym (there refl)
-same_test false true there back = back refl
-same_test false false there back = refl
-
 bytes_eq-sym : (a b : List ℕ) → bytes_eq a b ≡ bytes_eq b a
 bytes_eq-sym a b =
-    same_test (bytes_eq a b) (bytes_eq b a) (λ is. (bytes_eq-Decides b a).1 (sym ((bytes_eq-Decides a b).0 is)))
+    both_ways (bytes_eq a b) (bytes_eq b a) (λ is. (bytes_eq-Decides b a).1 (sym ((bytes_eq-Decides a b).0 is)))
     (λ is. (bytes_eq-Decides a b).1 (sym ((bytes_eq-Decides b a).0 is)))
 
 -- values and the kinds that they are have the same names

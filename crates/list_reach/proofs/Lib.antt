@@ -1,8 +1,9 @@
+pub mod AdditionLemmas
 pub mod TableLemmas
-pub mod DecisionLemmas
+mod SummaryLemmas
 pub mod ServiceLemmas
 pub mod TrailLemmas
 pub mod WaysLemmas
 pub mod WishLemmas
-mod NamedLemmas
+pub mod NamedLemmas
 pub mod ComparisonLemmas

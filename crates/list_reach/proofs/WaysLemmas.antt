@@ -11,6 +11,7 @@ use Rattle.list_labels.specs.Closure.{KeptLabel}
 use Rattle.list_reach.specs.ClientReach.{AreRoutes, IsBest, IsLeast, is_child, is_shorter, leads}
 use Rattle.list_labels.specs.LabelRanges.{AskedLabel}
 use Rattle.list_labels.specs.Representatives.{IsTold, IsToldIn, RepresentAll, RepresentRange}
+use Rattle.list_labels.specs.GivenLabels.{IsGiven}
 use Rattle.list_reach.specs.RangeReach.{IsShortestInRange, NoneRoutedInRange}
 
 -- ---- from labels that stand for all others
@@ -226,3 +227,11 @@ range_shortest range list client service kept server place one best is stand =
           let there : is_child server any.1.child ≡ true = is_child_of server any.1.child (any.4.alike ∙ leads_there) in
           least_at kept server place one any.1 any.0 best is any.2 any.3 there (length other) any.4.short;
     }
+
+-- ---- if all labels are routed to a server, the empty one is a shortest
+
+pub empty_is_shortest : (list : Listed) (client : ℕ) (service : List ℕ) (server : ℕ) → AllRouted list client service server
+    → IsShortest list client service server []
+empty_is_shortest list client service server all =
+    let given : IsGiven [] = record { short = omega arith; plain = refl } in
+    record { given = given; leads = all [] given; least = λ other is leads. omega arith }

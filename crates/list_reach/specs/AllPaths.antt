@@ -1,8 +1,9 @@
 -- All paths from selected scripts to selected servers.
-use Rattle.std.specs.Prelude.{◌≡◌, ℕ, Bool, List, [], ◌∷◌, ◌++◌, map, if◌then◌else◌, Option, Some, None, All}
+use Rattle.std.specs.Prelude.{◌≡◌, ℕ, Bool, List, [], ◌∷◌, map, if◌then◌else◌, Option, Some, None, All}
 use Rattle.std.specs.List.{flat_map}
 use Rattle.std.specs.Option.{option_and_then, option_map_or}
 use Rattle.own_model.specs.Listed.{Listed}
+use Rattle.list_reach.specs.Additions.{AddsBy}
 use Rattle.list_reach.specs.Deciding.{DecisionAt}
 use Rattle.list_reach.specs.ScriptDecisions.{AreAllDecisions}
 use Rattle.list_reach.specs.Table.{IsReachPath}
@@ -33,9 +34,8 @@ abbrev pub reached_of : (ℕ → Bool) → ScriptDecisions → List Reached
 reached_of servers one = flat_map (reached servers one.client one.service.now) one.decisions
 
 -- paths for these are added, and each is one by the rules of its label
-pub record AddsPaths (list : Listed) (old : List ReachPath) (more : List Reached) (new : List ReachPath) : Type 0 where
-  pub added : map reached_by new ≡ map reached_by old ++ more
-  pub told : All (IsReachPath list) new
+abbrev pub AddsPaths : Listed → List ReachPath → List Reached → List ReachPath → Type 0
+AddsPaths list old more new = AddsBy reached_by (IsReachPath list) old more new
 
 -- the paths are those of all decisions on all requests of the selected scripts that route to a selected server, in order
 pub record AreAllPaths (list : Listed) (scripts servers : ℕ → Bool) (ways : List ReachPath) : Type 0 where

@@ -2,8 +2,10 @@ pub mod Reach
 pub mod ClientReach
 pub mod RangeReach
 pub mod Table
+pub mod Additions
 pub mod Rows
 pub mod RouteQuery
+pub mod RuleTexts
 pub mod ScriptDecisions
 pub mod AllPaths
 pub mod Paths

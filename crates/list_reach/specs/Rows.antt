@@ -1,8 +1,9 @@
 -- What a table has rows for: each selected script, each service, and each selected server that provides it.
-use Rattle.std.specs.Prelude.{◌≡◌, ℕ, ◌&&◌, Bool, List, [], ◌∷◌, ◌++◌, map, if◌then◌else◌, All}
+use Rattle.std.specs.Prelude.{ℕ, ◌&&◌, Bool, List, [], ◌∷◌, if◌then◌else◌}
 use Rattle.std.specs.List.{enumerate_from, flat_map}
 use Rattle.own_model.specs.Listed.{Listed, ListedEntry, offers, services_of}
 use Rattle.list_parser.specs.Depth.{runs_script}
+use Rattle.list_reach.specs.Additions.{AddsBy}
 use Rattle.list_reach.specs.Table.{IsTrue}
 use Rattle.list_reach.specs.declared.reach_table.ReachCell.{ReachCell}
 
@@ -36,6 +37,5 @@ abbrev pub rows : Listed → (ℕ → Bool) → (ℕ → Bool) → List Row
 rows list scripts servers = flat_map (script_rows list scripts servers) (enumerate_from 0 list.entries)
 
 -- cells for these rows are added, and each cell is true
-pub record AddsRows (list : Listed) (old : List ReachCell) (more : List Row) (new : List ReachCell) : Type 0 where
-  pub added : map row_of new ≡ map row_of old ++ more
-  pub told : All (IsTrue list) new
+abbrev pub AddsRows : Listed → List ReachCell → List Row → List ReachCell → Type 0
+AddsRows list old more new = AddsBy row_of (IsTrue list) old more new

@@ -1,8 +1,9 @@
 -- The decisions on the requests of all selected scripts, for every service.
-use Rattle.std.specs.Prelude.{◌≡◌, ℕ, ◌<◌, ◌&&◌, Bool, true, List, [], ◌++◌, length, map, if◌then◌else◌, Some, All}
+use Rattle.std.specs.Prelude.{◌≡◌, ℕ, ◌<◌, ◌&&◌, Bool, true, List, [], length, map, if◌then◌else◌, Some, All}
 use Rattle.std.specs.List.{enumerate_from, flat_map, slice_get}
 use Rattle.own_model.specs.Listed.{Listed, ListedEntry, services_of}
 use Rattle.list_parser.specs.Depth.{runs_script}
+use Rattle.list_reach.specs.Additions.{AddsBy}
 use Rattle.list_reach.specs.Deciding.{AreDecisions}
 use Rattle.list_reach.specs.declared.script_decisions.ScriptDecisions.{ScriptDecisions}
 
@@ -29,9 +30,8 @@ pub record IsDecided (list : Listed) (one : ScriptDecisions) : Type 0 where
   pub decisions : AreDecisions list one.client one.service.now one.decisions
 
 -- decisions for these askings are added, and all are decisions
-pub record AddsDecisions (list : Listed) (old : List ScriptDecisions) (more : List Asking) (new : List ScriptDecisions) : Type 0 where
-  pub added : map asking_of new ≡ map asking_of old ++ more
-  pub decided : All (IsDecided list) new
+abbrev pub AddsDecisions : Listed → List ScriptDecisions → List Asking → List ScriptDecisions → Type 0
+AddsDecisions list old more new = AddsBy asking_of (IsDecided list) old more new
 
 -- each selected script has its decisions for each service, in order
 pub record AreAllDecisions (list : Listed) (scripts : ℕ → Bool) (found : List ScriptDecisions) : Type 0 where

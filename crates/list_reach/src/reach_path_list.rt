@@ -68,7 +68,7 @@ impl<'a> ReachPathList<'a> {
 }
 
 // Adds the paths of the decisions on a script's requests for a service.
-#[tactic(auto, using(crate::proofs::TableLemmas::paths_none, crate::proofs::TableLemmas::paths_then))]
+#[tactic(auto, using(crate::proofs::AdditionLemmas::adds_none, crate::proofs::AdditionLemmas::adds_then))]
 fn add_paths<'a>(
     alloc: Global,
     ways: &mut Vec<ReachPath<'a>>,
@@ -89,7 +89,7 @@ fn add_paths<'a>(
 }
 
 // Adds the path of a decision on a script's requests for a service, if it routes to a selected server.
-#[tactic(auto, using(crate::proofs::TableLemmas::paths_none, crate::proofs::TableLemmas::paths_one))]
+#[tactic(auto, using(crate::proofs::AdditionLemmas::adds_none, crate::proofs::AdditionLemmas::adds_one))]
 fn add_path<'a>(
     alloc: Global,
     ways: &mut Vec<ReachPath<'a>>,

@@ -1,9 +1,11 @@
 //! Which scripts reach which servers, as a table.
-ghost use Rattle.std.specs.Prelude.{◌≡◌, ◌<◌, [], ◌∷◌, length, map, All, IfOk, OnOk};
+ghost use Rattle.std.specs.Prelude.{◌≡◌, ◌<◌, [], ◌∷◌, length, map, All, IfOk, MatchOption, OnOk};
 ghost use Rattle.std.specs.List.{enumerate_from, flat_map};
-ghost use Rattle.own_model.specs.Listed.{services_of};
+ghost use Rattle.std.specs.Option.{option_copied};
+ghost use Rattle.own_model.specs.Listed.{Listed, services_of};
 ghost use Rattle.list_reach.specs.Paths.{is_chosen};
 ghost use Rattle.list_reach.specs.Rows.{AddsRows, provider_rows, row_of, rows, script_rows, service_rows};
+ghost use Rattle.list_reach.specs.Reach.{IsShortest, NoneRouted};
 ghost use Rattle.list_reach.specs.Table.{IsTrue};
 ghost use Rattle.list_reach.specs.ClientReach.{AreRoutes};
 
@@ -41,7 +43,12 @@ pub struct ReachCell<'a> {
 
 impl ReachCell<'_> {
     /// Returns one of the shortest labels that are routed to the server, or none if no label is.
-    pub fn witness(&self) -> Option<&[u8]> {
+    #[tactic(auto, using(crate::proofs::WaysLemmas::empty_is_shortest))]
+    pub fn witness(&self) -> Option<&[u8]>
+        ensures { (list : Listed) → IsTrue list self.now → MatchOption (option_copied result)
+            (NoneRouted list self.now.client self.now.service.now self.now.server)
+            (IsShortest list self.now.client self.now.service.now self.now.server) }
+    {
         match &self.reach {
             Reach::Always => Some(&[]),
             Reach::By(label) => Some(label.as_bytes()),
@@ -123,7 +130,7 @@ impl<'a> ReachTable<'a> {
 }
 
 // Adds the cells of an entry, if it is a selected script.
-#[tactic(auto, using(crate::proofs::TableLemmas::adds_none))]
+#[tactic(auto, using(crate::proofs::AdditionLemmas::adds_none))]
 fn add_script<'a>(
     alloc: Global,
     cells: &mut Vec<ReachCell<'a>>,
@@ -146,7 +153,7 @@ fn add_script<'a>(
 }
 
 // Adds the cells of a script.
-#[tactic(auto, using(crate::proofs::TableLemmas::adds_none, crate::proofs::TableLemmas::adds_then))]
+#[tactic(auto, using(crate::proofs::AdditionLemmas::adds_none, crate::proofs::AdditionLemmas::adds_then))]
 fn add_services<'a>(
     alloc: Global,
     cells: &mut Vec<ReachCell<'a>>,
@@ -200,7 +207,7 @@ fn add_service<'a>(
 }
 
 // Adds the cells of a script for one service, by the reach of its requests.
-#[tactic(auto, using(crate::proofs::TableLemmas::adds_none, crate::proofs::TableLemmas::adds_then))]
+#[tactic(auto, using(crate::proofs::AdditionLemmas::adds_none, crate::proofs::AdditionLemmas::adds_then))]
 fn add_cells<'a>(
     cells: &mut Vec<ReachCell<'a>>,
     chosen: &ReachFilter,
@@ -223,7 +230,7 @@ fn add_cells<'a>(
 }
 
 // Adds the cell of a script and a server.
-#[tactic(auto, using(crate::proofs::TableLemmas::adds_one))]
+#[tactic(auto, using(crate::proofs::AdditionLemmas::adds_one))]
 fn add_cell<'a>(
     cells: &mut Vec<ReachCell<'a>>,
     found: &ServiceReach<'a>,

@@ -66,7 +66,7 @@ impl<'a> ScriptDecisions<'a> {
 }
 
 // Adds the decisions of an entry, if it is a selected script.
-#[tactic(auto, using(crate::proofs::DecisionLemmas::decides_none))]
+#[tactic(auto, using(crate::proofs::AdditionLemmas::adds_none))]
 fn add_script<'a>(
     alloc: Global,
     found: &mut Vec<ScriptDecisions<'a>>,
@@ -89,7 +89,7 @@ fn add_script<'a>(
 }
 
 // Adds the decisions of a script.
-#[tactic(auto, using(crate::proofs::DecisionLemmas::decides_none, crate::proofs::DecisionLemmas::decides_then))]
+#[tactic(auto, using(crate::proofs::AdditionLemmas::adds_none, crate::proofs::AdditionLemmas::adds_then))]
 fn add_services<'a>(
     alloc: Global,
     found: &mut Vec<ScriptDecisions<'a>>,
@@ -112,7 +112,7 @@ fn add_services<'a>(
 }
 
 // Adds the decisions of a script for one service.
-#[tactic(auto, using(crate::proofs::DecisionLemmas::decides_one))]
+#[tactic(auto, using(crate::proofs::AdditionLemmas::adds_one))]
 fn add_service<'a>(
     alloc: Global,
     found: &mut Vec<ScriptDecisions<'a>>,

@@ -1,4 +1,7 @@
 //! Pieces of lines: components by their paths, and rules by their places.
+ghost use Rattle.std.specs.Prelude.{◌≡◌, Some};
+ghost use Rattle.list_reach.specs.RuleTexts.{entry_rule_text, rule_text};
+
 use list_parser::{ListEntry, StartList};
 use std::fmt::{self, Display};
 
@@ -34,12 +37,17 @@ pub(crate) struct RuleText<'a> {
 
 impl<'a> RuleText<'a> {
     /// Returns the text of the rule for an entry at a place.
-    pub(crate) fn of(entry: &'a ListEntry, place: Option<usize>) -> RuleText<'a> {
+    pub(crate) fn of(entry: &'a ListEntry, place: Option<usize>) -> RuleText<'a>
+        ensures entry { result.entry.now ≡ entry.now }
+        ensures place { result.place ≡ place }
+    {
         RuleText { entry, place }
     }
 }
 
 impl fmt::Display for RuleText<'_> {
+    ghost output = { λ text. Some (rule_text text.entry.now text.place) };
+
     fn fmt<W: fmt::Write>(&self, f: &mut fmt::Formatter<W>) -> fmt::Result {
         match self.place {
             Some(place) => write!(f, "{}[{place}]", self.entry.route_name()),
@@ -56,7 +64,10 @@ pub(crate) struct EntryRuleText<'a> {
 
 impl<'a> EntryRuleText<'a> {
     /// Returns the text of the rule for an entry at a place.
-    pub(crate) fn of(entry: &'a ListEntry, place: Option<usize>) -> EntryRuleText<'a> {
+    pub(crate) fn of(entry: &'a ListEntry, place: Option<usize>) -> EntryRuleText<'a>
+        ensures entry { result.rule.entry.now ≡ entry.now }
+        ensures place { result.rule.place ≡ place }
+    {
         EntryRuleText {
             rule: RuleText::of(entry, place),
         }
@@ -64,7 +75,10 @@ impl<'a> EntryRuleText<'a> {
 }
 
 impl fmt::Display for EntryRuleText<'_> {
+    ghost output = { λ text. Some (entry_rule_text text.rule.entry.now text.rule.place) };
+
     fn fmt<W: fmt::Write>(&self, f: &mut fmt::Formatter<W>) -> fmt::Result {
-        write!(f, "{} for {}", self.rule, self.rule.entry.to_path())
+        let path = self.rule.entry.to_path();
+        write!(f, "{} for {}", self.rule, path.as_str())
     }
 }

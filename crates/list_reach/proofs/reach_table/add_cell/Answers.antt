@@ -1,7 +1,8 @@
 -- One cell more.
 use Rattle.std.proofs.Common.{[], ◌∷◌, subst, sym}
-use Rattle.list_reach.specs.Rows.{AddsRows, Row}
-use Rattle.list_reach.proofs.TableLemmas.{adds_one}
+use Rattle.list_reach.specs.Rows.{AddsRows, Row, row_of}
+use Rattle.list_reach.specs.Table.{IsTrue}
+use Rattle.list_reach.proofs.AdditionLemmas.{adds_one}
 use Rattle.list_reach.proofs.reach_table.add_cell.Goals as goal
 
 pub returns : goal.returns
@@ -9,5 +10,5 @@ returns c =
     let found = c.args.found.now in
     let row : Row = record { client = found.client; service = found.service.now; server = c.args.server } in
     subst (λ cells. AddsRows found.list.now c.args.cells.now.items (row ∷ []) cells) (sym c.in_ok-push.ensures.items)
-    (adds_one found.list.now c.args.cells.now.items _ c.requires.cells
+    (adds_one row_of (IsTrue found.list.now) c.args.cells.now.items _ c.requires.cells
     (c.reach-reach.ensures found.list.now found.client found.service.now c.requires.ways))

@@ -12,5 +12,5 @@ loop-number-preserved c = record {
       one_service_more (service_rows c.args.list.now (is_chosen c.args.chosen.now.to.items) c.args.client) (services_of c.args.list.now.entries)
       c.loop-number.number c.service_name-service.result.now (map row_of c.loop-number.cells.items) _ _
       c.service_name-service.ensures c.in_ok-add_service.ensures.added c.loop-number.invariant.added;
-  told = c.in_ok-add_service.ensures.told;
+  told = c.in_ok-add_service.ensures.sound;
 }
