@@ -2,6 +2,7 @@ mod BinaryLemmas
 mod AccessLemmas
 mod BreachLemmas
 mod NewBreachLemmas
+mod EachLemmas
 mod PairLemmas
 mod ReachLemmas
 mod ReplyLemmas

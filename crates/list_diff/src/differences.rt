@@ -1,16 +1,21 @@
 //! Differences as people read them.
-ghost use Rattle.std.specs.Prelude.{◌≡◌};
+ghost use Rattle.std.specs.Prelude.{◌≡◌, ◌++◌, IfOk, OnOk};
+ghost use Rattle.std.specs.List.{flat_map};
+ghost use Rattle.list_diff.specs.BreachTexts.{IsBreachLine};
+ghost use Rattle.list_diff.specs.DifferenceTexts.{AddsEach, AreLines, change_line, machine_line, machine_text};
 ghost use Rattle.list_diff.specs.Differences.{nothing_differs, same_machine};
+ghost use Rattle.list_diff.specs.NeedTexts.{need_line};
+ghost use Rattle.list_diff.specs.ReachTexts.{IsReachLine};
+ghost use Rattle.list_diff.specs.ReplyTexts.{reply_line};
 
 use crate::entry_changes::EntryChange;
+use crate::entry_texts::add_change;
 use crate::need_changes::NeedChange;
 use crate::policy_breaches::BreachChange;
 use crate::reach_changes::ReachChange;
 use crate::reply_changes::ReplyChange;
-use list_parser::{Binary, ListEntry, StartList};
-use object_kinds::ObjectKind;
+use list_parser::StartList;
 use std::alloc::{AllocError, Global};
-use std::fmt::{self, Display};
 
 /// The differences between two start lists, and between the runs of a scenario on both.
 #[derive(Clone, Copy)]
@@ -36,7 +41,7 @@ impl ListDifferences<'_> {
     pub fn is_empty(&self) -> bool
         ensures { result ≡ nothing_differs self.now }
     {
-        self.has_same_machine()
+        has_same_machine(self.before, self.after)
             && self.changes.is_empty()
             && self.leads.is_empty()
             && self.breaches.is_empty()
@@ -44,132 +49,117 @@ impl ListDifferences<'_> {
             && self.replies.is_empty()
     }
 
-    /// Returns whether both lists have the same pages and capabilities.
-    pub(crate) fn has_same_machine(&self) -> bool
-        ensures { result ≡ same_machine self.now.before.now self.now.after.now }
-    {
-        self.before.pages() == self.after.pages() && self.before.caps() == self.after.caps()
-    }
-}
-
-impl ListDifferences<'_> {
     /// Returns a line for each difference: `-` before what was removed, `+` before what was added, and `~` before what changed.
     /// Fails if the host is out of memory.
-    pub fn lines(&self, alloc: Global) -> Result<Vec<u8>, AllocError> {
-        let mut text = self.to_string(alloc)?.into_bytes();
-        for lack in self.lacks {
-            text.extend_from_slice(lack.to_string(alloc)?.as_bytes())?;
-        }
-        for reply in self.replies {
-            reply.add_line(alloc, &mut text)?;
-        }
+    pub fn lines(&self, alloc: Global) -> Result<Vec<u8>, AllocError>
+        ensures { IfOk result (λ text. AreLines self.now text.items) }
+    {
+        let mut text = Vec::new(alloc);
+        add_machine(alloc, &mut text, self.before, self.after)?;
+        add_changes(alloc, &mut text, self.before, self.after, self.changes)?;
+        add_leads(alloc, &mut text, self.leads)?;
+        add_breaches(alloc, &mut text, self.breaches)?;
+        add_lacks(alloc, &mut text, self.lacks)?;
+        add_replies(alloc, &mut text, self.replies)?;
         Ok(text)
     }
 }
 
-/// Writes the lines of the lists alone, without those of a scenario.
-impl fmt::Display for ListDifferences<'_> {
-    fn fmt<W: fmt::Write>(&self, f: &mut fmt::Formatter<W>) -> fmt::Result {
-        if !self.has_same_machine() {
-            let (now, was) = (self.after, self.before);
-            write!(f, "~ machine: {} pages, {} caps", now.pages(), now.caps())?;
-            writeln!(f, " (was: {} pages, {} caps)", was.pages(), was.caps())?;
-        }
-        for change in self.changes {
-            self.show_change(f, *change)?;
-        }
-        for lead in self.leads {
-            lead.fmt(f)?;
-        }
-        for breach in self.breaches {
-            breach.fmt(f)?;
-        }
-        Ok(())
-    }
+/// Returns whether two lists have the same pages and capabilities.
+pub(crate) fn has_same_machine(before: &StartList, after: &StartList) -> bool
+    ensures { result ≡ same_machine before.now after.now }
+{
+    before.pages() == after.pages() && before.caps() == after.caps()
 }
 
-impl ListDifferences<'_> {
-    // The change of an entry.
-    fn show_change<W: fmt::Write>(
-        &self,
-        f: &mut fmt::Formatter<W>,
-        change: EntryChange,
-    ) -> fmt::Result {
-        let (before, after) = (self.before.entries(), self.after.entries());
-        match change {
-            EntryChange::Gone(number) => show_entry(f, "- ", before.get(number))?,
-            EntryChange::Came(number) => show_entry(f, "+ ", after.get(number))?,
-            EntryChange::Changed(was, now) => {
-                show_entry(f, "~ ", after.get(now))?;
-                f.write_str(" (was: ")?;
-                if let Some(entry) = before.get(was) {
-                    show_means(f, entry)?;
-                }
-                f.write_str(")")?;
-            }
-        }
-        writeln!(f)
+// Adds the line of the machine, unless it is the same on both lists.
+fn add_machine(
+    alloc: Global,
+    told: &mut Vec<u8>,
+    was: &StartList,
+    now: &StartList,
+) -> Result<(), AllocError>
+    ensures { OnOk result (told.new.items ≡ told.old.items ++ machine_line was.now now.now) }
+{
+    if has_same_machine(was, now) {
+        return Ok(());
     }
+    told.extend_from_slice(b"~ machine: ")?;
+    add_size(alloc, told, now)?;
+    told.extend_from_slice(b" (was: ")?;
+    add_size(alloc, told, was)?;
+    told.extend_from_slice(b")\n")
 }
 
-// An entry with its budget, after a mark.
-fn show_entry<W: fmt::Write>(
-    f: &mut fmt::Formatter<W>,
-    sign: &str,
-    entry: Option<&ListEntry>,
-) -> fmt::Result {
-    match entry {
-        Some(entry) => {
-            write!(f, "{sign}{}: ", entry.to_path())?;
-            show_means(f, entry)
-        }
-        None => Ok(()),
-    }
+// Adds the pages and the capabilities of a list's machine.
+fn add_size(alloc: Global, told: &mut Vec<u8>, list: &StartList) -> Result<(), AllocError>
+    ensures { OnOk result (told.new.items ≡ told.old.items ++ machine_text list.now) }
+{
+    let text = format!(in alloc; "{} pages, {} caps", list.pages(), list.caps())?;
+    told.extend_from_slice(text.as_bytes())
 }
 
-// The binary of an entry, its budget, its reserve, whether it provides its service, and the kinds that it declares.
-fn show_means<W: fmt::Write>(f: &mut fmt::Formatter<W>, entry: &ListEntry) -> fmt::Result {
-    let binary = entry.binary();
-    write!(
-        f,
-        "{}, {} bytes, {} caps",
-        binary.as_str(),
-        entry.ram(),
-        entry.caps()
-    )?;
-    if let Some(reserve) = entry.reserve() {
-        write!(
-            f,
-            ", reserve {} bytes, {} caps",
-            reserve.ram.0, reserve.caps.0
-        )?;
+// Adds the lines of changes of entries.
+fn add_changes(
+    alloc: Global,
+    told: &mut Vec<u8>,
+    before: &StartList,
+    after: &StartList,
+    changes: &[EntryChange],
+) -> Result<(), AllocError>
+    ensures { OnOk result (told.new.items
+        ≡ told.old.items ++ flat_map (change_line before.now after.now) changes.now) }
+{
+    for change in changes {
+        add_change(alloc, told, before, after, *change)?;
     }
-    match binary.service() {
-        Some(service) if entry.provides() => write!(f, ", provides {service}")?,
-        Some(_) => f.write_str(", provides nothing")?,
-        None => (),
-    }
-    match binary {
-        Binary::Declared(service) => show_kinds(f, service.kinds()),
-        Binary::Script | Binary::Server(_) | Binary::Init => Ok(()),
-    }
+    Ok(())
 }
 
-// The kinds of a server, each with the bytes of a block and of a unit.
-fn show_kinds<W: fmt::Write>(f: &mut fmt::Formatter<W>, kinds: &[ObjectKind]) -> fmt::Result {
-    if kinds.is_empty() {
-        return f.write_str(", no kinds");
+// Adds the lines of labels that are routed elsewhere.
+fn add_leads(alloc: Global, told: &mut Vec<u8>, leads: &[ReachChange<'_>]) -> Result<(), AllocError>
+    ensures { OnOk result (AddsEach told.old.items told.new.items IsReachLine leads.now) }
+{
+    for lead in leads {
+        lead.add_line(alloc, told)?;
     }
-    let mut parted = ", kinds ";
-    for kind in kinds {
-        write!(
-            f,
-            "{parted}{} ({} bytes, {} a unit)",
-            kind.name(),
-            kind.block(),
-            kind.bytes()
-        )?;
-        parted = ", ";
+    Ok(())
+}
+
+// Adds the lines of breaches of a policy.
+fn add_breaches(
+    alloc: Global,
+    told: &mut Vec<u8>,
+    breaches: &[BreachChange<'_>],
+) -> Result<(), AllocError>
+    ensures { OnOk result (AddsEach told.old.items told.new.items IsBreachLine breaches.now) }
+{
+    for breach in breaches {
+        breach.add_line(alloc, told)?;
+    }
+    Ok(())
+}
+
+// Adds the lines of components that fall short.
+fn add_lacks(alloc: Global, told: &mut Vec<u8>, lacks: &[NeedChange<'_>]) -> Result<(), AllocError>
+    ensures { OnOk result (told.new.items ≡ told.old.items ++ flat_map need_line lacks.now) }
+{
+    for lack in lacks {
+        lack.add_line(alloc, told)?;
+    }
+    Ok(())
+}
+
+// Adds the lines of calls that are answered differently.
+fn add_replies(
+    alloc: Global,
+    told: &mut Vec<u8>,
+    replies: &[ReplyChange<'_>],
+) -> Result<(), AllocError>
+    ensures { OnOk result (told.new.items ≡ told.old.items ++ flat_map reply_line replies.now) }
+{
+    for reply in replies {
+        reply.add_line(alloc, told)?;
     }
     Ok(())
 }

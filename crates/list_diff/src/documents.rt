@@ -1,128 +1,241 @@
 //! Differences as documents for programs.
-use crate::differences::ListDifferences;
+ghost use Rattle.std.specs.Prelude.{◌≡◌, ◌∷◌, ◌++◌, [], List, map, IfOk, OnOk};
+ghost use Rattle.std.specs.List.{flat_map};
+ghost use Rattle.std.specs.Option.{option_copied, option_map};
+ghost use Rattle.core_calls.specs.Quotas.{reserve_amounts};
+ghost use Rattle.list_parser.specs.View.{model_binary};
+ghost use Rattle.view_json.specs.Documents.{Lists, Member, list_data, members_data, objects_data};
+ghost use Rattle.list_diff.specs.DifferenceTexts.{IsDocument, ListsEach};
+ghost use Rattle.list_diff.specs.BreachTexts.{IsBreachObject};
+ghost use Rattle.list_diff.specs.NeedTexts.{need_object};
+ghost use Rattle.list_diff.specs.ReachTexts.{IsReachObject};
+ghost use Rattle.list_diff.specs.ReplyTexts.{reply_objects};
+ghost use Rattle.list_diff.specs.Documents.{binary_word, both_objects, budget_members, change_objects, changed_object, entry_members, entry_object, front, kind_object, kinds_data, kinds_in, kinds_members, machine_objects, names_in, one_objects, reserve_members, service_members};
+
+use crate::differences::{ListDifferences, has_same_machine};
 use crate::entry_changes::EntryChange;
+use crate::need_changes::NeedChange;
+use crate::policy_breaches::BreachChange;
+use crate::reach_changes::ReachChange;
+use crate::reply_changes::ReplyChange;
+use core_calls::Reserve;
 use list_parser::{Binary, ListEntry, StartList};
 use object_kinds::ObjectKind;
 use std::alloc::{AllocError, Global};
 use view_json::{JsonField, JsonMember, Listing, ObjectList, ObjectListBuilder};
 
-/// The members for an entry's binary, budget, reserve, service and kinds: of an entry after, and of an entry before.
-static MEANS: [&str; 7] = [
-    "binary",
-    "ram",
-    "caps",
-    "reserve_ram",
-    "reserve_caps",
-    "provides",
-    "kinds",
-];
+/// The names of the members for an entry's binary, budget, reserve, service and kinds.
+#[derive(Clone, Copy)]
+pub(crate) struct EntryNames {
+    pub(crate) binary: &'static str,
+    pub(crate) ram: &'static str,
+    pub(crate) caps: &'static str,
+    pub(crate) reserve_ram: &'static str,
+    pub(crate) reserve_caps: &'static str,
+    pub(crate) provides: &'static str,
+    pub(crate) kinds: &'static str,
+}
 
-static WERE: [&str; 7] = [
-    "was_binary",
-    "was_ram",
-    "was_caps",
-    "was_reserve_ram",
-    "was_reserve_caps",
-    "was_provides",
-    "was_kinds",
-];
+/// The names for an entry of the list after.
+const NEW_NAMES: EntryNames = EntryNames {
+    binary: "binary",
+    ram: "ram",
+    caps: "caps",
+    reserve_ram: "reserve_ram",
+    reserve_caps: "reserve_caps",
+    provides: "provides",
+    kinds: "kinds",
+};
+
+/// The names for an entry of the list before.
+const OLD_NAMES: EntryNames = EntryNames {
+    binary: "was_binary",
+    ram: "was_ram",
+    caps: "was_caps",
+    reserve_ram: "was_reserve_ram",
+    reserve_caps: "was_reserve_caps",
+    provides: "was_provides",
+    kinds: "was_kinds",
+};
 
 impl ListDifferences<'_> {
     /// Returns a JSON document for each line that is printed of the differences. Fails if the host is out of memory.
     pub fn documents(&self, alloc: Global) -> Result<Vec<u8>, AllocError> {
         let mut listing = Listing::new(alloc);
-        if !self.has_same_machine() {
-            add_machine(&mut listing, self.before, self.after)?;
-        }
-        for change in self.changes {
-            self.add_change(alloc, &mut listing, *change)?;
-        }
-        for lead in self.leads {
-            lead.list(alloc, &mut listing)?;
-        }
-        for breach in self.breaches {
-            breach.list(&mut listing)?;
-        }
-        for lack in self.lacks {
-            lack.list(&mut listing)?;
-        }
-        for reply in self.replies {
-            reply.list(alloc, &mut listing)?;
-        }
+        add_machine(&mut listing, self.before, self.after)?;
+        add_changes(alloc, &mut listing, self.before, self.after, self.changes)?;
+        add_leads(alloc, &mut listing, self.leads)?;
+        add_breaches(&mut listing, self.breaches)?;
+        add_lacks(&mut listing, self.lacks)?;
+        add_replies(alloc, &mut listing, self.replies)?;
         listing.into_text()
     }
+}
 
-    // Adds the change of an entry.
-    fn add_change(
-        &self,
-        alloc: Global,
-        listing: &mut Listing,
-        change: EntryChange,
-    ) -> Result<(), AllocError> {
-        let (before, after) = (self.before.entries(), self.after.entries());
-        match change {
-            EntryChange::Gone(number) => match before.get(number) {
-                Some(entry) => {
-                    let kinds = kinds_of(alloc, entry)?;
-                    add_entry(alloc, listing, "-", &WERE, entry, &kinds)
-                }
-                None => Ok(()),
-            },
-            EntryChange::Came(number) => match after.get(number) {
-                Some(entry) => {
-                    let kinds = kinds_of(alloc, entry)?;
-                    add_entry(alloc, listing, "+", &MEANS, entry, &kinds)
-                }
-                None => Ok(()),
-            },
-            EntryChange::Changed(was, now) => match (before.get(was), after.get(now)) {
-                (Some(was), Some(now)) => {
-                    let (kinds_before, kinds) = (kinds_of(alloc, was)?, kinds_of(alloc, now)?);
-                    add_changed(alloc, listing, was, &kinds_before, now, &kinds)
-                }
-                _ => Ok(()),
-            },
-        }
+// Adds the changes of entries.
+fn add_changes(
+    alloc: Global,
+    listing: &mut Listing,
+    before: &StartList,
+    after: &StartList,
+    changes: &[EntryChange],
+) -> Result<(), AllocError> {
+    for change in changes {
+        add_change(alloc, listing, before, after, *change)?;
+    }
+    Ok(())
+}
+
+// Adds the labels that are routed elsewhere.
+fn add_leads(
+    alloc: Global,
+    listing: &mut Listing,
+    leads: &[ReachChange<'_>],
+) -> Result<(), AllocError> {
+    for lead in leads {
+        lead.list(alloc, listing)?;
+    }
+    Ok(())
+}
+
+// Adds the breaches of a policy.
+fn add_breaches(listing: &mut Listing, breaches: &[BreachChange<'_>]) -> Result<(), AllocError>
+    ensures { (objects : List (List Member)) → Lists listing.old objects →
+        OnOk result (ListsEach listing.new objects IsBreachObject breaches.now) }
+{
+    for breach in breaches {
+        breach.list(listing)?;
+    }
+    Ok(())
+}
+
+// Adds the components that fall short.
+fn add_lacks(listing: &mut Listing, lacks: &[NeedChange<'_>]) -> Result<(), AllocError> {
+    for lack in lacks {
+        lack.list(listing)?;
+    }
+    Ok(())
+}
+
+// Adds the lines that are answered differently.
+fn add_replies(
+    alloc: Global,
+    listing: &mut Listing,
+    replies: &[ReplyChange<'_>],
+) -> Result<(), AllocError>
+    ensures { (objects : List (List Member)) → Lists listing.old objects →
+        OnOk result (Lists listing.new (objects ++ flat_map reply_objects replies.now)) }
+{
+    for reply in replies {
+        reply.list(alloc, listing)?;
+    }
+    Ok(())
+}
+
+// Adds the change of an entry.
+fn add_change(
+    alloc: Global,
+    listing: &mut Listing,
+    before: &StartList,
+    after: &StartList,
+    change: EntryChange,
+) -> Result<(), AllocError> {
+    let (olds, news) = (before.entries(), after.entries());
+    match change {
+        EntryChange::Gone(number) => add_one(alloc, listing, "-", OLD_NAMES, olds.get(number)),
+        EntryChange::Came(number) => add_one(alloc, listing, "+", NEW_NAMES, news.get(number)),
+        EntryChange::Changed(was, now) => add_both(alloc, listing, olds.get(was), news.get(now)),
+    }
+}
+
+// Adds an entry that one list alone has, if it is there, by the sign of the change, with its members under these names.
+fn add_one(
+    alloc: Global,
+    listing: &mut Listing,
+    sign: &'static str,
+    names: EntryNames,
+    entry: Option<&ListEntry>,
+) -> Result<(), AllocError> {
+    match entry {
+        Some(entry) => add_entry(alloc, listing, sign, names, entry),
+        None => Ok(()),
+    }
+}
+
+// Adds an entry that both lists have, if it is there, as it was and as it is.
+fn add_both(
+    alloc: Global,
+    listing: &mut Listing,
+    was: Option<&ListEntry>,
+    now: Option<&ListEntry>,
+) -> Result<(), AllocError> {
+    match (was, now) {
+        (Some(was), Some(now)) => add_changed(alloc, listing, was, now),
+        (None, _) | (Some(_), None) => Ok(()),
     }
 }
 
 // Adds an entry that one list alone has, by the sign of the change, with its members under these names.
-fn add_entry<'a>(
+fn add_entry(
     alloc: Global,
     listing: &mut Listing,
     sign: &'static str,
-    names: &'static [&'static str; 7],
-    entry: &'a ListEntry,
-    kinds: &'a Option<ObjectList>,
+    names: EntryNames,
+    entry: &ListEntry,
 ) -> Result<(), AllocError> {
-    let members = vec![in alloc;
-        ("kind", JsonField::Word("entry")),
-        ("change", JsonField::Word(sign)),
-    ]?;
-    let members = with_entry(members, names, entry, kinds)?;
-    listing.add(members.as_slice())
+    let kinds = kinds_of(alloc, entry)?;
+    let given = kinds.as_ref();
+    list_entry(alloc, listing, (sign, names), entry, given)
 }
 
 // Adds an entry that both lists have, as it was and as it is.
-fn add_changed<'a>(
+fn add_changed(
     alloc: Global,
     listing: &mut Listing,
-    was: &'a ListEntry,
-    kinds_before: &'a Option<ObjectList>,
-    now: &'a ListEntry,
-    kinds: &'a Option<ObjectList>,
+    was: &ListEntry,
+    now: &ListEntry,
 ) -> Result<(), AllocError> {
-    let members = vec![in alloc;
-        ("kind", JsonField::Word("entry")),
-        ("change", JsonField::Word("~")),
-    ]?;
-    let members = with_entry(members, &WERE, was, kinds_before)?;
-    let members = with_entry(members, &MEANS, now, kinds)?;
+    let old_kinds = kinds_of(alloc, was)?;
+    let kinds = kinds_of(alloc, now)?;
+    let old = old_kinds.as_ref();
+    let new = kinds.as_ref();
+    list_changed(alloc, listing, (was, old), (now, new))
+}
+
+// Adds an entry that one list alone has, by the sign of the change and the names of its members, with these kinds.
+fn list_entry<'a>(
+    alloc: Global,
+    listing: &mut Listing,
+    by: (&'static str, EntryNames),
+    entry: &'a ListEntry,
+    kinds: Option<&'a ObjectList>,
+) -> Result<(), AllocError> {
+    let members = front(alloc, "entry", by.0)?;
+    let members = with_entry(members, by.1, entry, kinds)?;
     listing.add(members.as_slice())
 }
 
-// Adds the machine of the list after, and that of the list before.
-fn add_machine(listing: &mut Listing, was: &StartList, now: &StartList) -> Result<(), AllocError> {
+// Adds an entry that both lists have, as it was and as it is, with these kinds.
+fn list_changed<'a>(
+    alloc: Global,
+    listing: &mut Listing,
+    was: (&'a ListEntry, Option<&'a ObjectList>),
+    now: (&'a ListEntry, Option<&'a ObjectList>),
+) -> Result<(), AllocError> {
+    let members = front(alloc, "entry", "~")?;
+    let members = with_entry(members, OLD_NAMES, was.0, was.1)?;
+    let members = with_entry(members, NEW_NAMES, now.0, now.1)?;
+    listing.add(members.as_slice())
+}
+
+// Adds the machine of the list after, and that of the list before, unless they are the same.
+fn add_machine(listing: &mut Listing, was: &StartList, now: &StartList) -> Result<(), AllocError>
+    ensures { (objects : List (List Member)) → Lists listing.old objects → OnOk result
+        (Lists listing.new (objects ++ machine_objects was.now now.now)) }
+{
+    if has_same_machine(was, now) {
+        return Ok(());
+    }
     listing.add(&[
         ("kind", JsonField::Word("machine")),
         ("change", JsonField::Word("~")),
@@ -133,48 +246,136 @@ fn add_machine(listing: &mut Listing, was: &StartList, now: &StartList) -> Resul
     ])
 }
 
-// The members followed by the name of an entry, by its budget and by its kinds, under these names.
+/// Returns the first members of an object: the kind of the difference, and its sign. Fails if the host is out of memory.
+pub(crate) fn front<'a>(
+    alloc: Global,
+    kind: &'static str,
+    sign: &'static str,
+) -> Result<Vec<JsonMember<'a>>, AllocError>
+    ensures { IfOk result (λ members. members_data members.items ≡ front kind.now sign.now) }
+{
+    let mut members = Vec::new(alloc);
+    members.push(("kind", JsonField::Word(kind)))?;
+    members.push(("change", JsonField::Word(sign)))?;
+    Ok(members)
+}
+
+// Returns the members followed by those of an entry with these kinds, under these names.
 fn with_entry<'a>(
-    mut members: Vec<JsonMember<'a>>,
-    names: &'static [&'static str; 7],
+    members: Vec<JsonMember<'a>>,
+    names: EntryNames,
     entry: &'a ListEntry,
-    kinds: &'a Option<ObjectList>,
+    kinds: Option<&'a ObjectList>,
 ) -> Result<Vec<JsonMember<'a>>, AllocError> {
-    let binary = entry.binary();
-    members.extend_from_slice(&[
-        ("name", JsonField::Text(entry.path())),
-        (names[0], JsonField::Word(binary.as_str())),
-        (names[1], JsonField::Number(entry.ram())),
-        (names[2], JsonField::Number(u64::from(entry.caps()))),
-    ])?;
-    if let Some(reserve) = entry.reserve() {
-        members.push((names[3], JsonField::Number(reserve.ram.0)))?;
-        members.push((names[4], JsonField::Number(u64::from(reserve.caps.0))))?;
-    }
-    if let Some(service) = binary.service() {
-        let provided = if entry.provides() {
-            JsonField::Text(service.as_bytes())
-        } else {
-            JsonField::Nothing
-        };
-        members.push((names[5], provided))?;
-    }
-    if let Some(kinds) = kinds {
-        members.push((names[6], JsonField::List(kinds)))?;
+    let front = with_budget(members, names, entry)?;
+    let more = with_reserve(front, names, entry.reserve())?;
+    let most = with_service(more, names, entry.provides(), entry.service())?;
+    with_kinds(most, names, kinds)
+}
+
+// Returns the members followed by the path of an entry, its binary and its budget.
+fn with_budget<'a>(
+    mut members: Vec<JsonMember<'a>>,
+    names: EntryNames,
+    entry: &'a ListEntry,
+) -> Result<Vec<JsonMember<'a>>, AllocError>
+    ensures { IfOk result (λ more. members_data more.items
+        ≡ members_data members.entry.items ++ budget_members (names_in names) entry.now) }
+{
+    members.push(("name", JsonField::Text(entry.path())))?;
+    members.push((names.binary, JsonField::Word(binary_word(entry))))?;
+    members.push((names.ram, JsonField::Number(entry.ram())))?;
+    members.push((names.caps, JsonField::Number(u64::from(entry.caps()))))?;
+    Ok(members)
+}
+
+/// Returns the word for an entry's binary, as a start list has it.
+#[tactic(auto, using(crate::proofs::BinaryLemmas::word_is))]
+pub(crate) fn binary_word(entry: &ListEntry) -> &'static str
+    ensures { result.now ≡ binary_word entry.now.binary }
+{
+    entry.binary().as_str()
+}
+
+// Returns the members followed by those of a reserve, if there is one.
+fn with_reserve<'a>(
+    mut members: Vec<JsonMember<'a>>,
+    names: EntryNames,
+    reserve: Option<Reserve>,
+) -> Result<Vec<JsonMember<'a>>, AllocError>
+    ensures { IfOk result (λ more. members_data more.items ≡ members_data members.entry.items
+        ++ reserve_members (names_in names) (option_map reserve_amounts reserve)) }
+{
+    if let Some(reserve) = reserve {
+        members.push((names.reserve_ram, JsonField::Number(reserve.ram.0)))?;
+        members.push((
+            names.reserve_caps,
+            JsonField::Number(u64::from(reserve.caps.0)),
+        ))?;
     }
     Ok(members)
 }
 
-// An object for each kind that an entry declares, or none if it declares no service.
-fn kinds_of(alloc: Global, entry: &ListEntry) -> Result<Option<ObjectList>, AllocError> {
-    match entry.binary() {
-        Binary::Declared(service) => Ok(Some(kind_documents(alloc, service.kinds())?)),
-        Binary::Script | Binary::Server(_) | Binary::Init => Ok(None),
+// Returns the members followed by the service of a server, or by nothing under its name if the entry doesn't provide it.
+fn with_service<'a>(
+    mut members: Vec<JsonMember<'a>>,
+    names: EntryNames,
+    provides: bool,
+    service: Option<&'a str>,
+) -> Result<Vec<JsonMember<'a>>, AllocError>
+    ensures { IfOk result (λ more. members_data more.items ≡ members_data members.entry.items
+        ++ service_members (names_in names) provides (option_copied service.entry)) }
+{
+    let Some(service) = service else {
+        return Ok(members);
+    };
+    if provides {
+        members.push((names.provides, JsonField::Text(service.as_bytes())))?;
+    } else {
+        members.push((names.provides, JsonField::Nothing))?;
+    }
+    Ok(members)
+}
+
+// Returns the members followed by the kinds of a server, if it declares some.
+fn with_kinds<'a>(
+    mut members: Vec<JsonMember<'a>>,
+    names: EntryNames,
+    kinds: Option<&'a ObjectList>,
+) -> Result<Vec<JsonMember<'a>>, AllocError>
+    ensures { IfOk result (λ more. members_data more.items ≡ members_data members.entry.items
+        ++ kinds_members (names_in names) (option_map list_data (option_copied kinds.entry))) }
+{
+    if let Some(kinds) = kinds {
+        members.push((names.kinds, JsonField::List(kinds)))?;
+    }
+    Ok(members)
+}
+
+// Returns an object for each kind that an entry declares, or none if it declares no service.
+fn kinds_of(alloc: Global, entry: &ListEntry) -> Result<Option<ObjectList>, AllocError>
+    ensures { IfOk result (λ kinds. option_map list_data kinds ≡ kinds_data entry.now.binary) }
+{
+    match declared_kinds(entry.binary()) {
+        Some(kinds) => Ok(Some(kind_documents(alloc, kinds)?)),
+        None => Ok(None),
     }
 }
 
-// An object for each of these kinds.
-fn kind_documents(alloc: Global, kinds: &[ObjectKind]) -> Result<ObjectList, AllocError> {
+/// Returns the kinds that a server declares.
+pub(crate) fn declared_kinds(binary: &Binary) -> Option<&[ObjectKind]>
+    ensures { option_map (λ kinds. kinds.now) result ≡ kinds_in (model_binary binary.now) }
+{
+    match binary {
+        Binary::Declared(service) => Some(service.kinds()),
+        Binary::Script | Binary::Server(_) | Binary::Init => None,
+    }
+}
+
+// Returns an object for each of these kinds.
+fn kind_documents(alloc: Global, kinds: &[ObjectKind]) -> Result<ObjectList, AllocError>
+    ensures { IfOk result (λ list. list_data list ≡ objects_data (map kind_object kinds.now)) }
+{
     let mut list = ObjectListBuilder::new(alloc);
     for kind in kinds {
         list.add(&[

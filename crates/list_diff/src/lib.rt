@@ -5,6 +5,7 @@
 mod differences;
 mod documents;
 mod entry_changes;
+mod entry_texts;
 mod label_sets;
 mod line_outcomes;
 mod moved_labels;

@@ -1,87 +1,227 @@
 //! Labels that are routed elsewhere, as lines and as documents for programs.
+ghost use Rattle.std.specs.Prelude.{◌≡◌, ◌∷◌, ◌++◌, [], List, is_some, string_bytes, IfOk, OnOk};
+ghost use Rattle.std.specs.Option.{option_and_then, option_copied, option_map};
+ghost use Rattle.view_json.specs.Documents.{Lists, Member, field_data, members_data, text_data, text_or_null};
+ghost use Rattle.list_diff.specs.DifferenceTexts.{AddsOne, ListsOne};
+ghost use Rattle.list_diff.specs.ReachTexts.{AreTexts, IsReachLine, IsReachObject, is_both, labels_text, lost_word, moved_members, moved_text, names_in, pair_text, reach_front, reach_label, reach_line, reach_members, reach_word, route_text, routes_text, target_path, texts_in, witness_text, words_in};
+
+use crate::documents::front;
 use crate::label_sets::label_documents;
 use crate::moved_labels::MovedLabels;
 use crate::reach_changes::ReachChange;
-use list_parser::ListEntry;
 use list_reach::{Reach, RoutePath, RouteSummary};
 use std::alloc::{AllocError, Global};
-use std::fmt;
 use view_json::{JsonField, JsonMember, Listing, ObjectList};
 
-/// Writes a line with the labels that the server gains and those that it loses, each with the routes of their witness.
-impl fmt::Display for ReachChange<'_> {
-    fn fmt<W: fmt::Write>(&self, f: &mut fmt::Formatter<W>) -> fmt::Result {
-        let (client, server) = (self.client.to_path(), self.server.to_path());
-        write!(f, "~ {client} {} {server}:", self.service)?;
-        show_moved(f, " gained", &self.gained)?;
-        let is_both = self.gained.set.witness.is_some() && self.lost.set.witness.is_some();
-        show_moved(f, if is_both { ", lost" } else { " lost" }, &self.lost)?;
-        f.write_str("\n")
+impl ReachChange<'_> {
+    /// Adds a line with the labels that the server gains and those that it loses, each with the routes of their witness. Fails if the
+    /// host is out of memory.
+    pub fn add_line(&self, alloc: Global, told: &mut Vec<u8>) -> Result<(), AllocError>
+        ensures { OnOk result (AddsOne told.old.items told.new.items (IsReachLine self.entry.now)) }
+    {
+        let gained = MovedWords::of(alloc, &self.gained)?;
+        let lost = MovedWords::of(alloc, &self.lost)?;
+        self.add_line_with(alloc, told, &gained, &lost)
+    }
+
+    // Adds a line with these words for the labels.
+    fn add_line_with(
+        &self,
+        alloc: Global,
+        told: &mut Vec<u8>,
+        gained: &MovedWords,
+        lost: &MovedWords,
+    ) -> Result<(), AllocError>
+        ensures { OnOk result (told.new.items
+            ≡ told.old.items ++ reach_line self.entry.now (words_in gained.now) (words_in lost.now)) }
+    {
+        add_pair(alloc, told, self)?;
+        add_moved(told, " gained", &self.gained, gained)?;
+        add_moved(told, lost_word(is_both(self)), &self.lost, lost)?;
+        told.extend_from_slice(b"\n")
     }
 }
 
-// Writes labels after a word, with one of the shortest unless there is one label, and how both lists route a request with it. Writes
+// Adds the script, the service and the server.
+fn add_pair(alloc: Global, told: &mut Vec<u8>, change: &ReachChange<'_>) -> Result<(), AllocError>
+    ensures { OnOk result (told.new.items ≡ told.old.items ++ pair_text change.entry.now) }
+{
+    let (client, server) = (change.client.to_path(), change.server.to_path());
+    let (client, service, server) = (client.as_str(), change.service, server.as_str());
+    let text = format!(in alloc; "~ {client} {service} {server}:")?;
+    told.extend_from_slice(text.as_bytes())
+}
+
+// Returns whether labels are gained and others are lost.
+fn is_both(change: &ReachChange<'_>) -> bool
+    ensures { result ≡ is_both change.entry.now }
+{
+    change.gained.set.witness.is_some() && change.lost.set.witness.is_some()
+}
+
+// Returns the word before the labels that are lost.
+fn lost_word(is_both: bool) -> &'static str
+    ensures { result.now ≡ lost_word is_both }
+{
+    if is_both { ", lost" } else { " lost" }
+}
+
+// The words for moved labels, and for the rules by which a request with their witness is routed.
+#[derive(Drop)]
+pub(crate) struct MovedWords {
+    pub(crate) labels: String,
+    pub(crate) is_one: bool,
+    pub(crate) rules: String,
+    pub(crate) old_rules: String,
+}
+
+impl MovedWords {
+    // Returns the words for moved labels. Fails if the host is out of memory.
+    fn of(alloc: Global, moved: &MovedLabels<'_>) -> Result<MovedWords, AllocError> {
+        Ok(MovedWords {
+            labels: moved.set.labels.to_string(alloc)?,
+            is_one: moved.set.labels.is_one(),
+            rules: words_of(alloc, moved.now.as_ref())?,
+            old_rules: words_of(alloc, moved.was.as_ref())?,
+        })
+    }
+}
+
+// Returns the words for the rules of a route path; they are empty if there is no path.
+fn words_of(alloc: Global, course: Option<&RoutePath<'_>>) -> Result<String, AllocError> {
+    match course {
+        Some(course) => RouteSummary::of(course).to_string(alloc),
+        None => Ok(String::new(alloc)),
+    }
+}
+
+// Adds labels after a word, with one of the shortest unless there is one label, and how both lists route a request with it. Adds
 // nothing if there is none.
-fn show_moved<W: fmt::Write>(
-    f: &mut fmt::Formatter<W>,
+fn add_moved(
+    told: &mut Vec<u8>,
     word: &str,
     moved: &MovedLabels<'_>,
-) -> fmt::Result {
+    words: &MovedWords,
+) -> Result<(), AllocError>
+    ensures { OnOk result (told.new.items ≡ told.old.items
+        ++ moved_text word.now moved.entry.now (words_in words.now) moved.entry.now.set.witness) }
+{
     let Some(witness) = &moved.set.witness else {
         return Ok(());
     };
-    write!(f, "{word} {}", moved.set.labels)?;
-    if !moved.set.labels.is_one() {
-        write!(f, " (as \"{witness}\")")?;
-    }
-    f.write_str(": ")?;
-    show_route(f, moved.now.as_ref())?;
-    f.write_str(" (was: ")?;
-    show_route(f, moved.was.as_ref())?;
-    f.write_str(")")
+    add_labels(told, word, words, witness.as_bytes())?;
+    add_routes(told, moved, words)
 }
 
-// Writes the rules of a route path and the server to which they route, or the rules that deny the request. Without a path the list
-// doesn't have the script.
-fn show_route<W: fmt::Write>(
-    f: &mut fmt::Formatter<W>,
+// Adds labels after a word, with a witness unless there is one label.
+fn add_labels(
+    told: &mut Vec<u8>,
+    word: &str,
+    words: &MovedWords,
+    witness: &[u8],
+) -> Result<(), AllocError>
+    ensures { OnOk result (told.new.items
+        ≡ told.old.items ++ labels_text word.now (words_in words.now) witness.now) }
+{
+    told.extend_from_slice(word.as_bytes())?;
+    told.extend_from_slice(b" ")?;
+    told.extend_from_slice(words.labels.as_bytes())?;
+    add_witness(told, !words.is_one, witness)
+}
+
+// Adds how both lists route a request with the witness of labels.
+fn add_routes(
+    told: &mut Vec<u8>,
+    moved: &MovedLabels<'_>,
+    words: &MovedWords,
+) -> Result<(), AllocError>
+    ensures { OnOk result (told.new.items
+        ≡ told.old.items ++ routes_text moved.entry.now (words_in words.now)) }
+{
+    told.extend_from_slice(b": ")?;
+    add_route(told, words.rules.as_str(), moved.now.as_ref())?;
+    told.extend_from_slice(b" (was: ")?;
+    add_route(told, words.old_rules.as_str(), moved.was.as_ref())?;
+    told.extend_from_slice(b")")
+}
+
+// Adds a witness in parentheses, if it is shown.
+fn add_witness(told: &mut Vec<u8>, is_shown: bool, witness: &[u8]) -> Result<(), AllocError>
+    ensures { OnOk result
+        (told.new.items ≡ told.old.items ++ witness_text is_shown witness.now) }
+{
+    if !is_shown {
+        return Ok(());
+    }
+    told.extend_from_slice(b" (as \"")?;
+    told.extend_from_slice(witness)?;
+    told.extend_from_slice(b"\")")
+}
+
+// Adds the words for the rules of a route path and the server to which they route, or for the rules that deny the request. Without a
+// path the list doesn't have the script.
+fn add_route(
+    told: &mut Vec<u8>,
+    rules: &str,
     course: Option<&RoutePath<'_>>,
-) -> fmt::Result {
+) -> Result<(), AllocError>
+    ensures { OnOk result (told.new.items
+        ≡ told.old.items ++ route_text rules.now (option_copied course.entry)) }
+{
     let Some(course) = course else {
-        return f.write_str("no such script");
+        return told.extend_from_slice(b"no such script");
     };
-    let rules = RouteSummary::of(course);
-    match target_of(course) {
-        Some(server) => write!(f, "{rules} -> {}", server.to_path()),
-        None => write!(f, "denied by {rules}"),
+    match target_path(course) {
+        Some(path) => {
+            told.extend_from_slice(rules.as_bytes())?;
+            told.extend_from_slice(b" -> ")?;
+            told.extend_from_slice(path)
+        }
+        None => {
+            told.extend_from_slice(b"denied by ")?;
+            told.extend_from_slice(rules.as_bytes())
+        }
     }
 }
 
-// The component to which a request is routed, if it is routed to one.
-fn target_of<'a>(course: &'a RoutePath<'_>) -> Option<&'a ListEntry> {
-    course.list().entries().get(course.child()?)
+// Returns the path of the component to which a request is routed, if it is routed to one.
+fn target_path<'a>(course: &'a RoutePath<'_>) -> Option<&'a [u8]>
+    ensures { option_map (λ path. path.now) result ≡ target_path course.entry.now }
+{
+    let child = course.child()?;
+    let entry = course.list().entries().get(child)?;
+    Some(entry.path())
 }
 
-/// The members for moved labels: the set, its witness, and the rules and the server of a request with the witness after and before.
-type MovedNames = [&'static str; 6];
+/// The names of the members for moved labels: the set, its witness, and the rules and the server of a request with the witness after
+/// and before.
+#[derive(Clone, Copy)]
+pub(crate) struct MovedNames {
+    pub(crate) labels: &'static str,
+    pub(crate) witness: &'static str,
+    pub(crate) rules: &'static str,
+    pub(crate) target: &'static str,
+    pub(crate) old_rules: &'static str,
+    pub(crate) old_target: &'static str,
+}
 
-static GAINED: MovedNames = [
-    "gained",
-    "gained_witness",
-    "gained_by",
-    "gained_to",
-    "gained_was_by",
-    "gained_was_to",
-];
+const GAINED: MovedNames = MovedNames {
+    labels: "gained",
+    witness: "gained_witness",
+    rules: "gained_by",
+    target: "gained_to",
+    old_rules: "gained_was_by",
+    old_target: "gained_was_to",
+};
 
-static LOST: MovedNames = [
-    "lost",
-    "lost_witness",
-    "lost_by",
-    "lost_to",
-    "lost_was_by",
-    "lost_was_to",
-];
+const LOST: MovedNames = MovedNames {
+    labels: "lost",
+    witness: "lost_witness",
+    rules: "lost_by",
+    target: "lost_to",
+    old_rules: "lost_was_by",
+    old_target: "lost_was_to",
+};
 
 impl ReachChange<'_> {
     /// Adds a JSON document of the kind `reach` with both sets of labels and the routes of their witnesses. Fails if the host is out
@@ -95,15 +235,17 @@ impl ReachChange<'_> {
 
 // The documents of moved labels, and the rules by which a request with their witness is routed, as text.
 #[derive(Drop)]
-struct MovedTexts {
-    labels: ObjectList,
-    rules: Option<String>,
-    old_rules: Option<String>,
+pub(crate) struct MovedTexts {
+    pub(crate) labels: ObjectList,
+    pub(crate) rules: Option<String>,
+    pub(crate) old_rules: Option<String>,
 }
 
 impl MovedTexts {
     // Returns the texts of moved labels. Fails if the host is out of memory.
-    fn of(alloc: Global, moved: &MovedLabels<'_>) -> Result<MovedTexts, AllocError> {
+    fn of(alloc: Global, moved: &MovedLabels<'_>) -> Result<MovedTexts, AllocError>
+        ensures { IfOk result (λ texts. AreTexts moved.entry.now (texts_in texts)) }
+    {
         Ok(MovedTexts {
             labels: label_documents(alloc, &moved.set.labels)?,
             rules: rules_of(alloc, moved.now.as_ref())?,
@@ -112,10 +254,15 @@ impl MovedTexts {
     }
 }
 
-// The rules of a route path as text, if there is a path.
-fn rules_of(alloc: Global, course: Option<&RoutePath<'_>>) -> Result<Option<String>, AllocError> {
+// Returns the rules of a route path as text, if there is a path.
+fn rules_of(alloc: Global, course: Option<&RoutePath<'_>>) -> Result<Option<String>, AllocError>
+    ensures { IfOk result (λ text. is_some text ≡ is_some course.entry) }
+{
     match course {
-        Some(course) => Ok(Some(RouteSummary::of(course).to_string(alloc)?)),
+        Some(course) => {
+            let text = RouteSummary::of(course).to_string(alloc)?;
+            Ok(Some(text))
+        }
         None => Ok(None),
     }
 }
@@ -128,76 +275,91 @@ fn add_document<'a>(
     gained: &'a MovedTexts,
     lost: &'a MovedTexts,
 ) -> Result<(), AllocError> {
-    let members = vec![in alloc;
-        ("kind", JsonField::Word("reach")),
-        ("change", JsonField::Word("~")),
-        ("name", JsonField::Text(change.client.path())),
-        ("service", JsonField::Text(change.service.as_bytes())),
-        ("to", JsonField::Text(change.server.path())),
-        ("reach", word_of(change.now)),
-        ("label", label_of(change.now)),
-        ("was_reach", word_of(change.was)),
-        ("was_label", label_of(change.was)),
-    ]?;
-    let members = with_moved(members, &GAINED, &change.gained, gained)?;
-    let members = with_moved(members, &LOST, &change.lost, lost)?;
+    let members = reach_front(alloc, change)?;
+    let members = with_moved(members, GAINED, &change.gained, gained)?;
+    let members = with_moved(members, LOST, &change.lost, lost)?;
     listing.add(members.as_slice())
+}
+
+// Returns the first members: who requests what of whom, and with which labels the server is reached after and before.
+fn reach_front<'a>(
+    alloc: Global,
+    change: &'a ReachChange<'a>,
+) -> Result<Vec<JsonMember<'a>>, AllocError> {
+    let mut members = front(alloc, "reach", "~")?;
+    members.push(("name", JsonField::Text(change.client.path())))?;
+    members.push(("service", JsonField::Text(change.service.as_bytes())))?;
+    members.push(("to", JsonField::Text(change.server.path())))?;
+    members.push(("reach", JsonField::Word(word_of(change.now))))?;
+    members.push(("label", label_of(change.now)))?;
+    members.push(("was_reach", JsonField::Word(word_of(change.was))))?;
+    members.push(("was_label", label_of(change.was)))?;
+    Ok(members)
 }
 
 // Returns the members followed by those of moved labels, under these names.
 fn with_moved<'a>(
     mut members: Vec<JsonMember<'a>>,
-    names: &'static MovedNames,
+    names: MovedNames,
     moved: &'a MovedLabels<'a>,
     texts: &'a MovedTexts,
-) -> Result<Vec<JsonMember<'a>>, AllocError> {
+) -> Result<Vec<JsonMember<'a>>, AllocError>
+    ensures { IfOk result (λ more. members_data more.items ≡ members_data members.entry.items
+        ++ moved_members (names_in names) moved.entry.now (texts_in texts.now)) }
+{
     let witness = match &moved.set.witness {
         Some(label) => JsonField::Text(label.as_bytes()),
         None => JsonField::Nothing,
     };
-    members.extend_from_slice(&[
-        (names[0], JsonField::List(&texts.labels)),
-        (names[1], witness),
-        (names[2], text_of(texts.rules.as_ref())),
-        (names[3], path_of(moved.now.as_ref())),
-        (names[4], text_of(texts.old_rules.as_ref())),
-        (names[5], path_of(moved.was.as_ref())),
-    ])?;
+    members.push((names.labels, JsonField::List(&texts.labels)))?;
+    members.push((names.witness, witness))?;
+    members.push((names.rules, text_of(texts.rules.as_ref())))?;
+    members.push((names.target, path_of(moved.now.as_ref())))?;
+    members.push((names.old_rules, text_of(texts.old_rules.as_ref())))?;
+    members.push((names.old_target, path_of(moved.was.as_ref())))?;
     Ok(members)
 }
 
-// A text, or nothing if there is none.
-fn text_of(text: Option<&String>) -> JsonField<'_> {
+// Returns a text, or nothing if there is none.
+fn text_of(text: Option<&String>) -> JsonField<'_>
+    ensures { field_data result ≡ text_or_null (option_map string_bytes (option_copied text.entry)) }
+{
     match text {
         Some(text) => JsonField::Text(text.as_bytes()),
         None => JsonField::Nothing,
     }
 }
 
-// The path of the component to which a request is routed, or nothing if there is none.
-fn path_of<'a>(course: Option<&'a RoutePath<'_>>) -> JsonField<'a> {
-    match course {
-        Some(course) => match target_of(course) {
-            Some(server) => JsonField::Text(server.path()),
-            None => JsonField::Nothing,
-        },
+// Returns the path of the component to which a request is routed, or nothing if there is none.
+fn path_of<'a>(course: Option<&'a RoutePath<'_>>) -> JsonField<'a>
+    ensures { field_data result ≡ text_or_null (option_and_then target_path (option_copied course.entry)) }
+{
+    let Some(course) = course else {
+        return JsonField::Nothing;
+    };
+    match target_path(course) {
+        Some(path) => JsonField::Text(path),
         None => JsonField::Nothing,
     }
 }
 
-// The word for how many labels are routed there.
-fn word_of(reach: Option<&Reach>) -> JsonField<'_> {
+// Returns the word for how many labels are routed there.
+fn word_of(reach: Option<&Reach>) -> &'static str
+    ensures { result.now ≡ reach_word (option_copied reach.entry) }
+{
     match reach {
-        Some(Reach::Always) => JsonField::Word("always"),
-        Some(Reach::By(_)) => JsonField::Word("some"),
-        Some(Reach::Never) | None => JsonField::Word("none"),
+        Some(Reach::Always) => "always",
+        Some(Reach::By(_)) => "some",
+        Some(Reach::Never) | None => "none",
     }
 }
 
-// One of the labels, if some are routed there and others aren't.
-fn label_of(reach: Option<&Reach>) -> JsonField<'_> {
+// Returns one of the labels, if some are routed there and others aren't.
+fn label_of(reach: Option<&Reach>) -> JsonField<'_>
+    ensures { field_data result ≡ text_or_null (reach_label (option_copied reach.entry)) }
+{
     match reach {
         Some(Reach::By(label)) => JsonField::Text(label.as_bytes()),
-        _ => JsonField::Nothing,
+        Some(Reach::Always | Reach::Never) | None => JsonField::Nothing,
     }
 }

@@ -1,60 +1,120 @@
 //! Replies that differ, as lines and as documents for programs.
+ghost use Rattle.std.specs.Prelude.{◌≡◌, ◌∷◌, ◌++◌, [], List, IfOk, OnOk};
+ghost use Rattle.std.specs.Option.{option_copied};
+ghost use Rattle.view_json.specs.Documents.{Lists, Member, members_data};
+ghost use Rattle.list_diff.specs.Documents.{front};
+ghost use Rattle.list_diff.specs.ReplyTexts.{added_line, answer_in, call_members, call_text, changed_line, fault_text, made_text, number_of, other_text, reason_in, removed_line, reply_line, reply_members, reply_object, reply_objects, side_members};
+
+use crate::documents::front;
 use crate::line_outcomes::{LineOutcome, LineResult, ResolutionFault};
 use crate::reply_changes::ReplyChange;
 use line_names::token_at;
 use run_exchanges::Exchange;
 use std::alloc::{AllocError, Global};
-use view_json::{JsonField, Listing};
+use view_json::{JsonField, JsonMember, Listing};
 
 impl ReplyChange<'_> {
     /// Adds a line of text: a sign, the number of the scenario's line, the call, its reply, and the other reply. If one machine alone
     /// answers the call, the reason of the other machine is in place of the other reply. Fails if the host is out of memory.
-    pub fn add_line(&self, alloc: Global, told: &mut Vec<u8>) -> Result<(), AllocError> {
-        let number = self.number();
+    pub fn add_line(&self, alloc: Global, told: &mut Vec<u8>) -> Result<(), AllocError>
+        ensures { OnOk result (told.new.items ≡ told.old.items ++ reply_line self.entry.now) }
+    {
         match (answer_to(self.was), answer_to(self.now)) {
-            (Some(was), Some(now)) => {
-                add_call(alloc, told, ("~", number), now)?;
-                add_all(told, &[b" (was: ", was.answer().text, b")\n"])
-            }
-            (None, Some(now)) => {
-                add_call(alloc, told, ("+", number), now)?;
-                add_reason(told, b" (was: ", &reason_of(alloc, self.was)?)
-            }
-            (Some(was), None) => {
-                add_call(alloc, told, ("-", number), was)?;
-                add_reason(told, b" (now: ", &reason_of(alloc, self.now)?)
-            }
+            (Some(was), Some(now)) => self.add_change(alloc, told, was, now),
+            (None, Some(now)) => self.add_added(alloc, told, now),
+            (Some(was), None) => self.add_removed(alloc, told, was),
             (None, None) => Ok(()),
         }
     }
 
-    /// Adds a JSON document with the line's number, the call and both replies. If a machine doesn't answer the call, its reply is
-    /// null, and its reason is a member. Fails if the host is out of memory.
-    pub fn list(&self, alloc: Global, listing: &mut Listing) -> Result<(), AllocError> {
-        let (was, now) = (answer_to(self.was), answer_to(self.now));
-        let (sign, made) = match (was, now) {
-            (Some(_), Some(now)) => ("~", now),
-            (None, Some(now)) => ("+", now),
-            (Some(was), None) => ("-", was),
-            (None, None) => return Ok(()),
-        };
-        let old_reason = reason_of(alloc, self.was)?;
-        let new_reason = reason_of(alloc, self.now)?;
-        let sides = (side_of(was, &old_reason), side_of(now, &new_reason));
-        add_document(alloc, listing, (sign, self.number()), made, sides)
+    // Adds the line of a call that both machines answer.
+    fn add_change(
+        &self,
+        alloc: Global,
+        told: &mut Vec<u8>,
+        was: &Exchange,
+        now: &Exchange,
+    ) -> Result<(), AllocError>
+        ensures { OnOk result
+            (told.new.items ≡ told.old.items ++ changed_line self.entry.now was.now now.now) }
+    {
+        add_call(alloc, told, "~", number_of(self.now, self.was), now)?;
+        add_other(told, b" (was: ", was.answer().text)
     }
 
-    // Returns the number of the line in the scenario after, or in the one before if that alone has the line.
-    fn number(&self) -> u64 {
-        match (self.was, self.now) {
-            (_, Some(line)) | (Some(line), None) => line.number,
-            (None, None) => 0,
+    // Adds the line of a call that the machine after alone answers.
+    fn add_added(&self, alloc: Global, told: &mut Vec<u8>, now: &Exchange) -> Result<(), AllocError>
+        ensures { OnOk result
+            (told.new.items ≡ told.old.items ++ added_line self.entry.now now.now) }
+    {
+        let reason = reason_of(alloc, self.was)?;
+        add_call(alloc, told, "+", number_of(self.now, self.was), now)?;
+        add_other(told, b" (was: ", reason.as_slice())
+    }
+
+    // Adds the line of a call that the machine before alone answers.
+    fn add_removed(
+        &self,
+        alloc: Global,
+        told: &mut Vec<u8>,
+        was: &Exchange,
+    ) -> Result<(), AllocError>
+        ensures { OnOk result
+            (told.new.items ≡ told.old.items ++ removed_line self.entry.now was.now) }
+    {
+        let reason = reason_of(alloc, self.now)?;
+        add_call(alloc, told, "-", number_of(self.now, self.was), was)?;
+        add_other(told, b" (now: ", reason.as_slice())
+    }
+
+    /// Adds a JSON document with the line's number, the call and both replies. If a machine doesn't answer the call, its reply is
+    /// null, and its reason is a member. Fails if the host is out of memory.
+    #[tactic(auto, using(view_json::proofs::ListingLemmas::lists_none))]
+    pub fn list(&self, alloc: Global, listing: &mut Listing) -> Result<(), AllocError>
+        ensures { (objects : List (List Member)) → Lists listing.old objects →
+            OnOk result (Lists listing.new (objects ++ reply_objects self.entry.now)) }
+    {
+        match (answer_to(self.was), answer_to(self.now)) {
+            (Some(_), Some(now)) => self.list_as(alloc, listing, "~", now),
+            (None, Some(now)) => self.list_as(alloc, listing, "+", now),
+            (Some(was), None) => self.list_as(alloc, listing, "-", was),
+            (None, None) => Ok(()),
         }
+    }
+
+    // Adds the document of a call with a sign.
+    fn list_as(
+        &self,
+        alloc: Global,
+        listing: &mut Listing,
+        sign: &'static str,
+        made: &Exchange,
+    ) -> Result<(), AllocError>
+        ensures { (objects : List (List Member)) → Lists listing.old objects → OnOk result
+            (Lists listing.new (objects ++ reply_object sign.now self.entry.now made.now ∷ [])) }
+    {
+        let reason = reason_of(alloc, self.now)?;
+        let old_reason = reason_of(alloc, self.was)?;
+        let why = reason.as_slice();
+        let old_why = old_reason.as_slice();
+        add_document(alloc, listing, sign, self, made, (why, old_why))
+    }
+}
+
+// Returns the number of the line in the scenario after, or in the one before if that alone has the line.
+fn number_of(now: Option<LineResult<'_>>, was: Option<LineResult<'_>>) -> u64
+    ensures { result ≡ number_of now.entry was.entry }
+{
+    match (now, was) {
+        (Some(line), _) | (None, Some(line)) => line.number,
+        (None, None) => 0,
     }
 }
 
 // Returns the answered call of a line, if there is one.
-fn answer_to<'a>(line: Option<LineResult<'a>>) -> Option<&'a Exchange> {
+fn answer_to<'a>(line: Option<LineResult<'a>>) -> Option<&'a Exchange>
+    ensures { option_copied result ≡ answer_in line.entry }
+{
     match line {
         Some(line) => match line.outcome {
             LineOutcome::Answered(exchange) => Some(exchange),
@@ -68,74 +128,99 @@ fn answer_to<'a>(line: Option<LineResult<'a>>) -> Option<&'a Exchange> {
 fn add_call(
     alloc: Global,
     told: &mut Vec<u8>,
-    (sign, number): (&str, u64),
+    sign: &str,
+    number: u64,
     made: &Exchange,
-) -> Result<(), AllocError> {
-    told.extend_from_slice(format!(in alloc; "{sign} {number}: ")?.as_bytes())?;
-    add_all(
-        told,
-        &[made.name(), b" ", made.call(), b" => ", made.answer().text],
-    )
+) -> Result<(), AllocError>
+    ensures { OnOk result
+        (told.new.items ≡ told.old.items ++ call_text sign.now number made.now) }
+{
+    let place = format!(in alloc; "{sign} {number}: ")?;
+    told.extend_from_slice(place.as_bytes())?;
+    add_made(told, made)
 }
 
-// Adds the reason of a machine after a word, and ends the line.
-fn add_reason(told: &mut Vec<u8>, word: &[u8], reason: &[u8]) -> Result<(), AllocError> {
-    add_all(told, &[word, reason, b")\n"])
+// Adds a call with its reply.
+fn add_made(told: &mut Vec<u8>, made: &Exchange) -> Result<(), AllocError>
+    ensures { OnOk result (told.new.items ≡ told.old.items ++ made_text made.now) }
+{
+    told.extend_from_slice(made.name())?;
+    told.extend_from_slice(b" ")?;
+    told.extend_from_slice(made.call())?;
+    told.extend_from_slice(b" => ")?;
+    told.extend_from_slice(made.answer().text)
 }
 
-// A machine's reply to a line, or the reason for which the machine doesn't answer the line.
-#[derive(Clone, Copy)]
-enum ReplySide<'a> {
-    Reply(&'a [u8]),
-    Reason(&'a [u8]),
+// Adds the other reply, or a reason, after a word, and ends the line.
+fn add_other(told: &mut Vec<u8>, word: &[u8], text: &[u8]) -> Result<(), AllocError>
+    ensures { OnOk result (told.new.items ≡ told.old.items ++ other_text word.now text.now) }
+{
+    told.extend_from_slice(word)?;
+    told.extend_from_slice(text)?;
+    told.extend_from_slice(b")\n")
 }
 
-// Returns the reply of an answered call, or else this reason.
-fn side_of<'a>(made: Option<&'a Exchange>, reason: &'a [u8]) -> ReplySide<'a> {
-    match made {
-        Some(made) => ReplySide::Reply(made.answer().text),
-        None => ReplySide::Reason(reason),
-    }
-}
-
-// Adds the document of a call with its sign and the number of its line, by what both machines reply.
+// Adds the document of a call with a sign, by the reasons of the machine after and of the machine before.
 fn add_document<'a>(
     alloc: Global,
     listing: &mut Listing,
-    (sign, number): (&'static str, u64),
+    sign: &'static str,
+    change: &'a ReplyChange<'a>,
     made: &'a Exchange,
-    (was, now): (ReplySide<'a>, ReplySide<'a>),
-) -> Result<(), AllocError> {
-    let members = vec![in alloc;
-        ("kind", JsonField::Word("reply")),
-        ("change", JsonField::Word(sign)),
-        ("line", JsonField::Number(number)),
-        ("name", JsonField::Text(made.name())),
-        ("call", JsonField::Text(made.call())),
-    ]?;
-    let members = with_side(members, ("reply", "reason"), now)?;
-    let members = with_side(members, ("was_reply", "was_reason"), was)?;
+    reasons: (&'a [u8], &'a [u8]),
+) -> Result<(), AllocError>
+    ensures { (objects : List (List Member)) → Lists listing.old objects → OnOk result (Lists listing.new
+        (objects ++ reply_members sign.now change.entry.now made.now reasons.entry.0.now reasons.entry.1.now ∷ [])) }
+{
+    let members = front(alloc, "reply", sign)?;
+    let members = with_call(members, number_of(change.now, change.was), made)?;
+    let now = answer_to(change.now);
+    let members = with_side(members, "reply", "reason", now, reasons.0)?;
+    let was = answer_to(change.was);
+    let members = with_side(members, "was_reply", "was_reason", was, reasons.1)?;
     listing.add(members.as_slice())
 }
 
-// Returns the members followed by those for what a machine replies, under the names for its reply and its reason.
+// Returns the members followed by the number of a line and its call.
+fn with_call<'a>(
+    mut members: Vec<JsonMember<'a>>,
+    number: u64,
+    made: &'a Exchange,
+) -> Result<Vec<JsonMember<'a>>, AllocError>
+    ensures { IfOk result (λ more. members_data more.items
+        ≡ members_data members.entry.items ++ call_members number made.now) }
+{
+    members.push(("line", JsonField::Number(number)))?;
+    members.push(("name", JsonField::Text(made.name())))?;
+    members.push(("call", JsonField::Text(made.call())))?;
+    Ok(members)
+}
+
+// Returns the members followed by the reply of a machine under a name, or by nothing and the reason.
 fn with_side<'a>(
-    mut members: Vec<(&'static str, JsonField<'a>)>,
-    (reply_name, reason_name): (&'static str, &'static str),
-    side: ReplySide<'a>,
-) -> Result<Vec<(&'static str, JsonField<'a>)>, AllocError> {
-    match side {
-        ReplySide::Reply(reply) => members.push((reply_name, JsonField::Text(reply)))?,
-        ReplySide::Reason(reason) => {
-            members.push((reply_name, JsonField::Nothing))?;
-            members.push((reason_name, JsonField::Text(reason)))?;
+    mut members: Vec<JsonMember<'a>>,
+    reply: &'static str,
+    reason: &'static str,
+    made: Option<&'a Exchange>,
+    why: &'a [u8],
+) -> Result<Vec<JsonMember<'a>>, AllocError>
+    ensures { IfOk result (λ more. members_data more.items ≡ members_data members.entry.items
+        ++ side_members reply.now reason.now (option_copied made.entry) why.now) }
+{
+    match made {
+        Some(made) => members.push((reply, JsonField::Text(made.answer().text)))?,
+        None => {
+            members.push((reply, JsonField::Nothing))?;
+            members.push((reason, JsonField::Text(why)))?;
         }
     }
     Ok(members)
 }
 
 // Returns why a machine doesn't answer a line.
-fn reason_of(alloc: Global, line: Option<LineResult<'_>>) -> Result<Vec<u8>, AllocError> {
+fn reason_of(alloc: Global, line: Option<LineResult<'_>>) -> Result<Vec<u8>, AllocError>
+    ensures { IfOk result (λ reason. reason.items ≡ reason_in line.entry) }
+{
     match line {
         Some(line) => match line.outcome {
             LineOutcome::Faulty(fault) => message_of(alloc, line.line, fault),
@@ -146,37 +231,21 @@ fn reason_of(alloc: Global, line: Option<LineResult<'_>>) -> Result<Vec<u8>, All
 }
 
 // Returns the message about the fault of a line.
-fn message_of(alloc: Global, line: &[u8], fault: ResolutionFault) -> Result<Vec<u8>, AllocError> {
+fn message_of(alloc: Global, line: &[u8], fault: ResolutionFault) -> Result<Vec<u8>, AllocError>
+    ensures { IfOk result (λ text. text.items ≡ fault_text line.now fault) }
+{
     match fault {
         ResolutionFault::TooLong => Vec::from_slice(alloc, b"line of more than 8192 bytes"),
         ResolutionFault::Misplaced(why) => Vec::from_slice(alloc, why.words().as_bytes()),
         ResolutionFault::Name(fault) => {
             let token = String::from_utf8_lossy(alloc, token_at(line, fault.column))?;
-            Ok(
-                fault
-                    .reason
-                    .about(token.as_str())
-                    .to_string(alloc)?
-                    .into_bytes(),
-            )
+            let message = fault.reason.about(token.as_str()).to_string(alloc)?;
+            Vec::from_slice(alloc, message.as_bytes())
         }
         ResolutionFault::Line(fault) => {
             let token = String::from_utf8_lossy(alloc, token_at(line, fault.column))?;
-            Ok(
-                fault
-                    .reason
-                    .about(token.as_str())
-                    .to_string(alloc)?
-                    .into_bytes(),
-            )
+            let message = fault.reason.about(token.as_str()).to_string(alloc)?;
+            Vec::from_slice(alloc, message.as_bytes())
         }
     }
-}
-
-// Adds pieces of a text.
-fn add_all(told: &mut Vec<u8>, pieces: &[&[u8]]) -> Result<(), AllocError> {
-    for piece in pieces {
-        told.extend_from_slice(piece)?;
-    }
-    Ok(())
 }

@@ -1,2 +1,3 @@
+pub mod ListingLemmas
 pub mod MemberLemmas
 pub mod TextLemmas
