@@ -102,17 +102,21 @@ moved_members names moved texts =
     ∷ (names.rules, text_or_null texts.rules) ∷ (names.target, text_or_null (option_and_then target_path moved.now))
     ∷ (names.old_rules, text_or_null texts.old_rules) ∷ (names.old_target, text_or_null (option_and_then target_path moved.was)) ∷ []
 
--- who requests what of whom, and with which labels the server is reached after and before
+-- who requests what of whom
 abbrev pub pair_members : ReachChange → List Member
 pair_members change =
     (codes "name", text_data change.client.now.path) ∷ (codes "service", text_data change.service.now)
-    ∷ (codes "to", text_data change.server.now.path)
-    ∷ (codes "reach", text_data (reach_word (option_copied change.now))) ∷ (codes "label", text_or_null (reach_label (option_copied change.now)))
+    ∷ (codes "to", text_data change.server.now.path) ∷ []
+
+-- with which labels the server is reached after and before
+abbrev pub reach_words : ReachChange → List Member
+reach_words change =
+    (codes "reach", text_data (reach_word (option_copied change.now))) ∷ (codes "label", text_or_null (reach_label (option_copied change.now)))
     ∷ (codes "was_reach", text_data (reach_word (option_copied change.was)))
     ∷ (codes "was_label", text_or_null (reach_label (option_copied change.was))) ∷ []
 
 abbrev pub reach_front : ReachChange → List Member
-reach_front change = front (codes "reach") (codes "~") ++ pair_members change
+reach_front change = (front (codes "reach") (codes "~") ++ pair_members change) ++ reach_words change
 
 abbrev pub reach_members : ReachChange → Texts → Texts → List Member
 reach_members change gained lost =
@@ -129,13 +133,13 @@ pub record IsReachObject (change : ReachChange) (object : List Member) : Type 0 
 
 -- the words for moved labels, and for the rules by which a request with their witness is routed after and before; one label is shown
 -- without the witness
-pub record Words : Type 0 where
+pub record LabelWords : Type 0 where
   pub labels : List ℕ
   pub is_one : Bool
   pub rules : List ℕ
   pub old_rules : List ℕ
 
-abbrev pub words_in : MovedWords → Words
+abbrev pub words_in : MovedWords → LabelWords
 words_in words = record {
   labels = string_bytes words.labels;
   is_one = words.is_one;
@@ -155,15 +159,15 @@ abbrev pub route_text : List ℕ → Option RoutePath → List ℕ
 route_text rules None = codes "no such script"
 route_text rules (Some course) = target_text rules (target_path course)
 
-abbrev pub labels_text : List ℕ → Words → List ℕ → List ℕ
+abbrev pub labels_text : List ℕ → LabelWords → List ℕ → List ℕ
 labels_text word words witness = word ++ (codes " " ++ (words.labels ++ witness_text (not words.is_one) witness))
 
-abbrev pub routes_text : MovedLabels → Words → List ℕ
+abbrev pub routes_text : MovedLabels → LabelWords → List ℕ
 routes_text moved words =
     codes ": " ++ (route_text words.rules moved.now ++ (codes " (was: " ++ (route_text words.old_rules moved.was ++ codes ")")))
 
 -- nothing without a witness
-abbrev pub moved_text : List ℕ → MovedLabels → Words → Option (List ℕ) → List ℕ
+abbrev pub moved_text : List ℕ → MovedLabels → LabelWords → Option (List ℕ) → List ℕ
 moved_text word moved words None = []
 moved_text word moved words (Some witness) = labels_text word words witness ++ routes_text moved words
 
@@ -177,12 +181,12 @@ pair_text change =
 abbrev pub is_both : ReachChange → Bool
 is_both change = is_some change.gained.set.witness && is_some change.lost.set.witness
 
-abbrev pub reach_line : ReachChange → Words → Words → List ℕ
+abbrev pub reach_line : ReachChange → LabelWords → LabelWords → List ℕ
 reach_line change gained lost =
     pair_text change ++ (moved_text (codes " gained") change.gained gained change.gained.set.witness
     ++ (moved_text (lost_word (is_both change)) change.lost lost change.lost.set.witness ++ codes "\n"))
 
 pub record IsReachLine (change : ReachChange) (line : List ℕ) : Type 0 where
-  pub gained : Words
-  pub lost : Words
+  pub gained : LabelWords
+  pub lost : LabelWords
   pub is : line ≡ reach_line change gained lost

@@ -91,7 +91,10 @@ fn add_leads(
     alloc: Global,
     listing: &mut Listing,
     leads: &[ReachChange<'_>],
-) -> Result<(), AllocError> {
+) -> Result<(), AllocError>
+    ensures { (objects : List (List Member)) → Lists listing.old objects →
+        OnOk result (ListsEach listing.new objects IsReachObject leads.now) }
+{
     for lead in leads {
         lead.list(alloc, listing)?;
     }

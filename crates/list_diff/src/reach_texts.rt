@@ -3,7 +3,7 @@ ghost use Rattle.std.specs.Prelude.{◌≡◌, ◌∷◌, ◌++◌, [], List, is
 ghost use Rattle.std.specs.Option.{option_and_then, option_copied, option_map};
 ghost use Rattle.view_json.specs.Documents.{Lists, Member, field_data, members_data, text_data, text_or_null};
 ghost use Rattle.list_diff.specs.DifferenceTexts.{AddsOne, ListsOne};
-ghost use Rattle.list_diff.specs.ReachTexts.{AreTexts, IsReachLine, IsReachObject, is_both, labels_text, lost_word, moved_members, moved_text, names_in, pair_text, reach_front, reach_label, reach_line, reach_members, reach_word, route_text, routes_text, target_path, texts_in, witness_text, words_in};
+ghost use Rattle.list_diff.specs.ReachTexts.{AreTexts, IsReachLine, IsReachObject, is_both, labels_text, lost_word, moved_members, moved_text, names_in, pair_members, pair_text, reach_front, reach_label, reach_line, reach_members, reach_word, reach_words, route_text, routes_text, target_path, texts_in, witness_text, words_in};
 
 use crate::documents::front;
 use crate::label_sets::label_documents;
@@ -226,7 +226,10 @@ const LOST: MovedNames = MovedNames {
 impl ReachChange<'_> {
     /// Adds a JSON document of the kind `reach` with both sets of labels and the routes of their witnesses. Fails if the host is out
     /// of memory.
-    pub fn list(&self, alloc: Global, listing: &mut Listing) -> Result<(), AllocError> {
+    pub fn list(&self, alloc: Global, listing: &mut Listing) -> Result<(), AllocError>
+        ensures { (objects : List (List Member)) → Lists listing.old objects →
+            OnOk result (ListsOne listing.new objects (IsReachObject self.entry.now)) }
+    {
         let gained = MovedTexts::of(alloc, &self.gained)?;
         let lost = MovedTexts::of(alloc, &self.lost)?;
         add_document(alloc, listing, self, &gained, &lost)
@@ -274,22 +277,50 @@ fn add_document<'a>(
     change: &'a ReachChange<'a>,
     gained: &'a MovedTexts,
     lost: &'a MovedTexts,
-) -> Result<(), AllocError> {
-    let members = reach_front(alloc, change)?;
-    let members = with_moved(members, GAINED, &change.gained, gained)?;
-    let members = with_moved(members, LOST, &change.lost, lost)?;
-    listing.add(members.as_slice())
+) -> Result<(), AllocError>
+    ensures { (objects : List (List Member)) → Lists listing.old objects → OnOk result (Lists listing.new
+        (objects ++ reach_members change.entry.now (texts_in gained.now) (texts_in lost.now) ∷ [])) }
+{
+    let first = reach_front(alloc, change)?;
+    let more = with_moved(first, GAINED, &change.gained, gained)?;
+    let all = with_moved(more, LOST, &change.lost, lost)?;
+    listing.add(all.as_slice())
 }
 
 // Returns the first members: who requests what of whom, and with which labels the server is reached after and before.
 fn reach_front<'a>(
     alloc: Global,
     change: &'a ReachChange<'a>,
-) -> Result<Vec<JsonMember<'a>>, AllocError> {
-    let mut members = front(alloc, "reach", "~")?;
+) -> Result<Vec<JsonMember<'a>>, AllocError>
+    ensures { IfOk result (λ members. members_data members.items ≡ reach_front change.entry.now) }
+{
+    let first = front(alloc, "reach", "~")?;
+    let more = with_pair(first, change)?;
+    with_reaches(more, change)
+}
+
+// Returns the members followed by who requests what of whom.
+fn with_pair<'a>(
+    mut members: Vec<JsonMember<'a>>,
+    change: &'a ReachChange<'a>,
+) -> Result<Vec<JsonMember<'a>>, AllocError>
+    ensures { IfOk result (λ more. members_data more.items
+        ≡ members_data members.entry.items ++ pair_members change.entry.now) }
+{
     members.push(("name", JsonField::Text(change.client.path())))?;
     members.push(("service", JsonField::Text(change.service.as_bytes())))?;
     members.push(("to", JsonField::Text(change.server.path())))?;
+    Ok(members)
+}
+
+// Returns the members followed by those for the labels with which the server is reached after and before.
+fn with_reaches<'a>(
+    mut members: Vec<JsonMember<'a>>,
+    change: &'a ReachChange<'a>,
+) -> Result<Vec<JsonMember<'a>>, AllocError>
+    ensures { IfOk result (λ more. members_data more.items
+        ≡ members_data members.entry.items ++ reach_words change.entry.now) }
+{
     members.push(("reach", JsonField::Word(word_of(change.now))))?;
     members.push(("label", label_of(change.now)))?;
     members.push(("was_reach", JsonField::Word(word_of(change.was))))?;
