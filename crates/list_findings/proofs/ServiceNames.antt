@@ -1,8 +1,7 @@
 -- Names of services.
-use Rattle.std.proofs.Common.{◌≡◌, ℕ, ◌+◌, Bool, true, false, cond, List, [], ◌∷◌, ◌++◌, drop, Some, None, sym, ap, ◌∙◌, ◌||◌}
+use Rattle.std.proofs.Common.{◌≡◌, ℕ, ◌+◌, Bool, true, false, cond, List, drop, Some, None, ap, ◌∙◌, ◌||◌}
 use Rattle.std.specs.Prelude.{find}
 use Rattle.std.specs.List.{list_any, slice_get}
-use Rattle.std.proofs.lemmas.List.{append_assoc}
 use Rattle.trade_base.specs.Service.{service_name}
 use Rattle.trade_base.specs.declared.service.Service.{Service}
 use Rattle.own_model.proofs.ServiceLemmas.{is_named}
@@ -12,15 +11,6 @@ use Rattle.list_reach.proofs.ServiceLemmas.{left_from_got}
 -- each is read as a name
 pub service_is_named : (service : Service) → name_in (service_name service) ≡ Some (service_name service)
 service_is_named service = ap (λ b. cond b (Some (service_name service)) None) (is_named service)
-
--- one element more, and those that are left
-pub one_more : {X : Type 0} (xs : List X) (n : ℕ) (x : X) (old new all : List X) → slice_get xs n ≡ Some x → new ≡ old ++ x ∷ []
-    → old ++ drop n xs ≡ all → new ++ drop (n + 1) xs ≡ all
-one_more xs n x old new all got added before =
-    ap (λ m. m ++ drop (n + 1) xs) added
-    ∙ append_assoc old (x ∷ []) (drop (n + 1) xs)
-    ∙ ap (λ left. old ++ left) (sym (left_from_got xs n x got))
-    ∙ before
 
 -- the first that passes is here, or later
 module _ {X : Type 0} (p : X → Bool) (xs : List X) (n : ℕ) (x : X) (got : slice_get xs n ≡ Some x) where

@@ -1,15 +1,14 @@
 -- What views of all scripts' wishes tell of rules.
-use Rattle.std.proofs.Common.{◌≡◌, ℕ, Bool, not, List, [], ◌∷◌, ◌++◌, map, refl, sym, ap, ◌∙◌, ◌||◌, ◌&&◌, ◌==◌, Option, Some, None}
+use Rattle.std.proofs.Common.{◌≡◌, ℕ, Bool, not, List, [], ◌∷◌, map, refl, ap, ◌∙◌, ◌||◌, ◌&&◌, ◌==◌, Option, Some, None}
 use Rattle.std.specs.Prelude.{All}
 use Rattle.std.specs.List.{list_any}
-use Rattle.std.proofs.lemmas.List.{append_assoc, append-nil, map-append}
-use Rattle.std.proofs.lemmas.List.Elements.{All-head, All-push, All-tail}
+use Rattle.std.proofs.lemmas.List.Elements.{All-head, All-tail}
 use Rattle.own_model.specs.Listed.{Listed}
-use Rattle.list_reach.specs.Deciding.{AreDecisions, DecisionAt}
+use Rattle.list_reach.specs.Deciding.{DecisionAt}
 use Rattle.list_reach.proofs.TrailLemmas.{trails_tell}
 use Rattle.list_findings.specs.Idle.{decides, is_among, is_idle}
 use Rattle.list_findings.specs.Reached.{is_routed_to, is_sought, is_routed_at_all, reaches}
-use Rattle.list_findings.specs.Views.{Asking, IsShown, ShowAll, Shows, ViewOf, asking_of, askings}
+use Rattle.list_findings.specs.Views.{Asking, IsShown, ShowAll, ViewOf, asking_of, askings}
 use Rattle.list_parts.specs.declared.list_part.RuleOwner.{RuleOwner}
 
 -- a view tells of a rule what is so of all given labels
@@ -71,25 +70,3 @@ somewhere_by_views list client views show =
 
 pub show_all : (list : Listed) (views : List ViewOf) → map asking_of views ≡ askings list → All (IsShown list) views → ShowAll list views
 show_all list views asked shown = record { asked = asked; shown = shown }
-
--- ---- one after another
-
-pub shows_none : (list : Listed) (views : List ViewOf) → All (IsShown list) views → Shows list views [] views
-shows_none list views shown = record { asked = sym (append-nil (map asking_of views)); shown = shown }
-
-pub shows_one : (list : Listed) (views : List ViewOf) (view : ViewOf) → All (IsShown list) views
-    → AreDecisions list view.client view.service view.trails → Shows list views (asking_of view ∷ []) (views ++ view ∷ [])
-shows_one list views view shown one =
-    record {
-      asked = map-append asking_of views (view ∷ []);
-      shown = All-push (IsShown list) views view shown one;
-    }
-
-pub shows_then : (list : Listed) (old between new : List ViewOf) (first then : List Asking) → Shows list old first between
-    → Shows list between then new → Shows list old (first ++ then) new
-shows_then list old between new first then one two =
-    record {
-      asked = two.asked
-          ∙ (ap (λ m. m ++ then) one.asked ∙ append_assoc (map asking_of old) first then);
-      shown = two.shown;
-    }

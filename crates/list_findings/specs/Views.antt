@@ -1,9 +1,10 @@
 -- The route decisions on the requests of all scripts, for each service, for each name that a rule asks for, and for any other
 -- name.
-use Rattle.std.specs.Prelude.{◌≡◌, ℕ, List, [], ◌∷◌, ◌++◌, flat_map, map, if◌then◌else◌, Option, Some, None, All}
+use Rattle.std.specs.Prelude.{◌≡◌, ℕ, List, [], ◌∷◌, flat_map, map, if◌then◌else◌, Option, Some, None, All}
 use Rattle.std.specs.List.{enumerate_from}
 use Rattle.own_model.specs.Listed.{Listed, ListedEntry, ListedRule, services_of, with_name}
 use Rattle.list_parser.specs.Depth.{runs_script}
+use Rattle.list_reach.specs.Additions.{AddsBy}
 use Rattle.list_reach.specs.Deciding.{AreDecisions, DecisionAt}
 
 -- ---- services
@@ -59,9 +60,8 @@ abbrev pub IsShown : Listed → ViewOf → Type 0
 IsShown list view = AreDecisions list view.client view.service view.trails
 
 -- these askings have views, after those that were there
-pub record Shows (list : Listed) (old : List ViewOf) (more : List Asking) (new : List ViewOf) : Type 0 where
-  pub asked : map asking_of new ≡ map asking_of old ++ more
-  pub shown : All (IsShown list) new
+abbrev pub Shows : Listed → List ViewOf → List Asking → List ViewOf → Type 0
+Shows list old more new = AddsBy asking_of (IsShown list) old more new
 
 -- all have
 pub record ShowAll (list : Listed) (views : List ViewOf) : Type 0 where

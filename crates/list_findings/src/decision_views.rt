@@ -59,7 +59,7 @@ pub(crate) fn views_of(alloc: Global, list: &StartList) -> Result<Vec<DecisionVi
 }
 
 // Adds those of all scripts that ask for a service.
-#[tactic(auto, using(crate::proofs::ViewLemmas::shows_none, crate::proofs::ViewLemmas::shows_then))]
+#[tactic(auto, using(list_reach::proofs::AdditionLemmas::adds_none, list_reach::proofs::AdditionLemmas::adds_then))]
 fn add_service(
     alloc: Global,
     views: &mut Vec<DecisionView>,
@@ -78,7 +78,7 @@ fn add_service(
 }
 
 // Adds that of an entry, if it is a script's.
-#[tactic(auto, using(crate::proofs::ViewLemmas::shows_none))]
+#[tactic(auto, using(list_reach::proofs::AdditionLemmas::adds_none))]
 fn add_script(
     alloc: Global,
     views: &mut Vec<DecisionView>,
@@ -100,7 +100,7 @@ fn add_script(
 }
 
 // Adds that of a script.
-#[tactic(auto, using(crate::proofs::ViewLemmas::shows_one))]
+#[tactic(auto, using(list_reach::proofs::AdditionLemmas::adds_one))]
 fn add_view(
     alloc: Global,
     views: &mut Vec<DecisionView>,

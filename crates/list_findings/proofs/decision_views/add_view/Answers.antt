@@ -2,8 +2,8 @@
 use Rattle.std.proofs.Common.{◌≡◌, [], ◌∷◌, ◌++◌, arith, subst, sym}
 use Rattle.std.proofs.lemmas.Grind.{common_steps}
 use Rattle.list_reach.specs.Deciding.{AreDecisions}
-use Rattle.list_findings.specs.Views.{Shows, ViewOf}
-use Rattle.list_findings.proofs.ViewLemmas.{shows_one}
+use Rattle.list_reach.proofs.AdditionLemmas.{adds_one}
+use Rattle.list_findings.specs.Views.{IsShown, Shows, ViewOf, asking_of}
 use Rattle.list_findings.proofs.decision_views.add_view.Goals as goal
 
 pub returns : goal.returns
@@ -15,5 +15,5 @@ returns c =
     subst (λ s. Shows c.args.list.now c.args.views.now.items (record { client = c.args.client; service = s } ∷ []) c.push.new.self.items) named
     (subst (λ new. Shows c.args.list.now c.args.views.now.items (record { client = c.args.client; service = c.in_ok-service.service } ∷ []) new)
     (sym items)
-    (shows_one c.args.list.now c.args.views.now.items view c.requires.shown
+    (adds_one asking_of (IsShown c.args.list.now) c.args.views.now.items view c.requires.shown
     (subst (λ s. AreDecisions c.args.list.now c.args.client s c.in_ok-trails.trails) asked c.in_ok-trails.ensures)))
