@@ -8,3 +8,4 @@ pub mod RunLemmas
 pub mod AlikeLemmas
 pub mod HeldLemmas
 pub mod SessionLemmas
+pub mod AskLemmas

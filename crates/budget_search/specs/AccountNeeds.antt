@@ -1,6 +1,8 @@
--- Accounts that need so much for others.
-use Rattle.std.specs.Prelude.{◌≡◌, ℕ, List, [], ◌∷◌, nat_eq, if◌then◌else◌, Option, Some, None}
-use Rattle.own_model.specs.Amounts.{Amounts}
+-- Accounts that need nothing, or so much for others.
+use Rattle.std.specs.Prelude.{◌≡◌, ℕ, true, List, [], ◌∷◌, nat_eq, is_some, if◌then◌else◌, Option, Some, None}
+use Rattle.std.specs.List.{AllByRecursion}
+use Rattle.own_model.specs.Amounts.{Amounts, no_amounts}
+use Rattle.budget_meter.specs.Needs.{amounts_of}
 use Rattle.budget_search.specs.declared.account_budgets.AccountBudgets.{AccountBudgets}
 use Rattle.budget_search.specs.declared.budget_intervals.BudgetInterval.{BudgetInterval}
 use Rattle.budget_search.specs.declared.budget_intervals.Likeness.TheVariants.{Same}
@@ -16,3 +18,26 @@ pub record IsChanged (component : ℕ) (need : Option Amounts) (old new : Accoun
   pub session : new.session ≡ old.session
   pub reserve : new.reserve ≡ old.reserve
   pub rows : new.found.rows.items ≡ (if nat_eq old.component component then need_rows need else old.found.rows.items)
+
+-- the own account of a component that makes no calls, with the budget that is given: every budget suffices, and no line is short
+-- of quota or left out
+pub record IsIdle (component : ℕ) (given : Amounts) (account : AccountBudgets) : Type 0 where
+  pub same : account.component ≡ component
+  pub own : account.session ≡ None
+  pub count : account.count ≡ 1
+  pub given_is : amounts_of account.given.budget ≡ given
+  pub accepted : account.given.refused ≡ None
+  pub reserve : amounts_of account.reserve ≡ no_amounts
+  pub rows : account.found.rows.items ≡ need_rows (Some no_amounts)
+  pub gaps : account.found.holes.items ≡ []
+  pub left_out : account.found.left_out.items ≡ []
+  pub refused : account.found.refused ≡ None
+
+-- an account is that of a session of a component, and has no reserve
+pub record IsSessionAccount (component : ℕ) (account : AccountBudgets) : Type 0 where
+  pub same : account.component ≡ component
+  pub session : is_some account.session ≡ true
+  pub reserve : amounts_of account.reserve ≡ no_amounts
+
+abbrev pub AreSessionAccounts : ℕ → List AccountBudgets → Type 0
+AreSessionAccounts component accounts = AllByRecursion (λ account. IsSessionAccount component account) accounts

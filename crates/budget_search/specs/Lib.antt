@@ -1,5 +1,9 @@
 pub mod Steps
 pub mod Run
+pub mod LineNumbers
+pub mod Donations
+pub mod Lines
+pub mod AmpleCalls
 pub mod Sufficient
 pub mod BudgetIntervals
 pub mod AccountNeeds

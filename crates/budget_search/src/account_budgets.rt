@@ -5,7 +5,7 @@ ghost use Rattle.std.specs.Option.{option_map};
 ghost use Rattle.own_model.specs.Amounts.{Amounts};
 ghost use Rattle.budget_meter.specs.Needs.{amounts_of};
 ghost use Rattle.budget_search.specs.BudgetIntervals.{chosen_of, lowest_of, safe_of, serves, AreOrdered};
-ghost use Rattle.budget_search.specs.AccountNeeds.{need_rows, IsChanged};
+ghost use Rattle.budget_search.specs.AccountNeeds.{need_rows, IsChanged, IsIdle};
 ghost use Rattle.budget_search.specs.Sufficient.{HasLeast, HasSafe};
 
 use crate::budget_intervals::{BudgetChoice, BudgetGap, BudgetInterval, BudgetIntervals, Likeness};
@@ -54,7 +54,9 @@ impl AccountBudgets {
         alloc: Global,
         component: usize,
         given: Budget,
-    ) -> Result<AccountBudgets, AllocError> {
+    ) -> Result<AccountBudgets, AllocError>
+        ensures { IfOk result (IsIdle component (amounts_of given)) }
+    {
         let rows = rows_from(alloc, Some(Budget { ram: 0, caps: 0 }))?;
         Ok(AccountBudgets {
             component,

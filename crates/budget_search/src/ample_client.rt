@@ -1,10 +1,14 @@
 //! A component with an ample account, whose sessions have enough.
+ghost use Rattle.std.specs.Prelude.{◌≡◌, is_some, IfOk};
 ghost use Rattle.core_calls.specs.Call.{IsWellFormed};
+ghost use Rattle.budget_search.specs.AmpleCalls.{is_session_short};
 
 use crate::donation::args_with;
-use budget_meter::{Budget, named_by};
-use core_calls::{Call, FileError, Outcome, Reply, ServiceOutcome};
+use crate::session_trial::is_done;
+use budget_meter::Budget;
+use core_calls::{Answer, Call, FileError, Outcome, Reply, ServiceOutcome};
 use pd_core::{Core, Router};
+use session_proto::SessionArgs;
 use std::alloc::{AllocError, Global};
 use trade_base::PAGE;
 
@@ -23,10 +27,21 @@ pub struct AmpleClient<R: Router + Drop> {
 }
 
 impl<R: Router + Drop> AmpleClient<R> {
-    ghost use Rattle.core_calls.specs.Call.{IsWellFormed};
+    ghost use Rattle.std.specs.Prelude.{◌≡◌, ◌≢◌, ℕ, codes, IfNone, IfSome, OnOk, Some};
+    ghost use Rattle.std.specs.Str.{bytes_eq};
+    ghost use Rattle.own_model.specs.Call.Call.{CallSession, Open as Opening};
+    ghost use Rattle.own_model.specs.Reply.{reply_text};
+    ghost use Rattle.own_model.specs.Reply.Reply.{Selected};
+    ghost use Rattle.core_calls.specs.Call.{model_call, IsWellFormed};
+    ghost use Rattle.budget_search.specs.AmpleCalls.{ample_args, text_after, world_after, IsAsked, IsMade};
+    ghost use Rattle.budget_search.specs.Steps.{with_args};
 
     /// Returns the client for a component of a core that has made no call, with the reply that its calls write.
-    pub fn new(core: Core<R>, component: usize, reply: Reply) -> AmpleClient<R> {
+    pub fn new(core: Core<R>, component: usize, reply: Reply) -> AmpleClient<R>
+        ensures core { result.core ≡ core }
+        ensures component { result.component ≡ component }
+        ensures text { result.reply.text ≡ reply.text }
+    {
         AmpleClient {
             core,
             component,
@@ -38,10 +53,13 @@ impl<R: Router + Drop> AmpleClient<R> {
     /// request. The error is that the host is out of memory.
     pub fn make(&mut self, alloc: Global, call: Call<'_>) -> Result<(), AllocError>
         requires { IsWellFormed call }
+        ensures same { self.new.component ≡ self.old.component }
+        ensures made { OnOk result (IsMade self.old.component (model_call call.entry)
+            self.old.core self.new.core self.new.reply.text) }
     {
         match call {
             Call::Open { service, args } => self.open(alloc, service, args),
-            Call::CallSession { selector, .. } => self.request(alloc, selector, call),
+            Call::CallSession { selector, request } => self.request(alloc, selector, request),
             _ => {
                 self.step(call);
                 Ok(())
@@ -49,9 +67,14 @@ impl<R: Router + Drop> AmpleClient<R> {
         }
     }
 
-    /// Makes a call as it is.
+    /// Makes a call as it is. A component that isn't there makes none.
     pub fn step(&mut self, call: Call<'_>)
         requires { IsWellFormed call }
+        ensures same { self.new.component ≡ self.old.component }
+        ensures core { self.new.core
+            ≡ world_after self.old.component (model_call call.entry) self.old.core }
+        ensures text { self.new.reply.text
+            ≡ text_after self.old.component (model_call call.entry) self.old.core self.old.reply.text }
     {
         if self.component < self.core.count() {
             self.core.step(self.component, call, &mut self.reply);
@@ -61,6 +84,11 @@ impl<R: Router + Drop> AmpleClient<R> {
     /// Makes a call with other arguments if it opens a session, and any other call as it is.
     pub fn open_with(&mut self, call: Call<'_>, args: &[u8])
         requires { IsWellFormed call }
+        ensures same { self.new.component ≡ self.old.component }
+        ensures core { self.new.core ≡ world_after self.old.component
+            (with_args (Some args.now) (model_call call.entry)) self.old.core }
+        ensures text { self.new.reply.text ≡ text_after self.old.component
+            (with_args (Some args.now) (model_call call.entry)) self.old.core self.old.reply.text }
     {
         match call {
             Call::Open { service, .. } => self.step(Call::Open { service, args }),
@@ -69,14 +97,18 @@ impl<R: Router + Drop> AmpleClient<R> {
     }
 
     // Opens a session, with at least the minimum donation.
-    fn open(&mut self, alloc: Global, service: &[u8], args: &[u8]) -> Result<(), AllocError> {
-        let Some(donation) = named_by(args) else {
+    fn open(&mut self, alloc: Global, service: &[u8], args: &[u8]) -> Result<(), AllocError>
+        ensures same { self.new.component ≡ self.old.component }
+        ensures made { OnOk result (self.new.core ≡ world_after self.old.component
+            (Opening service.now (ample_args args.now)) self.old.core) }
+    {
+        let Ok(given) = SessionArgs::read(args) else {
             self.step(Call::Open { service, args });
             return Ok(());
         };
         let enough = Budget {
-            ram: donation.ram.max(LEAST_DONATION.ram),
-            caps: donation.caps.max(LEAST_DONATION.caps),
+            ram: given.ram().0.max(LEAST_DONATION.ram),
+            caps: u64::from(given.caps().0).max(LEAST_DONATION.caps),
         };
         let args = args_with(alloc, enough, args)?;
         self.step(Call::Open {
@@ -88,37 +120,46 @@ impl<R: Router + Drop> AmpleClient<R> {
 
     // Makes a request of a session, again after each upgrade while the session's account refuses it. The upgrades double, so that
     // the session gets less than twice what it needs.
-    fn request(&mut self, alloc: Global, selector: u64, call: Call<'_>) -> Result<(), AllocError>
-        requires { IsWellFormed call }
+    fn request(&mut self, alloc: Global, selector: u64, request: &[u8]) -> Result<(), AllocError>
+        ensures same { self.new.component ≡ self.old.component }
+        ensures asked { OnOk result (IsAsked self.old.component selector
+            (CallSession selector request.now) self.old.core self.new.core self.new.reply.text) }
     {
         let mut times = 1u64;
-        self.step(call);
-        for _ in 0..MOST_UPGRADES {
-            let Some(args) = upgrade_for(alloc, self.reply.outcome(), times)? else {
-                return Ok(());
+        self.step(Call::CallSession { selector, request });
+        for made in 0..MOST_UPGRADES {
+            let args = match upgrade_for(alloc, self.reply.answer(), times)? {
+                Some(args) => args,
+                None => return Ok(()),
             };
-            self.step(Call::Upgrade {
-                selector,
-                args: args.as_bytes(),
-            });
-            self.step(call);
+            let args = args.as_bytes();
+            self.step(Call::Upgrade { selector, args });
+            self.step(Call::CallSession { selector, request });
             times = times.saturating_mul(2);
         }
         Ok(())
     }
 
     /// Returns the text of the reply to the last call.
-    pub fn text(&self) -> &[u8] {
+    pub fn text(&self) -> &[u8]
+        ensures { result.now ≡ self.now.reply.text }
+    {
         self.reply.text()
     }
 
     /// Returns whether the last call is done.
-    pub fn is_done(&self) -> bool {
-        matches!(self.reply.outcome(), Outcome::Done)
+    pub fn is_done(&self) -> bool
+        ensures { result ≡ bytes_eq self.now.reply.text (codes "ok") }
+    {
+        is_done(self.reply.answer())
     }
 
     /// Returns the selector in the reply to the last call, if it has one.
-    pub fn selector(&self) -> Option<u64> {
+    pub fn selector(&self) -> Option<u64>
+        ensures some { IfSome result (λ selector. self.now.reply.text ≡ reply_text (Selected selector)) }
+        ensures none { IfNone result
+            ((selector : ℕ) → self.now.reply.text ≢ reply_text (Selected selector)) }
+    {
         match self.reply.outcome() {
             Outcome::Selected(selector) => Some(u64::from(selector.0)),
             _ => None,
@@ -127,8 +168,10 @@ impl<R: Router + Drop> AmpleClient<R> {
 }
 
 // Returns the arguments of an upgrade by so many pages or capabilities, if a session's account is short of quota.
-fn upgrade_for(alloc: Global, outcome: Outcome, times: u64) -> Result<Option<String>, AllocError> {
-    let Outcome::Served(ServiceOutcome::Refused(error)) = outcome else {
+fn upgrade_for(alloc: Global, answer: Answer<'_>, times: u64) -> Result<Option<String>, AllocError>
+    ensures { IfOk result (λ args. is_some args ≡ is_session_short answer.entry.text.now) }
+{
+    let Outcome::Served(ServiceOutcome::Refused(error)) = answer.outcome else {
         return Ok(None);
     };
     let ram = times.saturating_mul(PAGE);

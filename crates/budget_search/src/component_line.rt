@@ -29,8 +29,11 @@ pub struct ComponentLine {
 }
 
 impl ComponentLine {
-    ghost use Rattle.std.specs.Prelude.{◌≡◌, IfSome};
-    ghost use Rattle.std.specs.Option.{option_map};
+    ghost use Rattle.std.specs.Prelude.{◌≡◌, ◌↔◌, IsTrue, None, IfSome, OnOk};
+    ghost use Rattle.std.specs.Bool.{OnFalse, OnTrue};
+    ghost use Rattle.std.specs.Option.{option_copied, option_map};
+    ghost use Rattle.budget_meter.specs.Needs.{amounts_of};
+    ghost use Rattle.budget_search.specs.Lines.{set_args, Donates, IsSameLine};
     ghost use Rattle.core_calls.specs.Call.{model_call, IsWellFormed};
     ghost use Rattle.budget_search.specs.Steps.{call_of, call_said, with_args};
 
@@ -58,12 +61,17 @@ impl ComponentLine {
     }
 
     /// Returns the quota that the call of the line asks for, if the refusal of the call may be a shortage.
-    pub fn asked(&self, asked: Option<Budget>) -> Option<Budget> {
+    pub fn asked(&self, asked: Option<Budget>) -> Option<Budget>
+        ensures short { OnTrue self.now.may_be_short (result ≡ asked) }
+        ensures other { OnFalse self.now.may_be_short (result ≡ None) }
+    {
         if self.may_be_short { asked } else { None }
     }
 
     /// Returns whether a line makes the same call, or is left out too.
-    pub fn is_like(&self, other: &ComponentLine) -> bool {
+    pub fn is_like(&self, other: &ComponentLine) -> bool
+        ensures { IsTrue result ↔ IsSameLine self.now other.now }
+    {
         self.number == other.number
             && self.is_left_out == other.is_left_out
             && self.line.as_slice() == other.line.as_slice()
@@ -71,7 +79,9 @@ impl ComponentLine {
 
     /// Sets the donation with which the line opens its session from now on, if the line can be written with it. The error is that
     /// the host is out of memory.
-    pub fn donate(&mut self, alloc: Global, donation: Budget) -> Result<(), AllocError> {
+    pub fn donate(&mut self, alloc: Global, donation: Budget) -> Result<(), AllocError>
+        ensures { OnOk result (Donates (amounts_of donation) self.old self.new) }
+    {
         if !self.can_donate {
             return Ok(());
         }
@@ -84,7 +94,9 @@ impl ComponentLine {
     }
 
     /// Returns the arguments with which it opens a session, if they differ from the written ones.
-    pub fn args(&self) -> Option<&[u8]> {
+    pub fn args(&self) -> Option<&[u8]>
+        ensures { option_copied result ≡ set_args self.now }
+    {
         match &self.args {
             Some(args) => Some(args.as_slice()),
             None => None,

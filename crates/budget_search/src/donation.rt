@@ -1,34 +1,22 @@
 //! Donations as the arguments of sessions.
-ghost use Rattle.std.specs.Prelude.{◌≡◌, true, Some};
+ghost use Rattle.std.specs.Prelude.{◌≡◌, true, Some, IfOk};
 ghost use Rattle.own_model.specs.SessionArgs.{Arguments, arguments_of};
+ghost use Rattle.budget_meter.specs.Needs.{amounts_of};
+ghost use Rattle.budget_search.specs.Donations.{donated_text};
 
 use budget_meter::Budget;
 use session_proto::SessionArgs;
 use std::alloc::{AllocError, Global};
 
 /// Returns the text of arguments with a donation, and the label of other arguments. The error is that the host is out of memory.
-pub(crate) fn args_with(
-    alloc: Global,
-    donation: Budget,
-    args: &[u8],
-) -> Result<Vec<u8>, AllocError> {
+pub(crate) fn args_with(alloc: Global, donation: Budget, args: &[u8]) -> Result<Vec<u8>, AllocError>
+    ensures { IfOk result (λ text. text.items ≡ donated_text (amounts_of donation) args.now) }
+{
     let (ram, caps) = (donation.ram, donation.caps);
-    let mut text = format!(in alloc; "ram_quota={ram}, cap_quota={caps}")?.into_bytes();
-    if let Ok(given) = SessionArgs::read(args) {
-        add_label(&mut text, given.label())?;
-    }
+    let mut text = format!(in alloc; "ram_quota={ram}, cap_quota={caps}, label=\"")?.into_bytes();
+    text.extend_from_slice(SessionArgs::label_given(args))?;
+    text.push(b'"')?;
     Ok(text)
-}
-
-// Adds a label, if there is one.
-fn add_label(text: &mut Vec<u8>, label: &[u8]) -> Result<(), AllocError> {
-    if label.is_empty() {
-        return Ok(());
-    }
-    text.extend_from_slice(b", label=\"")?;
-    text.extend_from_slice(label)?;
-    text.extend_from_slice(b"\"")?;
-    Ok(())
 }
 
 /// Returns whether arguments have this donation, and the same label as other arguments.

@@ -2,7 +2,7 @@
 ghost use Rattle.std.specs.Prelude.{◌≡◌, ◌-◌, ◌<◌, ◌^◌, length, IfOk};
 ghost use Rattle.budget_meter.specs.Needs.{amounts_of};
 ghost use Rattle.list_parser.specs.Budgets.{but_budgets};
-ghost use Rattle.budget_search.specs.Alike.{IsFunded, reserve_in};
+ghost use Rattle.budget_search.specs.Alike.{most_in, reserve_in, IsFunded};
 
 use budget_meter::Budget;
 use list_parser::StartList;
@@ -69,6 +69,8 @@ fn fund_inits(machine: &mut StartList, component: usize, ram: Ram, caps: Caps)
 /// has a budget or a reserve.
 pub fn ample(alloc: Global, list: &StartList, component: usize) -> Result<StartList, AllocError>
     requires { component < length list.now.entries }
+    ensures { IfOk result
+        (λ machine. IsFunded machine list.now component (most_in list.now component)) }
 {
     let most = most_beside(reserve_of(list, component));
     funded(alloc, list, component, most)

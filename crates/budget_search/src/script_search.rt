@@ -38,12 +38,15 @@ pub struct ScriptSessions {
 }
 
 impl ScriptSearch<'_> {
-    ghost use Rattle.std.specs.Prelude.{◌≡◌, ◌<◌, length, None, IfOk, IfSome};
+    ghost use Rattle.std.specs.Prelude.{◌≡◌, ◌<◌, length, is_some, None, IfOk, IfSome, OnOk};
     ghost use Rattle.budget_meter.specs.Needs.{amounts_of};
     ghost use Rattle.own_model.specs.StartList.Kind.{Script as AScript};
-    ghost use Rattle.budget_search.specs.Alike.{most_in, own_entry, reserve_in};
+    ghost use Rattle.budget_meter.specs.Run.{Shows};
+    ghost use Rattle.budget_search.specs.AccountNeeds.{AreSessionAccounts, IsSessionAccount};
+    ghost use Rattle.budget_search.specs.Alike.{most_in, own_entry, own_state, reserve_in};
     ghost use Rattle.budget_search.specs.BudgetIntervals.{lowest_of, safe_of};
     ghost use Rattle.budget_search.specs.Own.{suffices_with, AreExact};
+    ghost use Rattle.budget_search.specs.Steps.{calls_of};
     ghost use Rattle.budget_search.specs.Sufficient.{HasLeast, HasSafe};
 
     /// Returns the search for the budgets of a component of a list, if it is a script.
@@ -68,7 +71,15 @@ impl ScriptSearch<'_> {
         &self,
         alloc: Global,
         steps: &[ComponentLine],
-    ) -> Result<ScriptSessions, BootFault> {
+    ) -> Result<ScriptSessions, BootFault>
+        ensures given { IfOk result (λ found.
+            (own_entry self.now.list.now self.now.component).kind ≡ AScript →
+            Shows (own_entry self.now.list.now self.now.component) (calls_of steps.now)
+            (own_state self.now.list.now self.now.component) (amounts_of self.now.given)
+            (is_some found.given.refused) found.given.meter) }
+        ensures accounts { IfOk result (λ found.
+            AreSessionAccounts self.now.component found.accounts.items) }
+    {
         let given = funded_trial(alloc, self.list, self.component, steps, self.given)?;
         let accounts = self.session_accounts(alloc, steps)?;
         Ok(ScriptSessions { given, accounts })
@@ -79,7 +90,9 @@ impl ScriptSearch<'_> {
         &self,
         alloc: Global,
         steps: &[ComponentLine],
-    ) -> Result<Vec<AccountBudgets>, BootFault> {
+    ) -> Result<Vec<AccountBudgets>, BootFault>
+        ensures { IfOk result (λ found. AreSessionAccounts self.now.component found.items) }
+    {
         let ample = ample(alloc, self.list, self.component)?;
         let opened = OpenedSessions::of(alloc, &ample, self.component, steps)?;
         self.opened_accounts(alloc, &ample, steps, opened.opened.as_slice())
@@ -92,7 +105,9 @@ impl ScriptSearch<'_> {
         ample: &StartList,
         steps: &[ComponentLine],
         sessions: &[OpenedSession],
-    ) -> Result<Vec<AccountBudgets>, BootFault> {
+    ) -> Result<Vec<AccountBudgets>, BootFault>
+        ensures { IfOk result (λ found. AreSessionAccounts self.now.component found.items) }
+    {
         let reply = Reply::boot(alloc)?;
         let core = boot(alloc, ample)?;
         let client = SessionClient::new(core, self.component, reply);
@@ -106,7 +121,9 @@ impl ScriptSearch<'_> {
         client: SessionClient<R>,
         steps: &[ComponentLine],
         sessions: &[OpenedSession],
-    ) -> Result<Vec<AccountBudgets>, BootFault> {
+    ) -> Result<Vec<AccountBudgets>, BootFault>
+        ensures { IfOk result (λ found. AreSessionAccounts self.now.component found.items) }
+    {
         let mut client = client;
         let mut accounts = SessionAccounts::new(alloc);
         for opened in sessions {
@@ -123,7 +140,10 @@ impl ScriptSearch<'_> {
         steps: &[ComponentLine],
         opened: &OpenedSession,
         accounts: &mut SessionAccounts,
-    ) -> Result<(), BootFault> {
+    ) -> Result<(), BootFault>
+        ensures { OnOk result (AreSessionAccounts self.now.component accounts.old.accounts.items →
+            AreSessionAccounts self.now.component accounts.new.accounts.items) }
+    {
         let account = self.session(alloc, client, steps, opened)?;
         accounts.add(account)?;
         Ok(())
@@ -188,7 +208,9 @@ impl ScriptSearch<'_> {
         client: &mut SessionClient<R>,
         steps: &[ComponentLine],
         opened: &OpenedSession,
-    ) -> Result<AccountBudgets, BootFault> {
+    ) -> Result<AccountBudgets, BootFault>
+        ensures { IfOk result (IsSessionAccount self.now.component) }
+    {
         let reached = SessionLines { steps, opened };
         let given = reached.trial(alloc, client, opened.donation)?;
         let most = most_beside(reserve_of(self.list, self.component));

@@ -13,8 +13,13 @@ pub(crate) struct SessionAccounts {
 }
 
 impl SessionAccounts {
+    ghost use Rattle.std.specs.Prelude.{◌≡◌, ◌<◌, [], ℕ, length, IfSome, OnOk};
+    ghost use Rattle.budget_search.specs.AccountNeeds.{AreSessionAccounts, IsSessionAccount};
+
     /// Returns no accounts.
-    pub(crate) fn new(alloc: Global) -> SessionAccounts {
+    pub(crate) fn new(alloc: Global) -> SessionAccounts
+        ensures { result.accounts.items ≡ [] }
+    {
         SessionAccounts {
             accounts: Vec::new(alloc),
             lines: LineNumbers::new(alloc),
@@ -23,19 +28,34 @@ impl SessionAccounts {
 
     /// Adds the account of a session: to one that is alike, if there is one, and else by itself. The error is that the host is out
     /// of memory.
-    pub(crate) fn add(&mut self, account: AccountBudgets) -> Result<(), AllocError> {
+    pub(crate) fn add(&mut self, account: AccountBudgets) -> Result<(), AllocError>
+        ensures { OnOk result ((component : ℕ) → IsSessionAccount component account →
+            AreSessionAccounts component self.old.accounts.items →
+            AreSessionAccounts component self.new.accounts.items) }
+    {
         let Some(session) = account.session() else {
             return Ok(());
         };
         if self.lines.add(session.line)? {
-            for other in self.accounts.as_mut_slice() {
-                if other.is_alike(&account) {
-                    other.count = other.count.saturating_add(1);
-                    return Ok(());
-                }
+            if let Some(place) = self.place_alike(&account) {
+                let other = &mut self.accounts[place];
+                other.count = other.count.saturating_add(1);
+                return Ok(());
             }
         }
         self.accounts.push(account)?;
         Ok(())
+    }
+
+    // Returns the place of the first account that is alike, if there is one.
+    fn place_alike(&self, account: &AccountBudgets) -> Option<usize>
+        ensures { IfSome result (λ place. place < length self.now.accounts.items) }
+    {
+        for place in 0..self.accounts.len() {
+            if self.accounts[place].is_alike(account) {
+                return Some(place);
+            }
+        }
+        None
     }
 }

@@ -442,8 +442,8 @@ impl SessionRun {
     }
 }
 
-// Returns whether a donation is done.
-fn is_done(answer: Answer<'_>) -> bool
+/// Returns whether a call is done.
+pub(crate) fn is_done(answer: Answer<'_>) -> bool
     ensures { result ≡ bytes_eq answer.entry.text.now (codes "ok") }
 {
     matches!(answer.outcome, Outcome::Done)
