@@ -5,6 +5,5 @@ pub mod FileChangeLemmas
 pub mod ServeLemmas
 pub mod WriteLemmas
 pub mod LengthenLemmas
-pub mod ReadyLemmas
 pub mod RequestLemmas
 pub mod BufferRequestLemmas

@@ -7,6 +7,5 @@ pub mod KeptLemmas
 pub mod ChangeLemmas
 pub mod TakenLemmas
 pub mod ServeLemmas
-pub mod ReadyLemmas
 pub mod BufferRequestLemmas
 pub mod NameLemmas
