@@ -142,8 +142,18 @@ both_objects None now = []
 both_objects (Some was) None = []
 both_objects (Some was) (Some now) = changed_object was (kinds_data was.binary) now (kinds_data now.binary) ∷ []
 
+-- of the entry of a number
+abbrev pub gone_objects : Listed → ℕ → List (List Member)
+gone_objects list number = one_objects (codes "-") old_names (slice_get list.entries number)
+
+abbrev pub came_objects : Listed → ℕ → List (List Member)
+came_objects list number = one_objects (codes "+") new_names (slice_get list.entries number)
+
+abbrev pub changed_objects : Listed → ℕ → Listed → ℕ → List (List Member)
+changed_objects before was after now = both_objects (slice_get before.entries was) (slice_get after.entries now)
+
 -- the object of a change of an entry
 abbrev pub change_objects : Listed → Listed → EntryChange → List (List Member)
-change_objects before after (Gone number) = one_objects (codes "-") old_names (slice_get before.entries number)
-change_objects before after (Came number) = one_objects (codes "+") new_names (slice_get after.entries number)
-change_objects before after (Changed was now) = both_objects (slice_get before.entries was) (slice_get after.entries now)
+change_objects before after (Gone number) = gone_objects before number
+change_objects before after (Came number) = came_objects after number
+change_objects before after (Changed was now) = changed_objects before was after now

@@ -1,6 +1,6 @@
 //! Differences as documents for programs.
 ghost use Rattle.std.specs.Prelude.{◌≡◌, ◌∷◌, ◌++◌, [], List, map, IfOk, OnOk};
-ghost use Rattle.std.specs.List.{flat_map};
+ghost use Rattle.std.specs.List.{flat_map, slice_get};
 ghost use Rattle.std.specs.Option.{option_copied, option_map};
 ghost use Rattle.core_calls.specs.Quotas.{reserve_amounts};
 ghost use Rattle.list_parser.specs.View.{model_binary};
@@ -10,7 +10,7 @@ ghost use Rattle.list_diff.specs.BreachTexts.{IsBreachObject};
 ghost use Rattle.list_diff.specs.NeedTexts.{need_object};
 ghost use Rattle.list_diff.specs.ReachTexts.{IsReachObject};
 ghost use Rattle.list_diff.specs.ReplyTexts.{reply_objects};
-ghost use Rattle.list_diff.specs.Documents.{binary_word, both_objects, budget_members, change_objects, changed_object, entry_members, entry_object, front, kind_object, kinds_data, kinds_in, kinds_members, machine_objects, names_in, one_objects, reserve_members, service_members};
+ghost use Rattle.list_diff.specs.Documents.{binary_word, both_objects, budget_members, came_objects, change_objects, changed_object, changed_objects, entry_members, entry_object, front, gone_objects, kind_object, kinds_data, kinds_in, kinds_members, machine_objects, names_in, one_objects, reserve_members, service_members};
 
 use crate::differences::{ListDifferences, has_same_machine};
 use crate::entry_changes::EntryChange;
@@ -60,7 +60,9 @@ const OLD_NAMES: EntryNames = EntryNames {
 
 impl ListDifferences<'_> {
     /// Returns a JSON document for each line that is printed of the differences. Fails if the host is out of memory.
-    pub fn documents(&self, alloc: Global) -> Result<Vec<u8>, AllocError> {
+    pub fn documents(&self, alloc: Global) -> Result<Vec<u8>, AllocError>
+        ensures { IfOk result (λ text. IsDocument self.now text.items) }
+    {
         let mut listing = Listing::new(alloc);
         add_machine(&mut listing, self.before, self.after)?;
         add_changes(alloc, &mut listing, self.before, self.after, self.changes)?;
@@ -79,8 +81,12 @@ fn add_changes(
     before: &StartList,
     after: &StartList,
     changes: &[EntryChange],
-) -> Result<(), AllocError> {
-    for change in changes {
+) -> Result<(), AllocError>
+    ensures { (objects : List (List Member)) → Lists listing.old objects → OnOk result
+        (Lists listing.new (objects ++ flat_map (change_objects before.now after.now) changes.now)) }
+{
+    for place in 0..changes.len() {
+        let change = &changes[place];
         add_change(alloc, listing, before, after, *change)?;
     }
     Ok(())
@@ -113,8 +119,12 @@ fn add_breaches(listing: &mut Listing, breaches: &[BreachChange<'_>]) -> Result<
 }
 
 // Adds the components that fall short.
-fn add_lacks(listing: &mut Listing, lacks: &[NeedChange<'_>]) -> Result<(), AllocError> {
-    for lack in lacks {
+fn add_lacks(listing: &mut Listing, lacks: &[NeedChange<'_>]) -> Result<(), AllocError>
+    ensures { (objects : List (List Member)) → Lists listing.old objects →
+        OnOk result (Lists listing.new (objects ++ map need_object lacks.now)) }
+{
+    for place in 0..lacks.len() {
+        let lack = &lacks[place];
         lack.list(listing)?;
     }
     Ok(())
@@ -142,23 +152,79 @@ fn add_change(
     before: &StartList,
     after: &StartList,
     change: EntryChange,
-) -> Result<(), AllocError> {
-    let (olds, news) = (before.entries(), after.entries());
+) -> Result<(), AllocError>
+    ensures { (objects : List (List Member)) → Lists listing.old objects → OnOk result
+        (Lists listing.new (objects ++ change_objects before.now after.now change)) }
+{
     match change {
-        EntryChange::Gone(number) => add_one(alloc, listing, "-", OLD_NAMES, olds.get(number)),
-        EntryChange::Came(number) => add_one(alloc, listing, "+", NEW_NAMES, news.get(number)),
-        EntryChange::Changed(was, now) => add_both(alloc, listing, olds.get(was), news.get(now)),
+        EntryChange::Gone(number) => add_gone(alloc, listing, before, number),
+        EntryChange::Came(number) => add_came(alloc, listing, after, number),
+        EntryChange::Changed(was, now) => { add_numbered(alloc, listing, before, was, after, now) }
     }
 }
 
+// Returns the entry of a number, if the list has it.
+fn entry_at(list: &StartList, number: usize) -> Option<&ListEntry>
+    ensures { option_copied result ≡ slice_get list.now.entries number }
+{
+    list.entries().get(number)
+}
+
+// Adds the removed entry of a number.
+fn add_gone(
+    alloc: Global,
+    listing: &mut Listing,
+    list: &StartList,
+    number: usize,
+) -> Result<(), AllocError>
+    ensures { (objects : List (List Member)) → Lists listing.old objects → OnOk result
+        (Lists listing.new (objects ++ gone_objects list.now number)) }
+{
+    add_one(alloc, listing, "-", OLD_NAMES, entry_at(list, number))
+}
+
+// Adds the added entry of a number.
+fn add_came(
+    alloc: Global,
+    listing: &mut Listing,
+    list: &StartList,
+    number: usize,
+) -> Result<(), AllocError>
+    ensures { (objects : List (List Member)) → Lists listing.old objects → OnOk result
+        (Lists listing.new (objects ++ came_objects list.now number)) }
+{
+    add_one(alloc, listing, "+", NEW_NAMES, entry_at(list, number))
+}
+
+// Adds the changed entry of two numbers.
+fn add_numbered(
+    alloc: Global,
+    listing: &mut Listing,
+    before: &StartList,
+    was: usize,
+    after: &StartList,
+    now: usize,
+) -> Result<(), AllocError>
+    ensures { (objects : List (List Member)) → Lists listing.old objects → OnOk result
+        (Lists listing.new (objects ++ changed_objects before.now was after.now now)) }
+{
+    let old = entry_at(before, was);
+    let new = entry_at(after, now);
+    add_both(alloc, listing, old, new)
+}
+
 // Adds an entry that one list alone has, if it is there, by the sign of the change, with its members under these names.
+#[tactic(auto, using(view_json::proofs::ListingLemmas::lists_none))]
 fn add_one(
     alloc: Global,
     listing: &mut Listing,
     sign: &'static str,
     names: EntryNames,
     entry: Option<&ListEntry>,
-) -> Result<(), AllocError> {
+) -> Result<(), AllocError>
+    ensures { (objects : List (List Member)) → Lists listing.old objects → OnOk result
+        (Lists listing.new (objects ++ one_objects sign.now (names_in names) (option_copied entry.entry))) }
+{
     match entry {
         Some(entry) => add_entry(alloc, listing, sign, names, entry),
         None => Ok(()),
@@ -166,12 +232,16 @@ fn add_one(
 }
 
 // Adds an entry that both lists have, if it is there, as it was and as it is.
+#[tactic(auto, using(view_json::proofs::ListingLemmas::lists_none))]
 fn add_both(
     alloc: Global,
     listing: &mut Listing,
     was: Option<&ListEntry>,
     now: Option<&ListEntry>,
-) -> Result<(), AllocError> {
+) -> Result<(), AllocError>
+    ensures { (objects : List (List Member)) → Lists listing.old objects → OnOk result
+        (Lists listing.new (objects ++ both_objects (option_copied was.entry) (option_copied now.entry))) }
+{
     match (was, now) {
         (Some(was), Some(now)) => add_changed(alloc, listing, was, now),
         (None, _) | (Some(_), None) => Ok(()),
@@ -185,7 +255,10 @@ fn add_entry(
     sign: &'static str,
     names: EntryNames,
     entry: &ListEntry,
-) -> Result<(), AllocError> {
+) -> Result<(), AllocError>
+    ensures { (objects : List (List Member)) → Lists listing.old objects → OnOk result (Lists listing.new
+        (objects ++ entry_object sign.now (names_in names) entry.now (kinds_data entry.now.binary) ∷ [])) }
+{
     let kinds = kinds_of(alloc, entry)?;
     let given = kinds.as_ref();
     list_entry(alloc, listing, (sign, names), entry, given)
@@ -197,7 +270,10 @@ fn add_changed(
     listing: &mut Listing,
     was: &ListEntry,
     now: &ListEntry,
-) -> Result<(), AllocError> {
+) -> Result<(), AllocError>
+    ensures { (objects : List (List Member)) → Lists listing.old objects → OnOk result (Lists listing.new
+        (objects ++ changed_object was.now (kinds_data was.now.binary) now.now (kinds_data now.now.binary) ∷ [])) }
+{
     let old_kinds = kinds_of(alloc, was)?;
     let kinds = kinds_of(alloc, now)?;
     let old = old_kinds.as_ref();
@@ -212,7 +288,10 @@ fn list_entry<'a>(
     by: (&'static str, EntryNames),
     entry: &'a ListEntry,
     kinds: Option<&'a ObjectList>,
-) -> Result<(), AllocError> {
+) -> Result<(), AllocError>
+    ensures { (objects : List (List Member)) → Lists listing.old objects → OnOk result (Lists listing.new
+        (objects ++ entry_object by.entry.0.now (names_in by.entry.1) entry.now (option_map list_data (option_copied kinds.entry)) ∷ [])) }
+{
     let members = front(alloc, "entry", by.0)?;
     let members = with_entry(members, by.1, entry, kinds)?;
     listing.add(members.as_slice())
@@ -224,11 +303,15 @@ fn list_changed<'a>(
     listing: &mut Listing,
     was: (&'a ListEntry, Option<&'a ObjectList>),
     now: (&'a ListEntry, Option<&'a ObjectList>),
-) -> Result<(), AllocError> {
-    let members = front(alloc, "entry", "~")?;
-    let members = with_entry(members, OLD_NAMES, was.0, was.1)?;
-    let members = with_entry(members, NEW_NAMES, now.0, now.1)?;
-    listing.add(members.as_slice())
+) -> Result<(), AllocError>
+    ensures { (objects : List (List Member)) → Lists listing.old objects → OnOk result (Lists listing.new
+        (objects ++ changed_object was.entry.0.now (option_map list_data (option_copied was.entry.1))
+        now.entry.0.now (option_map list_data (option_copied now.entry.1)) ∷ [])) }
+{
+    let first = front(alloc, "entry", "~")?;
+    let more = with_entry(first, OLD_NAMES, was.0, was.1)?;
+    let all = with_entry(more, NEW_NAMES, now.0, now.1)?;
+    listing.add(all.as_slice())
 }
 
 // Adds the machine of the list after, and that of the list before, unless they are the same.
@@ -269,7 +352,10 @@ fn with_entry<'a>(
     names: EntryNames,
     entry: &'a ListEntry,
     kinds: Option<&'a ObjectList>,
-) -> Result<Vec<JsonMember<'a>>, AllocError> {
+) -> Result<Vec<JsonMember<'a>>, AllocError>
+    ensures { IfOk result (λ more. members_data more.items ≡ members_data members.entry.items
+        ++ entry_members (names_in names) entry.now (option_map list_data (option_copied kinds.entry))) }
+{
     let front = with_budget(members, names, entry)?;
     let more = with_reserve(front, names, entry.reserve())?;
     let most = with_service(more, names, entry.provides(), entry.service())?;

@@ -2,3 +2,4 @@ mod ServiceLemmas
 mod CoverLemmas
 mod TableLemmas
 mod PlaceLemmas
+mod DocumentLemmas

@@ -1,7 +1,9 @@
 pub mod Forms
 pub mod Requests
+pub mod RowTexts
 pub mod Rules
 pub mod Views
 pub mod Covered
+pub mod Documents
 pub mod Reported
 pub mod TableTheorems

@@ -1,4 +1,7 @@
 //! The coverage of all scenarios, as lines for people.
+ghost use Rattle.std.specs.Prelude.{Some};
+ghost use Rattle.view_coverage.specs.RowTexts.{event_text};
+
 use crate::event::CoverageEvent;
 use crate::report::{CoverageReport, CoverageSheet, PartKind, PartName, tables_of};
 use crate::row::CoverageRow;
@@ -7,6 +10,8 @@ use std::fmt;
 /// Writes a refusal after the form of its calls, or an error after the form of its requests. A rule and a service have their
 /// numbers.
 impl fmt::Display for CoverageRow {
+    ghost output = { λ row. Some (event_text row.event) };
+
     fn fmt<W: fmt::Write>(&self, f: &mut fmt::Formatter<W>) -> fmt::Result {
         match self.event {
             CoverageEvent::Refused(form, refusal) => write!(

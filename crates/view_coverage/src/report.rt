@@ -1,6 +1,8 @@
 //! The coverage of all scenarios: which rules decide a session request, which script requests which service, and which refusals
 //! and errors are met, in total and by file.
-ghost use Rattle.std.specs.Prelude.{◌≡◌, ◌&&◌, ◌==◌, ◌++◌, ◌∷◌, [], count_by, if◌then◌else◌, is_some, length, map, string_bytes, IfOk, IfSome, OnOk, Some};
+ghost use Rattle.std.specs.Prelude.{◌≡◌, ◌≤◌, ◌&&◌, ◌==◌, ◌++◌, ◌∷◌, [], count_by, if◌then◌else◌, is_some, length, map, string_bytes, IfOk, IfSome, OnOk, Some};
+ghost use Rattle.std.specs.List.{position};
+ghost use Rattle.view_coverage.specs.Documents.{most_rows, table_rows};
 ghost use Rattle.view_coverage.specs.Reported.{if_new, is_covered, is_event_of_list, is_met_in, is_met_on_table, is_of_list, list_at, list_of_scenario, numbers_of, parts_from, parts_in, parts_with, paths_in, paths_with, place_of, rows_in};
 
 use crate::event::{CoverageEvent, RouteOwner, RulePlace, ScriptService};
@@ -104,7 +106,12 @@ pub(crate) struct CoverageSheet {
 
 impl CoverageReport {
     /// Returns a report without scenarios, to which scenarios are added. It has the refusals and errors if `calls` is set.
-    pub fn new(alloc: Global, calls: bool) -> CoverageReport {
+    pub fn new(alloc: Global, calls: bool) -> CoverageReport
+        ensures calls { result.calls ≡ calls }
+        ensures paths { paths_in result ≡ [] }
+        ensures parts { parts_in result ≡ [] }
+        ensures rows { rows_in result ≡ [] }
+    {
         CoverageReport {
             alloc,
             calls,
@@ -176,15 +183,10 @@ impl CoverageReport {
 
     /// Returns the rows of both tables. Their events are the same for each scenario, except that only the machines with declared
     /// servers have the last ones, which are of requests to these: so the most rows of a scenario are returned.
-    pub(crate) fn tables(&self) -> &[CoverageRow] {
-        let mut most: &[CoverageRow] = &[];
-        for sheet in self.sheets.as_slice() {
-            let rows = tables_of(sheet.rows.as_slice());
-            if rows.len() > most.len() {
-                most = rows;
-            }
-        }
-        most
+    pub(crate) fn tables(&self) -> &[CoverageRow]
+        ensures { result.now ≡ most_rows [] self.now.sheets.items }
+    {
+        tables_in(self.sheets.as_slice())
     }
 
     /// Returns how many scenarios meet the row at a place of the tables.
@@ -263,12 +265,37 @@ fn times_of(sheets: &[CoverageSheet], list: usize, place: usize) -> usize
         .count()
 }
 
+// Returns the rows of both tables of the scenario that has most of them.
+fn tables_in(sheets: &[CoverageSheet]) -> &[CoverageRow]
+    ensures { result.now ≡ most_rows [] sheets.now }
+{
+    let mut most: &[CoverageRow] = &[];
+    for sheet in sheets {
+        let rows = tables_of(sheet.rows.as_slice());
+        if rows.len() > most.len() {
+            most = rows;
+        }
+    }
+    most
+}
+
 /// Returns the rows before the first row of a start list: those of both tables.
-pub(crate) fn tables_of(rows: &[CoverageRow]) -> &[CoverageRow] {
-    match rows.iter().position(|row| row.is_of_list()) {
+#[tactic(auto, using(crate::proofs::PlaceLemmas::all_rows, crate::proofs::PlaceLemmas::first_rows))]
+pub(crate) fn tables_of(rows: &[CoverageRow]) -> &[CoverageRow]
+    ensures { result.now ≡ table_rows rows.now }
+{
+    match first_of_list(rows) {
         Some(end) => &rows[..end],
         None => rows,
     }
+}
+
+// Returns the place of the first row of a start list.
+fn first_of_list(rows: &[CoverageRow]) -> Option<usize>
+    ensures place { result ≡ position is_of_list rows.now }
+    ensures within { IfSome result (λ end. end ≤ length rows.now) }
+{
+    rows.iter().position(|row| row.is_of_list())
 }
 
 // Adds the parts of the start list at a place: one for each row of a rule or of a script and a service.
