@@ -4,3 +4,7 @@ pub mod Measured
 pub mod ComponentLines
 pub mod Report
 pub mod WrittenList
+pub mod MemberValues
+pub mod ValueWriters
+pub mod Unmeasured
+pub mod Documents

@@ -1,5 +1,5 @@
 -- A start list with the budgets of a report.
-use Rattle.std.specs.Prelude.{◌≡◌, ℕ, ◌&&◌, ◌||◌, ◌==◌, Bool, true, false, List, max, is_some, if◌then◌else◌, Option, Some, None, Ok}
+use Rattle.std.specs.Prelude.{◌≡◌, ℕ, ◌&&◌, ◌||◌, ◌==◌, Bool, true, false, List, map, max, is_some, if◌then◌else◌, Option, Some, None, Ok}
 use Rattle.std.specs.List.{list_all, slice_get}
 use Rattle.std.specs.Option.{option_map_or}
 use Rattle.own_model.specs.Amounts.{Amounts}
@@ -8,6 +8,7 @@ use Rattle.list_parser.specs.StartText.{list_in}
 use Rattle.budget_search.specs.BudgetIntervals.{chosen_of}
 use Rattle.budget_search.specs.declared.account_budgets.AccountBudgets.{AccountBudgets}
 use Rattle.budget_search.specs.declared.budget_intervals.BudgetChoice.{BudgetChoice}
+use Rattle.budget_least.specs.MemberValues.{IsRewritten}
 use Rattle.budget_least.specs.Report.{sum_of, HasSmallestMachine}
 use Rattle.budget_least.specs.declared.machine_size.MachineSize.{MachineSize}
 use Rattle.budget_least.specs.declared.report.BudgetReport.{BudgetReport}
@@ -30,10 +31,17 @@ abbrev pub size_of : Listed → Option MachineSize → MachineSize
 size_of list None = record { pages = list.pages; caps = list.caps }
 size_of list (Some size) = record { pages = max size.pages list.pages; caps = max size.caps list.caps }
 
--- a text is a start list with the budgets of a report, on a machine that is large enough if one is
-pub record IsWritten (report : BudgetReport) (text : List ℕ) : Type 0 where
+-- the paths of the entries
+abbrev pub paths_of : Listed → List (List ℕ)
+paths_of list = map (λ entry. entry.path) list.entries
+
+-- a text is written as a start list with the budgets of a report, on a machine that is large enough if one is. Its entries have
+-- the paths of the report's list, and every byte stays that is no part of a name, a text or a number
+pub record IsWritten (report : BudgetReport) (text written : List ℕ) : Type 0 where
+  pub rewritten : IsRewritten text written
   pub list : Listed
-  pub is_read : list_in text ≡ Ok list
+  pub is_read : list_in written ≡ Ok list
+  pub paths : paths_of list ≡ paths_of report.list.now
   pub budgets : list_all (has_budget list report.choice) report.accounts.items ≡ true
   pub smallest : Option MachineSize
   pub smallest_is : HasSmallestMachine (sum_of report) smallest

@@ -1,4 +1,7 @@
 //! A JSON text with other values of some of its members. Every other byte stays.
+ghost use Rattle.std.specs.Prelude.{◌≡◌, IfOk, IfSome};
+ghost use Rattle.budget_least.specs.MemberValues.{is_between, HasValues, IsValueOf};
+
 use serde_json::Value;
 use std::alloc::{AllocError, Global};
 
@@ -24,7 +27,9 @@ pub(crate) fn with_values(
     alloc: Global,
     text: &[u8],
     values: &[MemberValue],
-) -> Result<Vec<u8>, AllocError> {
+) -> Result<Vec<u8>, AllocError>
+    ensures { IfOk result (λ written. HasValues values.now text.now written.items) }
+{
     let mut writer = ValueWriter {
         values,
         written: Vec::new(alloc),
@@ -45,6 +50,32 @@ enum Quote {
     Outside,
     Inside,
     Escaped,
+}
+
+impl Quote {
+    ghost use Rattle.std.specs.Prelude.{◌≡◌, ◌↔◌, IsTrue};
+    ghost use Rattle.budget_least.specs.MemberValues.{place_after};
+    ghost use Rattle.budget_least.specs.MemberValues.Place.{Outside as IsOutside};
+    ghost use Rattle.budget_least.specs.ValueWriters.{place_of};
+
+    // Returns whether a byte is outside of quotes.
+    fn is_outside(self) -> bool
+        ensures { IsTrue result ↔ (place_of self ≡ IsOutside) }
+    {
+        matches!(self, Quote::Outside)
+    }
+
+    // Returns the relation of the next byte, after this one.
+    fn after(self, byte: u8) -> Quote
+        ensures { place_of result ≡ place_after (place_of self) byte }
+    {
+        match (self, byte) {
+            (Quote::Escaped, _) | (Quote::Outside, b'"') => Quote::Inside,
+            (Quote::Inside, b'\\') => Quote::Escaped,
+            (Quote::Inside, b'"') => Quote::Outside,
+            (quote, _) => quote,
+        }
+    }
 }
 
 // An array or an object whose end isn't reached.
@@ -68,41 +99,69 @@ struct ValueWriter<'v> {
 }
 
 impl ValueWriter<'_> {
+    ghost use Rattle.std.specs.Prelude.{◌≡◌, ◌∷◌, ◌++◌, [], ℕ, List, OnOk};
+    ghost use Rattle.budget_least.specs.MemberValues.{HasValues};
+    ghost use Rattle.budget_least.specs.MemberValues.Place.{Outside};
+    ghost use Rattle.budget_least.specs.ValueWriters.{place_of, HasRead};
+
     // Takes the next byte.
-    fn take(&mut self, alloc: Global, byte: u8) -> Result<(), AllocError> {
-        match (self.quote, byte) {
-            (Quote::Escaped, _) | (Quote::Outside, b'"') => self.quote = Quote::Inside,
-            (Quote::Inside, b'\\') => self.quote = Quote::Escaped,
-            (Quote::Inside, b'"') => self.quote = Quote::Outside,
-            (Quote::Inside, _) => {}
-            (Quote::Outside, byte) => if is_between(byte) {
-                self.end_scalar(alloc)?;
-                self.enter(byte)?;
-                self.written.push(byte)?;
-                return Ok(());
-            },
+    fn take(&mut self, alloc: Global, byte: u8) -> Result<(), AllocError>
+        ensures values { self.new.values.now ≡ self.old.values.now }
+        ensures read { (text : List ℕ) → HasRead text self.old →
+            OnOk result (HasRead (text ++ byte ∷ []) self.new) }
+    {
+        if self.quote.is_outside() && is_between(byte) {
+            return self.pass(alloc, byte);
         }
+        self.quote = self.quote.after(byte);
         self.scalar.push(byte)?;
         Ok(())
     }
 
-    // Writes the name, the text or the number that has ended, or the new value of its member.
-    fn end_scalar(&mut self, alloc: Global) -> Result<(), AllocError> {
+    // Takes the next byte, which is between two values.
+    fn pass(&mut self, alloc: Global, byte: u8) -> Result<(), AllocError>
+        ensures values { self.new.values.now ≡ self.old.values.now }
+        ensures read { (text : List ℕ) → place_of self.old.quote ≡ Outside → HasRead text self.old →
+            OnOk result (HasRead (text ++ byte ∷ []) self.new) }
+    {
+        self.end_scalar(alloc)?;
+        self.enter(byte)?;
+        self.written.push(byte)?;
+        Ok(())
+    }
+
+    // Ends the name, the text or the number before this place, if there is one.
+    fn end_scalar(&mut self, alloc: Global) -> Result<(), AllocError>
+        ensures values { self.new.values.now ≡ self.old.values.now }
+        ensures quote { self.new.quote ≡ self.old.quote }
+        ensures ended { OnOk result (self.new.scalar.items ≡ []) }
+        ensures written { (text : List ℕ) → HasRead text self.old →
+            OnOk result (HasValues self.old.values.now text self.new.written.items) }
+    {
         if self.scalar.is_empty() {
             return Ok(());
         }
+        self.write_scalar(alloc)?;
+        self.scalar.clear();
+        Ok(())
+    }
+
+    // Writes the name, the text or the number that has ended, or the new value of its member.
+    fn write_scalar(&mut self, alloc: Global) -> Result<(), AllocError>
+        ensures values { self.new.values.now ≡ self.old.values.now }
+        ensures quote { self.new.quote ≡ self.old.quote }
+        ensures written { (text : List ℕ) → HasRead text self.old →
+            OnOk result (HasValues self.old.values.now text self.new.written.items) }
+    {
         if self.awaits_name() {
             let name = name_of(alloc, self.scalar.as_slice())?;
             self.set_top(Container::Object(Some(name)));
-            self.written.extend_from_slice(self.scalar.as_slice())?;
-        } else {
-            match new_value(self.values, self.containers.as_slice()) {
-                Some(value) => self.written.extend_from_slice(value.as_bytes())?,
-                None => self.written.extend_from_slice(self.scalar.as_slice())?,
-            }
+            return self.written.extend_from_slice(self.scalar.as_slice());
         }
-        self.scalar.clear();
-        Ok(())
+        match new_value(self.values, self.containers.as_slice()) {
+            Some(value) => self.written.extend_from_slice(value.as_bytes()),
+            None => self.written.extend_from_slice(self.scalar.as_slice()),
+        }
     }
 
     // Returns whether the innermost container is an object whose next member has no name yet.
@@ -111,14 +170,18 @@ impl ValueWriter<'_> {
     }
 
     // Replaces the innermost container.
-    fn set_top(&mut self, container: Container) {
+    fn set_top(&mut self, container: Container)
+        ensures { self.new ≡ record self.old { containers = self.new.containers } }
+    {
         if let Some(top) = self.containers.last_mut() {
             *top = container;
         }
     }
 
     // Enters or leaves a container, or passes to its next value, by a byte between two values.
-    fn enter(&mut self, byte: u8) -> Result<(), AllocError> {
+    fn enter(&mut self, byte: u8) -> Result<(), AllocError>
+        ensures { self.new ≡ record self.old { containers = self.new.containers } }
+    {
         match byte {
             b'{' => self.containers.push(Container::Object(None))?,
             b'[' => self.containers.push(Container::Array(0))?,
@@ -139,7 +202,9 @@ impl ValueWriter<'_> {
 }
 
 // Returns the text of the new value of the member that is read in containers, if it has one.
-fn new_value<'v>(values: &'v [MemberValue], containers: &[Container]) -> Option<&'v str> {
+fn new_value<'v>(values: &'v [MemberValue], containers: &[Container]) -> Option<&'v str>
+    ensures { IfSome result (λ text. IsValueOf values.now text.now) }
+{
     for value in values {
         if leads_to(value.steps.as_slice(), containers) {
             return Some(value.text.as_str());
@@ -171,7 +236,9 @@ fn is_step(step: JsonStep, container: &Container) -> bool {
 }
 
 // Returns whether a byte outside of texts in quotes is part of no value.
-fn is_between(byte: u8) -> bool {
+fn is_between(byte: u8) -> bool
+    ensures { result ≡ is_between byte }
+{
     matches!(
         byte,
         b'{' | b'}' | b'[' | b']' | b',' | b':' | b' ' | b'\t' | b'\n' | b'\r'

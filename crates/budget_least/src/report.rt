@@ -6,6 +6,7 @@ ghost use Rattle.own_model.specs.Amounts.{more_of};
 ghost use Rattle.budget_meter.specs.Needs.{amounts_of};
 ghost use Rattle.budget_least.specs.Report.{accounts_of, report_of, sum_of, unmeasured_of, HasSmallestMachine};
 ghost use Rattle.budget_least.specs.InitNeeds.{capped, is_entry_of, need_of, needed_below, sum_with, AreChanged, AreNeeded, AreNeededFrom};
+ghost use Rattle.budget_least.specs.MemberValues.{IsRewritten};
 ghost use Rattle.budget_least.specs.WrittenList.{has_budget, IsWritten};
 
 use crate::binding_run::BindingBudgets;
@@ -15,7 +16,7 @@ use crate::machine_size::MachineSize;
 use crate::report_text::BudgetCsv;
 use crate::unmeasured_line::UnmeasuredLine;
 use crate::written_donation::with_donation;
-use crate::written_list::{ListSizes, has_budget, has_size, size_of};
+use crate::written_list::{ListSizes, has_budget, has_paths, has_size, size_of};
 use budget_meter::Budget;
 use budget_search::{
     AccountBudgets, BudgetChoice, ComponentLine, ScriptSearch, ScriptSessions, budget_of,
@@ -299,12 +300,12 @@ impl<'a> BudgetReport<'a> {
     /// Refuses as `StartList::read` if the text with the budgets is no start list, for example with `BadConfig size` if it is too
     /// long. Then refuses with `BadConfig start` if the text isn't the report's.
     pub fn start_list(&self, alloc: Global, text: &[u8]) -> Result<Vec<u8>, BootFault>
-        ensures { IfOk result (λ written. IsWritten self.now written.items) }
+        ensures { IfOk result (λ written. IsWritten self.now text.now written.items) }
     {
         let size = size_of(self.list, self.machine());
         let written = self.list_with(alloc, text, size)?;
         let list = StartList::read(alloc, written.as_slice())?;
-        if self.has_budgets(&list) && has_size(&list, size) {
+        if self.has_budgets(&list) && has_size(&list, size) && has_paths(&list, self.list) {
             Ok(written)
         } else {
             Err(BootFault::BadConfig(ConfigField::Start))
@@ -317,7 +318,9 @@ impl<'a> BudgetReport<'a> {
         alloc: Global,
         text: &[u8],
         size: MachineSize,
-    ) -> Result<Vec<u8>, AllocError> {
+    ) -> Result<Vec<u8>, AllocError>
+        ensures { IfOk result (λ written. IsRewritten text.now written.items) }
+    {
         let mut sizes = ListSizes::none(alloc, self.list)?;
         for account in self.accounts.as_slice() {
             if let (None, Some(budget)) = (account.session, account.chosen(self.choice)) {

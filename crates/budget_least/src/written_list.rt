@@ -1,6 +1,6 @@
 //! The text of a start list with the budgets of a report.
 ghost use Rattle.std.specs.Prelude.{◌≡◌, ◌&&◌, ◌==◌, true};
-ghost use Rattle.budget_least.specs.WrittenList.{has_budget, has_size, size_of};
+ghost use Rattle.budget_least.specs.WrittenList.{has_budget, has_size, paths_of, size_of};
 
 use crate::machine_size::MachineSize;
 use crate::member_values::{JsonStep, MemberValue, with_values};
@@ -18,6 +18,9 @@ pub(crate) struct ListSizes {
 }
 
 impl ListSizes {
+    ghost use Rattle.std.specs.Prelude.{◌≡◌, IfOk};
+    ghost use Rattle.budget_least.specs.MemberValues.{HasValues};
+
     /// Returns no members of a list. Fails if the host is out of memory.
     pub(crate) fn none(alloc: Global, list: &StartList) -> Result<ListSizes, AllocError> {
         Ok(ListSizes {
@@ -106,7 +109,9 @@ impl ListSizes {
     }
 
     /// Returns the text of the list with these members. Every other byte stays.
-    pub(crate) fn text(&self, alloc: Global, text: &[u8]) -> Result<Vec<u8>, AllocError> {
+    pub(crate) fn text(&self, alloc: Global, text: &[u8]) -> Result<Vec<u8>, AllocError>
+        ensures { IfOk result (λ written. HasValues self.now.values.items text.now written.items) }
+    {
         with_values(alloc, text, self.values.as_slice())
     }
 }
@@ -125,6 +130,22 @@ pub(crate) fn has_budget(list: &StartList, choice: BudgetChoice, account: &Accou
         (None, Some(budget), Some(entry)) => entry.ram() == budget.ram
             && u64::from(entry.caps()) == budget.caps,
     }
+}
+
+/// Returns whether the entries of two lists have the same paths.
+pub(crate) fn has_paths(list: &StartList, other: &StartList) -> bool
+    ensures { result ≡ true → paths_of list.now ≡ paths_of other.now }
+{
+    let (entries, others) = (list.entries(), other.entries());
+    if entries.len() != others.len() {
+        return false;
+    }
+    for place in 0..entries.len() {
+        if entries[place].path() != others[place].path() {
+            return false;
+        }
+    }
+    true
 }
 
 /// Returns whether a machine has a size.

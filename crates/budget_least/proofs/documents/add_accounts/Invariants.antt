@@ -1,0 +1,10 @@
+-- The intervals of the accounts so far.
+use Rattle.std.proofs.Common.{◌≡◌, ◌++◌, List, take}
+use Rattle.std.specs.List.{flat_map}
+use Rattle.view_json.specs.Documents.{objects_text}
+use Rattle.budget_least.specs.Documents.{account_documents, Member}
+use Rattle.budget_least.proofs.documents.add_accounts.Given as goal
+
+abbrev pub invariant-loop-account : goal.invariant-loop-account
+invariant-loop-account l = (documents : List (List Member)) → l.fn.listing.text.items ≡ objects_text documents →
+    l.listing.text.items ≡ objects_text (documents ++ flat_map (account_documents l.list l.lines) (take l.account-index l.accounts))
