@@ -1,3 +1,3 @@
-mod MadeLemmas
+pub mod MadeLemmas
 mod StatusLemmas
 mod VerdictLemmas

@@ -64,11 +64,6 @@ no_memory_stops (Err status) made is = inl is.0
 pub of_made : {T E : Type 0} (P : T → Type 0) (made : Result T E) (value : T) → made ≡ Ok value → IfOk made P → P value
 of_made P made value is holds = subst (λ m. IfOk m P) is holds
 
--- what holds of the value that was made holds of the one that is returned
-pub on_made : {T E F : Type 0} (P : T → Type 0) (returned : Result T F) (made : Result T E) → IfOk returned (λ value. made ≡ Ok value) → IfOk made P → IfOk returned P
-on_made P (Ok value) made is holds = subst (λ m. IfOk m P) is holds
-on_made P (Err status) made is holds = tt
-
 -- ---- what a status says
 
 -- what is known of whether something differs

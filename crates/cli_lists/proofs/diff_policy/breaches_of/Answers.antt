@@ -4,7 +4,8 @@ use Rattle.list_policy.specs.Reading.{Reads}
 use Rattle.list_policy.specs.declared.policy_text.Policy.{Policy}
 use Rattle.cli_lists.specs.Comparison.{AreBreachesOf}
 use Rattle.cli_lists.specs.declared.diff_policy.PolicyBreaches.{PolicyBreaches}
-use Rattle.cli_lists.proofs.ComparisonLemmas.{no_faults, no_memory_stops, of_made, on_made}
+use Rattle.cli_base.proofs.MadeLemmas.{on_made}
+use Rattle.cli_lists.proofs.ComparisonLemmas.{no_faults, no_memory_stops, of_made}
 use Rattle.cli_lists.proofs.diff_policy.breaches_of.Goals as goal
 
 pub breaches_by-requires-clause-reads : goal.breaches_by-requires-clause-reads
