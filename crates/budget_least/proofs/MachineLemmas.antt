@@ -4,7 +4,6 @@ use Rattle.std.proofs.lemmas.Grind.{div_ceil_times}
 use Rattle.std.specs.Prelude.{◌/◌, ◌%◌, max, min}
 use Rattle.own_model.specs.Amounts.{Amounts}
 use Rattle.budget_least.specs.MachineSizes.{Covers, IsSmallest}
-use Rattle.budget_least.specs.declared.machine_size.MachineSize.{MachineSize}
 
 module _ (sum : Amounts) (least pages : ℕ) (rounded : least ≡ sum.ram / 4096 + min 1 (sum.ram % 4096)) (is : pages ≡ max least 16) where
   covered : sum.ram ≤ least * 4096

@@ -11,7 +11,7 @@ use Rattle.own_model.specs.Listed.{Listed, ListedEntry}
 use Rattle.list_parser.specs.Depth.{is_init}
 use Rattle.budget_meter.specs.Needs.{amounts_of}
 use Rattle.budget_search.specs.BudgetIntervals.{chosen_of}
-use Rattle.budget_least.specs.InitNeeds.{capped, is_entry_of, is_init_at, need_of, needed_below, AreChanged, AreNeeded, AreNeededFrom, HasNeed}
+use Rattle.budget_least.specs.InitNeeds.{capped, is_entry_of, is_init_at, need_of, needed_below, AreChanged, AreNeededFrom, HasNeed}
 use Rattle.budget_search.specs.AccountNeeds.{need_rows, IsChanged}
 use Rattle.budget_search.specs.declared.account_budgets.AccountBudgets.{AccountBudgets}
 use Rattle.budget_search.specs.declared.budget_intervals.BudgetChoice.{BudgetChoice}

@@ -1,5 +1,5 @@
 -- What the entries of an init's list need together.
-use Rattle.std.specs.Prelude.{◌≡◌, ◌≤◌, ℕ, suc, ◌&&◌, Bool, true, false, not, List, [], ◌∷◌, ⊤, min, nat_eq, is_some, if◌then◌else◌, Option, Some, None}
+use Rattle.std.specs.Prelude.{◌≡◌, ◌≤◌, ℕ, suc, ◌&&◌, Bool, true, false, not, List, [], ◌∷◌, ⊤, min, nat_eq, is_some, if◌then◌else◌, Option, Some}
 use Rattle.std.specs.List.{slice_get, AllByRecursion}
 use Rattle.std.specs.Option.{option_and_then, option_map, option_map_or}
 use Rattle.own_model.specs.Amounts.{Amounts, more_of, no_amounts}

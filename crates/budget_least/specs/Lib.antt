@@ -4,3 +4,9 @@ pub mod Measured
 pub mod ComponentLines
 pub mod Report
 pub mod WrittenList
+pub mod MemberValues
+pub mod ValueWriters
+pub mod Unmeasured
+pub mod Documents
+pub mod WrittenDonation
+pub mod WrittenScenario

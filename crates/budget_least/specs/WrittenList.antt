@@ -1,13 +1,16 @@
 -- A start list with the budgets of a report.
-use Rattle.std.specs.Prelude.{◌≡◌, ℕ, ◌&&◌, ◌||◌, ◌==◌, Bool, true, false, List, max, is_some, if◌then◌else◌, Option, Some, None, Ok}
+use Rattle.std.specs.Prelude.{◌≡◌, ℕ, ◌-◌, ◌&&◌, ◌||◌, ◌==◌, Bool, true, false, List, length, codes, max, is_some, Option, Some, None, Ok}
 use Rattle.std.specs.List.{list_all, slice_get}
 use Rattle.std.specs.Option.{option_map_or}
+use Rattle.std.specs.Str.{bytes_eq}
 use Rattle.own_model.specs.Amounts.{Amounts}
 use Rattle.own_model.specs.Listed.{Listed}
 use Rattle.list_parser.specs.StartText.{list_in}
 use Rattle.budget_search.specs.BudgetIntervals.{chosen_of}
 use Rattle.budget_search.specs.declared.account_budgets.AccountBudgets.{AccountBudgets}
 use Rattle.budget_search.specs.declared.budget_intervals.BudgetChoice.{BudgetChoice}
+use Rattle.budget_least.specs.MemberValues.{text_with, NewValue, Step}
+use Rattle.budget_least.specs.MemberValues.Step.{Member, Element}
 use Rattle.budget_least.specs.Report.{sum_of, HasSmallestMachine}
 use Rattle.budget_least.specs.declared.machine_size.MachineSize.{MachineSize}
 use Rattle.budget_least.specs.declared.report.BudgetReport.{BudgetReport}
@@ -30,10 +33,32 @@ abbrev pub size_of : Listed → Option MachineSize → MachineSize
 size_of list None = record { pages = list.pages; caps = list.caps }
 size_of list (Some size) = record { pages = max size.pages list.pages; caps = max size.caps list.caps }
 
--- a text is a start list with the budgets of a report, on a machine that is large enough if one is
-pub record IsWritten (report : BudgetReport) (text : List ℕ) : Type 0 where
+-- the members that are written: budgets of entries, and the size of the machine
+abbrev pub is_size_name : List ℕ → Bool
+is_size_name name = bytes_eq name (codes "quantum") || bytes_eq name (codes "caps") || bytes_eq name (codes "pages")
+
+abbrev pub is_size_step : Step → Bool
+is_size_step (Member name) = is_size_name name
+is_size_step (Element place) = false
+
+abbrev pub is_size : NewValue → Bool
+is_size value = option_map_or is_size_step (slice_get value.steps (length value.steps - 1)) false
+
+abbrev pub AreSizes : List NewValue → Type 0
+AreSizes values = list_all is_size values ≡ true
+
+-- only budgets and sizes of a text change
+pub record IsResized (text written : List ℕ) : Type 0 where
+  pub values : List NewValue
+  pub sizes : AreSizes values
+  pub written_is : written ≡ text_with values text
+
+-- a text is another one except for budgets and sizes, and is a start list with the budgets of a report, on a machine that is large
+-- enough if one is
+pub record IsWritten (report : BudgetReport) (text written : List ℕ) : Type 0 where
+  pub resized : IsResized text written
   pub list : Listed
-  pub is_read : list_in text ≡ Ok list
+  pub is_read : list_in written ≡ Ok list
   pub budgets : list_all (has_budget list report.choice) report.accounts.items ≡ true
   pub smallest : Option MachineSize
   pub smallest_is : HasSmallestMachine (sum_of report) smallest

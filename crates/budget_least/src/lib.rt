@@ -15,6 +15,7 @@ mod report_text;
 mod unmeasured_line;
 mod written_donation;
 mod written_list;
+mod written_scenario;
 
 pub use budget_meter::Budget;
 pub use budget_search::{

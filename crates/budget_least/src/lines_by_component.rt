@@ -7,7 +7,6 @@ use crate::binding_run::{BindingBudgets, BindingRun};
 use crate::line_donations::LineDonations;
 use crate::unmeasured_line::{UnmeasuredLine, UnmeasuredReason};
 use crate::written_donation::can_donate;
-use budget_meter::Budget;
 use budget_search::{ComponentLine, LineNumbers, SHORTAGES};
 use core_calls::Call;
 use init_core::route;
@@ -109,19 +108,6 @@ impl LinesByComponent {
             }
         }
         Ok(())
-    }
-
-    /// Returns the donations that were set, by the numbers of lines. The error is that the host is out of memory.
-    pub(crate) fn donations(&self, alloc: Global) -> Result<Vec<Option<Budget>>, AllocError> {
-        let mut donations = Vec::new(alloc);
-        for steps in self.steps.as_slice() {
-            for step in steps.as_slice() {
-                if let Some(donation) = step.donation {
-                    set_donation(&mut donations, step.number as usize, donation)?;
-                }
-            }
-        }
-        Ok(donations)
     }
 
     /// Returns the lines of a component.
@@ -288,21 +274,6 @@ impl LinesByComponent {
         steps.push(line)?;
         Ok(())
     }
-}
-
-// Sets the donation of the line of a number.
-fn set_donation(
-    donations: &mut Vec<Option<Budget>>,
-    number: usize,
-    donation: Budget,
-) -> Result<(), AllocError> {
-    for _ in donations.len()..number.saturating_add(1) {
-        donations.push(None)?;
-    }
-    if let Some(line) = donations.get_mut(number) {
-        *line = Some(donation);
-    }
-    Ok(())
 }
 
 // Returns the number of a line, if another reading hasn't the same line at its place.

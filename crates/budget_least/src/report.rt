@@ -6,7 +6,8 @@ ghost use Rattle.own_model.specs.Amounts.{more_of};
 ghost use Rattle.budget_meter.specs.Needs.{amounts_of};
 ghost use Rattle.budget_least.specs.Report.{accounts_of, report_of, sum_of, unmeasured_of, HasSmallestMachine};
 ghost use Rattle.budget_least.specs.InitNeeds.{capped, is_entry_of, need_of, needed_below, sum_with, AreChanged, AreNeeded, AreNeededFrom};
-ghost use Rattle.budget_least.specs.WrittenList.{has_budget, IsWritten};
+ghost use Rattle.budget_least.specs.WrittenList.{has_budget, IsResized, IsWritten};
+ghost use Rattle.budget_least.specs.WrittenScenario.{scenario_of};
 
 use crate::binding_run::BindingBudgets;
 use crate::line_donations::LineDonations;
@@ -14,8 +15,8 @@ use crate::lines_by_component::{LinesByComponent, has_names};
 use crate::machine_size::MachineSize;
 use crate::report_text::BudgetCsv;
 use crate::unmeasured_line::UnmeasuredLine;
-use crate::written_donation::with_donation;
 use crate::written_list::{ListSizes, has_budget, has_size, size_of};
+use crate::written_scenario::scenario_with;
 use budget_meter::Budget;
 use budget_search::{
     AccountBudgets, BudgetChoice, ComponentLine, ScriptSearch, ScriptSessions, budget_of,
@@ -299,7 +300,7 @@ impl<'a> BudgetReport<'a> {
     /// Refuses as `StartList::read` if the text with the budgets is no start list, for example with `BadConfig size` if it is too
     /// long. Then refuses with `BadConfig start` if the text isn't the report's.
     pub fn start_list(&self, alloc: Global, text: &[u8]) -> Result<Vec<u8>, BootFault>
-        ensures { IfOk result (λ written. IsWritten self.now written.items) }
+        ensures { IfOk result (λ written. IsWritten self.now text.now written.items) }
     {
         let size = size_of(self.list, self.machine());
         let written = self.list_with(alloc, text, size)?;
@@ -317,7 +318,9 @@ impl<'a> BudgetReport<'a> {
         alloc: Global,
         text: &[u8],
         size: MachineSize,
-    ) -> Result<Vec<u8>, AllocError> {
+    ) -> Result<Vec<u8>, AllocError>
+        ensures { IfOk result (λ written. IsResized text.now written.items) }
+    {
         let mut sizes = ListSizes::none(alloc, self.list)?;
         for account in self.accounts.as_slice() {
             if let (None, Some(budget)) = (account.session, account.chosen(self.choice)) {
@@ -339,22 +342,10 @@ impl<'a> BudgetReport<'a> {
 
     /// Returns the text of the report's scenario, with the donations that were measured. A line of a round donates the same in each
     /// iteration. The error is that the host is out of memory.
-    pub fn scenario(&self, alloc: Global, text: &[u8]) -> Result<Vec<u8>, BootFault> {
-        let donations = self.scene.donations(alloc)?;
-        let mut told = Vec::new(alloc);
-        let mut number = 0usize;
-        for line in text.split(|byte| *byte == b'\n') {
-            if number > 0 {
-                told.push(b'\n')?;
-            }
-            number = number.saturating_add(1);
-            match donations.get(number) {
-                Some(Some(donation)) => {
-                    told.extend_from_slice(with_donation(alloc, line, *donation)?.as_slice())?;
-                }
-                _ => told.extend_from_slice(line)?,
-            }
-        }
+    pub fn scenario(&self, alloc: Global, text: &[u8]) -> Result<Vec<u8>, BootFault>
+        ensures { IfOk result (λ told. told.items ≡ scenario_of self.now text.now) }
+    {
+        let told = scenario_with(alloc, text, self.scene.steps.as_slice())?;
         Ok(told)
     }
 }

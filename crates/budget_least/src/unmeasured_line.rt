@@ -1,6 +1,7 @@
 //! Lines that aren't measured.
-ghost use Rattle.std.specs.Prelude.{◌≡◌};
+ghost use Rattle.std.specs.Prelude.{◌≡◌, Some};
 ghost use Rattle.budget_least.specs.Report.{line_of};
+ghost use Rattle.budget_least.specs.Unmeasured.{is_unbound, message_text, reason_text};
 
 use budget_search::AccountBudgets;
 use line_names::NameReason;
@@ -33,13 +34,25 @@ pub struct UnmeasuredLine {
 }
 
 impl UnmeasuredLine {
+    ghost use Rattle.std.specs.Prelude.{◌≡◌};
+    ghost use Rattle.budget_least.specs.Unmeasured.{fault_column, is_named_with};
+
     /// Returns whether the line is named with an account: a component's own, once.
-    pub(crate) fn is_told_of(&self, account: &AccountBudgets) -> bool {
-        !self.is_again && account.session().is_none() && self.component == Some(account.component())
+    pub(crate) fn is_told_of(&self, account: &AccountBudgets) -> bool
+        ensures { result ≡ is_named_with account.now self.now }
+    {
+        match self.component {
+            Some(component) => !self.is_again
+                && account.session().is_none()
+                && component == account.component(),
+            None => false,
+        }
     }
 
     /// Returns the column of the fault in the line, from 1 on.
-    pub fn column(&self) -> usize {
+    pub fn column(&self) -> usize
+        ensures { result ≡ fault_column self.now.why }
+    {
         match self.why {
             UnmeasuredReason::Unread(why) => why.column(),
             UnmeasuredReason::Unsettled => 1,
@@ -54,7 +67,9 @@ impl UnmeasuredLine {
     }
 
     /// Returns the reason in the words of the account's block.
-    pub(crate) fn reason(&self) -> UnmeasuredWords<'_> {
+    pub(crate) fn reason(&self) -> UnmeasuredWords<'_>
+        ensures { result.line.now ≡ self.now }
+    {
         UnmeasuredWords { line: self }
     }
 }
@@ -66,6 +81,8 @@ pub struct UnmeasuredMessage<'a> {
 }
 
 impl fmt::Display for UnmeasuredMessage<'_> {
+    ghost output = { λ message. Some (message_text message.line.now) };
+
     fn fmt<W: fmt::Write>(&self, f: &mut fmt::Formatter<W>) -> fmt::Result {
         match self.line.why {
             UnmeasuredReason::Unread(why) => write!(f, "{}", why.about(self.line.token.as_str())),
@@ -83,6 +100,8 @@ pub(crate) struct UnmeasuredWords<'a> {
 }
 
 impl fmt::Display for UnmeasuredWords<'_> {
+    ghost output = { λ words. Some (reason_text words.line.now) };
+
     fn fmt<W: fmt::Write>(&self, f: &mut fmt::Formatter<W>) -> fmt::Result {
         match self.line.why {
             UnmeasuredReason::Unsettled => f.write_str(
@@ -98,9 +117,11 @@ impl fmt::Display for UnmeasuredWords<'_> {
 }
 
 // Returns whether a name in the line has no value.
-fn is_unbound(why: UnreadReason) -> bool {
+fn is_unbound(why: UnreadReason) -> bool
+    ensures { result ≡ is_unbound why }
+{
     match why {
-        UnreadReason::Name(fault) => fault.reason == NameReason::UnknownName,
+        UnreadReason::Name(fault) => matches!(fault.reason, NameReason::UnknownName),
         _ => false,
     }
 }

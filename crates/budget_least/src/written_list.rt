@@ -1,5 +1,5 @@
 //! The text of a start list with the budgets of a report.
-ghost use Rattle.std.specs.Prelude.{◌≡◌, ◌&&◌, ◌==◌, true};
+ghost use Rattle.std.specs.Prelude.{◌≡◌};
 ghost use Rattle.budget_least.specs.WrittenList.{has_budget, has_size, size_of};
 
 use crate::machine_size::MachineSize;
@@ -18,8 +18,15 @@ pub(crate) struct ListSizes {
 }
 
 impl ListSizes {
+    ghost use Rattle.std.specs.Prelude.{◌≡◌, IfOk, OnOk, true};
+    ghost use Rattle.budget_least.specs.MemberValues.{text_with};
+    ghost use Rattle.budget_least.specs.ValueWriters.{values_of};
+    ghost use Rattle.budget_least.specs.WrittenList.{is_size_name, AreSizes};
+
     /// Returns no members of a list. Fails if the host is out of memory.
-    pub(crate) fn none(alloc: Global, list: &StartList) -> Result<ListSizes, AllocError> {
+    pub(crate) fn none(alloc: Global, list: &StartList) -> Result<ListSizes, AllocError>
+        ensures { IfOk result (λ sizes. AreSizes (values_of sizes.values.items)) }
+    {
         Ok(ListSizes {
             entries: steps_of(alloc, list)?,
             values: Vec::new(alloc),
@@ -32,7 +39,10 @@ impl ListSizes {
         alloc: Global,
         list: &StartList,
         size: MachineSize,
-    ) -> Result<(), AllocError> {
+    ) -> Result<(), AllocError>
+        ensures { AreSizes (values_of self.old.values.items) →
+            OnOk result (AreSizes (values_of self.new.values.items)) }
+    {
         let mut machine = Vec::new(alloc);
         machine.push(JsonStep::Member("machine"))?;
         let MachineSize { pages, caps } = size;
@@ -62,7 +72,10 @@ impl ListSizes {
         list: &StartList,
         component: usize,
         budget: Budget,
-    ) -> Result<(), AllocError> {
+    ) -> Result<(), AllocError>
+        ensures { AreSizes (values_of self.old.values.items) →
+            OnOk result (AreSizes (values_of self.new.values.items)) }
+    {
         let (Some(steps), Some(entry)) = (
             self.entries.get(component),
             list.entries().get(component),
@@ -98,7 +111,11 @@ impl ListSizes {
         object: &[JsonStep],
         name: &'static str,
         text: String,
-    ) -> Result<(), AllocError> {
+    ) -> Result<(), AllocError>
+        requires { is_size_name name.now ≡ true }
+        ensures { AreSizes (values_of self.old.values.items) →
+            OnOk result (AreSizes (values_of self.new.values.items)) }
+    {
         let mut steps = copy_of(alloc, object)?;
         steps.push(JsonStep::Member(name))?;
         self.values.push(MemberValue { steps, text })?;
@@ -106,7 +123,10 @@ impl ListSizes {
     }
 
     /// Returns the text of the list with these members. Every other byte stays.
-    pub(crate) fn text(&self, alloc: Global, text: &[u8]) -> Result<Vec<u8>, AllocError> {
+    pub(crate) fn text(&self, alloc: Global, text: &[u8]) -> Result<Vec<u8>, AllocError>
+        ensures { IfOk result (λ written.
+            written.items ≡ text_with (values_of self.now.values.items) text.now) }
+    {
         with_values(alloc, text, self.values.as_slice())
     }
 }

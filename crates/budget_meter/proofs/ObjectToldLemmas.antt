@@ -35,7 +35,7 @@ use Rattle.budget_theorems.specs.Test.{Test, small_tests, growth_tests}
 use Rattle.budget_meter.specs.ObjectSizes.{ObjectSize, has_name, known_of, new_size, size_named, size_of_object, with_size}
 use Rattle.budget_meter.specs.ObjectTests.{kind_growth, kind_tests, object_growth, object_tests, sizes_after, units_tests}
 use Rattle.budget_meter.specs.RequestTests.{is_granted, shows_charge}
-use Rattle.budget_meter.proofs.ToldLemmas.{none_more, one_more, not_lt, request_told, short_same}
+use Rattle.budget_meter.proofs.ToldLemmas.{buffer_stays, none_more, one_more, not_lt, request_told, short_same}
 
 -- ---- a new node
 
@@ -274,11 +274,6 @@ module _ (kinds : List ObjectKind) (objects : Objects) (a : Account) (few : a.ra
   abbrev ToldOf : Option HoldingRequest → List ℕ → Type 0
   ToldOf asked reply = TellsObjects asked kinds (bytes_of_buffer buffer) objects a reply (server asked)
 
-  -- a buffer that stays is told nothing of
-  same_reply : (b : Option NamedBuffer) (reply : List ℕ) → completed b (bytes_of_buffer b) selector reply ≡ reply
-  same_reply None reply = refl
-  same_reply (Some b) reply = refl
-
   abbrev ToldObject : ObjectRequest → ObjectServed → Type 0
   ToldObject request o =
       (object_tests (Some (OfObjects request)) o.reply a o.account (known_of kinds objects) objects.shape ≡ holding_tests kinds (Some (OfObjects request)) (bytes_of_buffer buffer) objects a)
@@ -321,7 +316,7 @@ module _ (kinds : List ObjectKind) (objects : Objects) (a : Account) (few : a.ra
 
   by_reply : (asked : Option HoldingRequest) → (server asked).buffer ≡ bytes_of_buffer buffer → ToldOf asked (server asked).reply → ToldOf asked (told_reply asked)
   by_reply asked kept told_so =
-      subst (ToldOf asked) (sym (ap (λ b. completed buffer b selector (server asked).reply) kept ∙ same_reply buffer (server asked).reply)) told_so
+      subst (ToldOf asked) (sym (ap (λ b. completed buffer b selector (server asked).reply) kept ∙ buffer_stays selector buffer (server asked).reply)) told_so
 
   pub holding_told : (asked : Option HoldingRequest) → ToldOf asked (told_reply asked)
   holding_told None = by_reply None refl (record { tests = refl; growth = refl; sizes = refl; short = refl })

@@ -509,6 +509,11 @@ module _ (files : Files) (a : Account) (few : a.ram_limit < 2 ^ 64) (selector : 
 
 -- ---- of any session
 
+-- of a buffer that stays a reply says nothing
+pub buffer_stays : (selector : ℕ) (b : Option NamedBuffer) (reply : List ℕ) → completed b (bytes_of_buffer b) selector reply ≡ reply
+buffer_stays selector None reply = refl
+buffer_stays selector (Some b) reply = refl
+
 -- what its client is told of a request tells what that tests, how far the heap of files grows, and what becomes of them
 pub record TellsSession (request : List ℕ) (buffer : Option NamedBuffer) (session : Session) (state : ServiceState) (reply : List ℕ) (o : Served) : Type 0 where
   pub tests : tests_by_reply (session_request request) reply session.account o.session.account (files_in state) ≡ tests_by state (bytes_of_buffer buffer) session.account request
@@ -528,10 +533,6 @@ module _ (request : List ℕ) (buffer : Option NamedBuffer) (session : Session) 
   log_by : (partial : List ℕ) (bytes : Option (List ℕ)) → OfLog (log_served_bytes partial bytes).reply
   log_by partial None = record { short = refl; other = refl }
   log_by partial (Some bytes) = record { short = refl; other = refl }
-
-  same_log : (b : Option NamedBuffer) (reply : List ℕ) → completed b (bytes_of_buffer b) selector reply ≡ reply
-  same_log None reply = refl
-  same_log (Some b) reply = refl
 
   either : {X : Type 0} (b : Bool) (x : X) → cond b x x ≡ x
   either true x = refl
@@ -591,6 +592,6 @@ module _ (request : List ℕ) (buffer : Option NamedBuffer) (session : Session) 
       record { tests = all.tests; growth = all.growth; changes = all.changes; short = short_same files account few selector (session_request request) buffer }
 
   pub told_in : (state : ServiceState) → HasNoObjects state → let o = served_by state (bytes_of_buffer buffer) session request in TellsSession request buffer session state (told_by o) o
-  told_in (Logging partial) none = log_told partial (same_log buffer (log_served_bytes partial (log_request request)).reply)
+  told_in (Logging partial) none = log_told partial (buffer_stays selector buffer (log_served_bytes partial (log_request request)).reply)
   told_in (Filing files) none = file_session_told files
   told_in (Holding kinds objects) none = absurd none

@@ -11,6 +11,7 @@ mod SessionServeLemmas
 pub mod SessionRunLemmas
 mod SelectorLemmas
 mod CarryLemmas
+mod ClientCallLemmas
 mod ClientLemmas
 pub mod StretchLemmas
 pub mod ToldLemmas

@@ -15,6 +15,7 @@ use std::alloc::{AllocError, Global};
 use std::io;
 use std::io::Write;
 use view_diagnostics::DiagnosticForm;
+use view_differences::{difference_documents, difference_lines};
 
 /// The exit status if something is changed.
 const CHANGED: u8 = 4;
@@ -65,9 +66,9 @@ impl DiffText {
     {
         let is_changed = !found.is_empty();
         let text = if form == DiagnosticForm::Json {
-            found.documents(alloc)?
+            difference_documents(alloc, found)?
         } else {
-            found.lines(alloc)?
+            difference_lines(alloc, found)?
         };
         Ok(DiffText { text, is_changed })
     }

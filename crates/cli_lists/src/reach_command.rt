@@ -3,11 +3,10 @@ use crate::review::review;
 use cli_base::{REFUSED, Settings, Spot, no_memory, print_documents, report_error, status_of};
 use cli_options::ReachOptions as AskedReach;
 use init_core::StartList;
-use list_diff::label_documents;
 use list_reach::{Reach, ReachCell, ReachFilter, ReachPathList, ReachTable};
 use std::alloc::{AllocError, Global};
-use std::io;
 use view_diagnostics::DiagnosticForm;
+use view_differences::label_documents;
 use view_json::{JsonField, Listing, ObjectList};
 
 /// Prints which scripts reach which servers, as a table, CSV or documents of JSON. Returns the exit status.
@@ -59,8 +58,11 @@ fn show_table(
 ) -> u8 {
     match ReachTable::narrowed(rt.alloc(), list, chosen) {
         Ok(table) => {
-            let status = status_of(rt, print_reach(rt, table, csv));
-            if status == 0 && chosen.is_narrow() && !csv {
+            if csv {
+                return print_documents(rt, table.to_csv(rt.alloc()));
+            }
+            let status = status_of(rt, print!(rt; "{table}"));
+            if status == 0 && chosen.is_narrow() {
                 show_ways(rt, path, list, chosen)
             } else {
                 status
@@ -76,25 +78,6 @@ fn show_ways(rt: &HostRuntime, path: &str, list: &StartList, chosen: &ReachFilte
         Ok(ways) => status_of(rt, print!(rt; "{ways}")),
         Err(_) => no_memory(rt),
     }
-}
-
-// Prints a table as people read it, or as CSV.
-fn print_reach(rt: &HostRuntime, table: ReachTable<'_>, csv: bool) -> io::Result<()> {
-    if csv {
-        return print_values(rt, table);
-    }
-    print_table(rt, table)
-}
-
-// Prints a table as people read it.
-fn print_table(rt: &HostRuntime, table: ReachTable<'_>) -> io::Result<()> {
-    print!(rt; "{table}")
-}
-
-// Prints a table as comma-separated values.
-fn print_values(rt: &HostRuntime, table: ReachTable<'_>) -> io::Result<()> {
-    let values = table.into_csv();
-    print!(rt; "{values}")
 }
 
 // Prints a document for each cell of the table, and returns the exit status.

@@ -4,7 +4,7 @@ use Rattle.std.specs.Option.{option_copied, option_to_list, unwrap_or}
 use Rattle.std.specs.Str.{bytes_eq}
 use Rattle.cli_options.specs.declared.command.Command.{Command}
 use Rattle.cli_options.specs.declared.command.Command.TheVariants as command
-use Rattle.cli_options.specs.declared.command.DiffOptions.{DiffOptions}
+use Rattle.cli_options.specs.declared.command_options.DiffOptions.{DiffOptions}
 
 -- a path denotes standard input
 abbrev pub is_input : List ℕ → Bool

@@ -8,8 +8,8 @@ use Rattle.clap.specs.Simple.{new_shape}
 use Rattle.clap.specs.declared.builder.ArgAction.TheVariants.{Append, SetTrue}
 use Rattle.clap.specs.declared.builder.command.Command.{Command as Words}
 use Rattle.clap.specs.declared.builder.command.Command.TheViews.{out-Command}
-use Rattle.cli_options.specs.declared.command.Color.{Color}
-use Rattle.cli_options.specs.declared.command.Color.TheVariants.{Always, Auto, Never, Unknown}
+use Rattle.cli_options.specs.declared.command_options.Color.{Color}
+use Rattle.cli_options.specs.declared.command_options.Color.TheVariants.{Always, Auto, Never, Unknown}
 use Rattle.cli_options.specs.declared.command.Command.{Command}
 use Rattle.cli_options.specs.declared.command.Command.TheVariants as command
 use Rattle.cli_options.specs.declared.command.CommandLine.{CommandLine}

@@ -3,7 +3,8 @@ ghost use Rattle.std.specs.Prelude.{◌≡◌, ◌≤◌, ◌∷◌, ◌++◌, [
 ghost use Rattle.std.specs.Option.{option_copied};
 ghost use Rattle.cli_options.specs.Inputs.{diff_files, given, inputs, is_given_input, is_input, is_repeated, reads_twice};
 
-use crate::command::{Command, DiffOptions};
+use crate::command::Command;
+use crate::command_options::DiffOptions;
 
 /// The path that denotes standard input.
 const STANDARD_INPUT: &str = "-";

@@ -38,7 +38,7 @@ module _ (view : RunView) (start : RunStart) (input : Option (List ℕ)) where
   Known ending f = IfNone f ((lines : List (List ℕ)) × IfSome input (AreAll lines) × (status_of (Ok ending) ≡ (if have_errors view start lines then 3 else 0)))
 
   -- a run of all lines
-  status_of_run : {told behind : List LineStep → List ℕ} {calls : Bool} {reports : List (List ℕ) → Type 0} {ending : ScenarioEnd} {rest w w' : Option (List ℕ)} {failed : Bool} → ((turns : List LineStep) → has_no_line view turns ≡ false) →
+  status_of_run : {told behind : List LineStep → List ℕ} {calls : Bool} {reports : List (List ℕ) → Type 0} {ending : ScenarioEnd} {rest w w' : Option (List ℕ)} {failed : Bool} → ((steps : List LineStep) → has_no_line view steps ≡ false) →
       IsRunFrom start told behind calls reports ending input rest failed w w' → HasStatus view start input ending
   status_of_run {ending = ending} {rest = rest} {failed = failed} silent run = by ending.fault refl run.ends run.complained
     where
@@ -59,25 +59,25 @@ module _ (view : RunView) (start : RunStart) (input : Option (List ℕ)) where
   has_fault ending fault is = subst (Known ending) (sym is) tt
 
   -- or a device had failed before
-  pub has_status : {told behind : List LineStep → List ℕ} {calls : Bool} {reports : List (List ℕ) → Type 0} (ending : ScenarioEnd) {rest w w' : Option (List ℕ)} {failed : Bool} (B C D : Type 0) (before : Option LineRunFault) → ((turns : List LineStep) → has_no_line view turns ≡ false) →
+  pub has_status : {told behind : List LineStep → List ℕ} {calls : Bool} {reports : List (List ℕ) → Type 0} (ending : ScenarioEnd) {rest w w' : Option (List ℕ)} {failed : Bool} (B C D : Type 0) (before : Option LineRunFault) → ((steps : List LineStep) → has_no_line view steps ≡ false) →
       (before ≡ None → IsRunFrom start told behind calls reports ending input rest failed w w') → IfSome before (λ fault. (ending ≡ unplayed fault) × B × C × D) → HasStatus view start input ending
   has_status ending B C D None silent runs before = status_of_run silent (runs refl)
   has_status ending B C D (Some fault) silent runs before = subst (λ e. HasStatus view start input e) (sym before.0) tt
 
   -- of a run of which more is known
-  pub status_of_more : {X : Type 0} {told : List LineStep → List ℕ} {behind : X → List LineStep → List ℕ} {also : X → Type 0} {calls : Bool} {reports : List (List ℕ) → Type 0} {rest w w' : Option (List ℕ)} {failed : Bool} (B C D : Type 0) (ending : ScenarioEnd) (before : Option LineRunFault) → ((turns : List LineStep) → has_no_line view turns ≡ false) →
+  pub status_of_more : {X : Type 0} {told : List LineStep → List ℕ} {behind : X → List LineStep → List ℕ} {also : X → Type 0} {calls : Bool} {reports : List (List ℕ) → Type 0} {rest w w' : Option (List ℕ)} {failed : Bool} (B C D : Type 0) (ending : ScenarioEnd) (before : Option LineRunFault) → ((steps : List LineStep) → has_no_line view steps ≡ false) →
       (before ≡ None → (x : X) × (IsRunFrom start told (behind x) calls reports ending input rest failed w w' × also x)) → IfSome before (λ fault. (ending ≡ unplayed fault) × B × C × D) → HasStatus view start input ending
   status_of_more B C D ending None silent runs before = status_of_run silent (runs refl).1.0
   status_of_more B C D ending (Some fault) silent runs before = subst (λ e. HasStatus view start input e) (sym before.0) tt
 
   -- of a run's result
-  pub status_of_result : (told behind : List LineStep → List ℕ) (calls : Bool) (reports : List (List ℕ) → Type 0) (rest w w' : Option (List ℕ)) (failed : Bool) (B C D : Type 0) (r : Result ScenarioEnd BootFault) (before : Option LineRunFault) → ((turns : List LineStep) → has_no_line view turns ≡ false) →
+  pub status_of_result : (told behind : List LineStep → List ℕ) (calls : Bool) (reports : List (List ℕ) → Type 0) (rest w w' : Option (List ℕ)) (failed : Bool) (B C D : Type 0) (r : Result ScenarioEnd BootFault) (before : Option LineRunFault) → ((steps : List LineStep) → has_no_line view steps ≡ false) →
       IfOk r (λ ending. before ≡ None → IsRunFrom start told behind calls reports ending input rest failed w w') → IfOk r (λ ending. IfSome before (λ fault. (ending ≡ unplayed fault) × B × C × D)) → IfOk r (HasStatus view start input)
   status_of_result told behind calls reports rest w w' failed B C D (Ok ending) before silent runs first = has_status ending B C D before silent runs first
   status_of_result told behind calls reports rest w w' failed B C D (Err fault) before silent runs first = tt
 
   -- a comparison has the errors of the whole run, and one more if no call of the name was answered
-  pub has_status_alone : (name : List ℕ) (compared : AloneComparison) (ending : ScenarioEnd) (B C D : Type 0) (before : Option LineRunFault) → ((turns : List LineStep) → has_no_line view turns ≡ (length (calls_answered (Some name) turns) == 0)) →
+  pub has_status_alone : (name : List ℕ) (compared : AloneComparison) (ending : ScenarioEnd) (B C D : Type 0) (before : Option LineRunFault) → ((steps : List LineStep) → has_no_line view steps ≡ (length (calls_answered (Some name) steps) == 0)) →
       (before ≡ None → IfNone compared.ending.fault (CountsAlone name start input compared.ending.complaints compared.lines)) → (before ≡ None → IfNone compared.ending.fault (compared.difference ≡ None)) →
       IfSome before (λ fault. (compared.ending ≡ unplayed fault) × B × C × D) → ending.fault ≡ compared.ending.fault →
       nat_lt 0 ending.complaints ≡ (compared.lines == 0 || is_some compared.difference || nat_lt 0 compared.ending.complaints) → HasStatus view start input ending
@@ -89,11 +89,11 @@ module _ (view : RunView) (start : RunStart) (input : Option (List ℕ)) where
           HasStatus view start input ending
       by (Some fault) is all alike = has_fault ending fault (faults ∙ is)
       by None is all alike =
-          let turns = steps_from start all.given in
-          let own : ℕ = errors_of start.only start.world start.awaited turns in
+          let steps = steps_from start all.given in
+          let own : ℕ = errors_of start.only start.world start.awaited steps in
           let are : nat_lt 0 ending.complaints ≡ have_errors view start all.given =
           errors ∙ (λ i. all.counted i == 0 || is_some (alike i) || nat_lt 0 (all.complained i))
-          ∙ ap (λ b. b || nat_lt 0 own) (or_none (length (calls_answered (Some name) turns) == 0)) ∙ sym (ap (λ b. b || nat_lt 0 own) (none turns)) in
+          ∙ ap (λ b. b || nat_lt 0 own) (or_none (length (calls_answered (Some name) steps) == 0)) ∙ sym (ap (λ b. b || nat_lt 0 own) (none steps)) in
           subst (Known ending) (sym (faults ∙ is)) (all.given, all.all, status_is ending (have_errors view start all.given) (faults ∙ is) are)
 
   -- an end that is this one, unless a fault came after it

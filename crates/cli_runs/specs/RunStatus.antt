@@ -30,10 +30,10 @@ only_of (Alone name) = None
 
 -- the view is of a component that makes none of the calls of these steps
 abbrev pub has_no_line : RunView → List LineStep → Bool
-has_no_line (Run options coloring) turns = false
-has_no_line (Trace json) turns = false
-has_no_line (Accounts form) turns = false
-has_no_line (Alone name) turns = length (calls_answered (Some name.now) turns) == 0
+has_no_line (Run options coloring) steps = false
+has_no_line (Trace json) steps = false
+has_no_line (Accounts form) steps = false
+has_no_line (Alone name) steps = length (calls_answered (Some name.now) steps) == 0
 
 -- the run of a view begins there
 abbrev pub start_of : RunView → ScenarioInput → RunStart

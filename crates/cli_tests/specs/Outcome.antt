@@ -15,12 +15,12 @@ use Rattle.run_lines.specs.Lines.{AreReadable}
 use Rattle.run_lines.specs.Machine.{world_of}
 use Rattle.run_scenario.specs.Judging.{errors_of, nothing_awaited}
 use Rattle.run_scenario.specs.ScenarioEnd.{status_of}
-use Rattle.run_scenario.specs.Writes.{turns_on}
+use Rattle.run_scenario.specs.Writes.{steps_on}
 use Rattle.run_scenario.specs.declared.scenario_end.ScenarioEnd.{ScenarioEnd}
 use Rattle.view_coverage.specs.Reported.{falls_short, is_covered}
 use Rattle.view_coverage.specs.declared.report.CoverageReport.{CoverageReport}
 use Rattle.view_test_report.specs.Trials.{failed_among}
-use Rattle.cli_options.specs.declared.command.TestOptions.{TestOptions}
+use Rattle.cli_options.specs.declared.command_options.TestOptions.{TestOptions}
 use Rattle.cli_base.specs.PolicyVerdict.{verdict_status}
 use Rattle.cli_base.specs.Texts.{bytes_of}
 use Rattle.cli_base.specs.declared.machine.Machine.{Machine}
@@ -46,7 +46,7 @@ pub record IsRunOf (list : Listed) (first : RunPosition) (ending : ScenarioEnd) 
   pub readable : AreReadable given
   pub counted : IfNone ending.fault (ending.lines ≡ length given)
   pub complained : IfNone ending.fault
-      (ending.complaints ≡ errors_of None (world_of list) nothing_awaited (turns_on None first list given))
+      (ending.complaints ≡ errors_of None (world_of list) nothing_awaited (steps_on None first list given))
 
 -- the same, unless the machine doesn't boot
 abbrev pub EndsRun : Listed → RunPosition → Result ScenarioEnd BootFault → Type 0

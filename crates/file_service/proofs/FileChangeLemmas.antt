@@ -1,6 +1,5 @@
 -- The files after a node has been created, has got another content, and has been removed.
-use Rattle.std.proofs.Common.{◌≡◌, ℕ, true, List, [], ◌∷◌, ◌++◌, map, take, Option, Some, None, refl, sym, ap, ◌∙◌, arith}
-use Rattle.std.proofs.lemmas.Bool.Decides.{nat_tests}
+use Rattle.std.proofs.Common.{◌≡◌, ◌≢◌, ℕ, true, List, [], ◌∷◌, ◌++◌, map, take, Option, Some, None, refl, sym, ap, ◌∙◌}
 use Rattle.std.proofs.lemmas.Slice.Eq.{bytes_eq-Decides}
 use Rattle.std.specs.FinMap.{get}
 use Rattle.own_model.specs.Account.{Account, credited}
@@ -19,8 +18,8 @@ use Rattle.session_nodes.specs.Order.{bytes_at, node_at, nodes_from}
 use Rattle.session_nodes.specs.SoundHeaps.{Stock}
 use Rattle.session_nodes.specs.declared.node_list.NodeList.{NodeList}
 use Rattle.session_nodes.proofs.KeptLemmas.{blocks_are, bytes_by}
-use Rattle.session_nodes.proofs.SearchLemmas.{found_long}
-use Rattle.session_nodes.proofs.LinkLemmas.{listed_append, map_kept, once_apart, once_later, unlisted}
+use Rattle.session_nodes.proofs.SearchLemmas.{before_kept, behind_kept, found_long}
+use Rattle.session_nodes.proofs.LinkLemmas.{map_kept}
 use Rattle.file_service.specs.Files.{file_at, files_of}
 use Rattle.file_service.proofs.FileFoundLemmas.{file_name, none_named}
 use Rattle.file_service.proofs.FileKeptLemmas.{same_file}
@@ -76,19 +75,8 @@ module _ (first last later_first : ℕ) (nodes later : OwnHeap) (contents after 
   blocks = blocks_are first last nodes contents all found.stand
 
   -- the others are as they were
-  other_same : (b : ℕ) → is_listed (found.before ++ found.behind) b ≡ true → g b ≡ f b
-  other_same b t =
-      let l = listed_append found.before (address ∷ found.behind) b in
-      let w = listed_append found.before found.behind b in
-      let fresh = once_apart found.before found.behind address (once_later 0 all found.stand.line.once) in
-      let listed : is_listed (nodes_from first nodes) b ≡ true = ap (λ xs. is_listed xs b) blocks ∙ grind (arith, nat_tests) in
-      same_file nodes later contents after b (sets.others b listed (unlisted (found.before ++ found.behind) address b fresh t))
-
-  same_before : map g found.before ≡ map f found.before
-  same_before = map_kept f g found.before (λ b t. other_same b (let w = listed_append found.before found.behind b in grind (arith, nat_tests)))
-
-  same_behind : map g found.behind ≡ map f found.behind
-  same_behind = map_kept f g found.behind (λ b t. other_same b (let w = listed_append found.before found.behind b in grind (arith, nat_tests)))
+  others_same : (b : ℕ) → is_listed (nodes_from first nodes) b ≡ true → b ≢ address → g b ≡ f b
+  others_same b t other = same_file nodes later contents after b (sets.others b t other)
 
   file_set : g address ≡ record (f address) { bytes = take size (payload_in after content) }
   file_set = λ i. record {
@@ -101,11 +89,13 @@ module _ (first last later_first : ℕ) (nodes later : OwnHeap) (contents after 
   pub files_set : files_of later_first later after ≡ record (files_of first nodes contents) { files = rewritten name (take size (payload_in after content)) (files_of first nodes contents).files }
   files_set =
       let bytes = take size (payload_in after content) in
+      let before = before_kept first last nodes contents name previous address node found f g others_same in
+      let behind = behind_kept first last nodes contents name previous address node found f g others_same in
       let new = ap (map g) (listed ∙ blocks) ∙ append_map g g found.before (address ∷ found.behind) in
       let parts : map g found.before ++ g address ∷ map g found.behind ≡ map f found.before ++ record (f address) { bytes = bytes } ∷ map f found.behind =
-      ap (λ (xs : List File). xs ++ g address ∷ map g found.behind) same_before
+      ap (λ (xs : List File). xs ++ g address ∷ map g found.behind) before
       ∙ ap (λ (x : File). map f found.before ++ x ∷ map g found.behind) file_set
-      ∙ ap (λ (xs : List File). map f found.before ++ record (f address) { bytes = bytes } ∷ xs) same_behind in
+      ∙ ap (λ (xs : List File). map f found.before ++ record (f address) { bytes = bytes } ∷ xs) behind in
       let named = (bytes_eq-Decides (node_at nodes address).name name).1 (file_name first last nodes contents name previous address node found) in
       let old = rewritten_behind name bytes (map f found.before) (f address) (map f found.behind) (none_named nodes contents name found.before found.others) named in
       let around = ap (rewritten name bytes) (ap (map f) blocks ∙ append_map f f found.before (address ∷ found.behind)) in

@@ -3,7 +3,7 @@ use Rattle.std.proofs.Common.{rules, ◌≡◌, ◌≢◌, ℕ, ◌+◌, ◌-◌
 use Rattle.std.proofs.lemmas.Bool.Decides.{nat_tests}
 use Rattle.std.proofs.lemmas.List.{length-take}
 use Rattle.std.proofs.lemmas.Option.{none-some}
-use Rattle.std.specs.Prelude.{SomeIff, Result, Ok, Err}
+use Rattle.std.specs.Prelude.{SomeIff, Result, Err}
 use Rattle.std.specs.Result.{result_ok}
 use Rattle.std.specs.Option.{unwrap_or}
 use Rattle.std.specs.FinMap.{get}
@@ -34,10 +34,6 @@ use Rattle.session_nodes.proofs.KeptLemmas.{bytes_by, stand_kept, blocks_are}
 use Rattle.session_nodes.proofs.LinkLemmas.{map_kept}
 use Rattle.session_nodes.proofs.SearchLemmas.{in_blocks, found_content, found_has, found_long, found_bytes, content_long}
 use Rattle.file_service.proofs.WriteLemmas.{longer_served}
-
--- a sum that is told is it
-pub sum_is : {E : Type 0} (o : Option ℕ) (r : Result ℕ E) (P : Type 0) (n sum : ℕ) → SomeIff o P sum → o ≡ result_ok r → r ≡ Ok n → n ≡ sum
-sum_is o r P n sum iff ok is = let told = subst (λ (x : Option ℕ). SomeIff x P sum) (ok ∙ ap result_ok is) iff in told.1
 
 -- a sum that isn't told doesn't fit
 pub no_sum : {E : Type 0} (o : Option ℕ) (r : Result ℕ E) (P : Type 0) (e : E) (sum : ℕ) → SomeIff o P sum → o ≡ result_ok r → r ≡ Err e → ¬ P

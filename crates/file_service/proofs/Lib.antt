@@ -1,10 +1,10 @@
 pub mod FileListLemmas
 pub mod FileKeptLemmas
 pub mod FileFoundLemmas
+pub mod FileThereLemmas
 pub mod FileChangeLemmas
 pub mod ServeLemmas
 pub mod WriteLemmas
 pub mod LengthenLemmas
-pub mod ReadyLemmas
 pub mod RequestLemmas
 pub mod BufferRequestLemmas

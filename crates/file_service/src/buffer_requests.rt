@@ -68,13 +68,13 @@ impl FileSession {
         &mut self,
         memory: &mut Memory,
         map: &mut RegionMap,
-        file: &FileRange<'_>,
+        range: &FileRange<'_>,
         place: u64,
     ) -> Result<u64, FileError>
         requires ready { IsReady self.old memory.old map.old }
         ensures answers { Answers
             (session_served (Some (OfBuffer
-            (Put file.now.name.now file.now.offset place file.now.len)))
+            (Put range.now.file.now range.now.offset place range.now.len)))
             self.old memory.old map.old)
             (counted_reply result) self.old self.new memory.new map.new }
         ensures same { buffer_key self.new.buffer ≡ buffer_key self.old.buffer }
@@ -82,15 +82,15 @@ impl FileSession {
             memory.old memory.new map.old map.new }
     {
         let found = self
-            .find(memory, map, file.name)
+            .find(memory, map, range.file)
             .ok_or(FileError::NotFound)?;
-        if file.offset > found.node.size {
+        if range.offset > found.node.size {
             return Err(FileError::Gap);
         }
-        let count = file.len;
+        let count = range.len;
         let lent = self.range(memory, place, count)?;
         let source = WriteSource::Buffer { lent, place, count };
-        self.overwrite(memory, map, found, file.offset, source)
+        self.overwrite(memory, map, found, range.offset, source)
     }
 
     /// Copies the bytes that a file has in a range into the buffer from a place on, and returns their number.
@@ -100,36 +100,36 @@ impl FileSession {
         &self,
         memory: &mut Memory,
         map: &RegionMap,
-        file: &FileRange<'_>,
+        range: &FileRange<'_>,
         place: u64,
     ) -> Result<u64, FileError>
         requires ready { IsReady self.now memory.old map.now }
         ensures answers { Answers
             (session_served (Some (OfBuffer
-            (Get file.now.name.now file.now.offset place file.now.len)))
+            (Get range.now.file.now range.now.offset place range.now.len)))
             self.now memory.old map.now)
             (counted_reply result) self.now self.now memory.new map.now }
         ensures stays { StaySoundHeaps self.now.nodes.heaps self.now.nodes.heaps
             memory.old memory.new map.now map.now }
     {
         let found = self
-            .find(memory, map, file.name)
+            .find(memory, map, range.file)
             .ok_or(FileError::NotFound)?;
         let size = found.node.size;
-        if file.offset > size {
+        if range.offset > size {
             return Err(FileError::Gap);
         }
-        let lent = self.range(memory, place, file.len)?;
-        let part = file.len.min(size - file.offset);
+        let lent = self.range(memory, place, range.len)?;
+        let part = range.len.min(size - range.offset);
         if part > 0 {
-            let range = ContentRange {
+            let content = ContentRange {
                 address: found.node.content,
-                offset: file.offset,
+                offset: range.offset,
                 count: part,
             };
             self.nodes
                 .heaps
-                .fill_buffer(memory, map, lent, place, range);
+                .fill_buffer(memory, map, lent, place, content);
         }
         Ok(part)
     }

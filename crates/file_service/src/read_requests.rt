@@ -41,13 +41,13 @@ impl FileSession {
         &self,
         memory: &mut Memory,
         map: &RegionMap,
-        file: &FileRange<'_>,
+        range: &FileRange<'_>,
         buffer: &mut [u8],
     ) -> Result<usize, FileError>
-        requires room { file.now.len ≤ MOST_READ → file.now.len ≤ length buffer.old }
+        requires room { range.now.len ≤ MOST_READ → range.now.len ≤ length buffer.old }
         requires furnished { AreSoundHeaps self.now.nodes.heaps memory.old map.now }
         requires files { HasFiles self.now (stock_of self.now.nodes.heaps memory.old map.now) }
-        ensures told { IsTold (Read file.now.name.now file.now.offset file.now.len)
+        ensures told { IsTold (Read range.now.file.now range.now.offset range.now.len)
             (bytes_reply buffer.new result) self.now
             (stock_of self.now.nodes.heaps memory.old map.now) }
         ensures count { IfOk result (λ count. count ≤ length buffer.new) }
@@ -55,22 +55,22 @@ impl FileSession {
         ensures memory { memory.new ≡ memory.old }
     {
         let found = self
-            .find(memory, map, file.name)
+            .find(memory, map, range.file)
             .ok_or(FileError::NotFound)?;
         let size = found.node.size;
-        if file.offset > size {
+        if range.offset > size {
             return Err(FileError::Gap);
         }
-        if file.len > MOST_READ {
+        if range.len > MOST_READ {
             return Err(FileError::TooLong);
         }
-        let count = file.len.min(size - file.offset) as usize;
+        let count = range.len.min(size - range.offset) as usize;
         if count > 0 {
             let content = found.node.content;
             let part = &mut buffer[..count];
             self.nodes
                 .heaps
-                .read_content(memory, map, content, file.offset, part);
+                .read_content(memory, map, content, range.offset, part);
         }
         Ok(count)
     }

@@ -4,6 +4,8 @@ ghost use Rattle.own_model.specs.BufferService.{session_request};
 ghost use Rattle.own_model.specs.FileText as model;
 ghost use Rattle.own_model.specs.FileText.{file_reply};
 ghost use Rattle.own_model.specs.FileText.{FileReply as Answered};
+ghost use Rattle.own_model.specs.FileText.FileError.{BadRequest};
+ghost use Rattle.own_model.specs.FileText.FileReply.{Refused};
 ghost use Rattle.own_model.specs.FileText.FileRequest.{Name, Read, Write};
 ghost use Rattle.own_model.specs.Offer.Offer.{OffersFiles};
 ghost use Rattle.own_model.specs.Session.{Labelled, state_at_first};
@@ -12,6 +14,7 @@ ghost use Rattle.dataspace_core.specs.Store.{account_in, IsOpenIn};
 ghost use Rattle.sliced_heap.specs.Heap.{payer_of};
 ghost use Rattle.file_service.specs.SeparateBuffer.{lends_aside};
 ghost use Rattle.server_frame.specs.Session.{service_step};
+ghost use Rattle.server_frame.specs.declared.effect.Effect.TheVariants.{Nothing};
 ghost use Rattle.session_nodes.specs.SessionHeaps.{stock_of, AreSoundHeaps, KeepsHeaps};
 ghost use Rattle.session_nodes.specs.SessionBuffer.{buffer_key, lent_effect, gone_effect};
 ghost use Rattle.file_service.specs.Session.{HasFiles, IsReady, IsAnswered, IsTold, Serves, done_reply, counted_reply, lent_reply, served_in, session_served};
@@ -117,52 +120,53 @@ fn answer(
         result reply.new session.old session.new
         memory.old memory.new map.old map.new }
 {
-    match FileRequest::read(request) {
-        None => FileReply::Refused(FileError::BadRequest).write(reply),
-        Some(FileRequest::Create(name)) => reply_done(session.create(memory, map, name), reply),
-        Some(FileRequest::Write { file, offset, hex }) => {
+    let Some(request) = FileRequest::read(request) else {
+        return refuse(reply);
+    };
+    match request {
+        FileRequest::Create(name) => reply_done(session.create(memory, map, name), reply),
+        FileRequest::Write { file, offset, hex } => {
             reply_count(write(session, memory, map, file, offset, hex), reply);
         }
-        Some(FileRequest::Read { file, offset, len }) => {
-            let range = FileRange {
-                name: file,
-                offset,
-                len,
-            };
+        FileRequest::Read { file, offset, len } => {
+            let range = FileRange { file, offset, len };
             answer_read(session, memory, map, &range, reply);
         }
-        Some(FileRequest::Size(name)) => reply_count(session.size(memory, map, name), reply),
-        Some(FileRequest::Clear(name)) => reply_done(session.clear(memory, map, name), reply),
-        Some(FileRequest::Drop(name)) => reply_done(session.remove(memory, map, name), reply),
-        Some(FileRequest::Name(place)) => answer_name(session, memory, map, place, reply),
-        Some(FileRequest::Stat) => answer_stat(&session.nodes.heaps, memory, reply),
-        Some(FileRequest::Buffer(bytes)) => {
-            return reply_lent(session.lend(memory, map, bytes), reply);
-        }
-        Some(FileRequest::Unbuffer) => return reply_gone(session.take_back(memory, map), reply),
-        Some(
-            FileRequest::Put {
-                file: name,
-                offset,
-                place,
-                len,
-            },
-        ) => {
-            let range = FileRange { name, offset, len };
+        FileRequest::Size(name) => reply_count(session.size(memory, map, name), reply),
+        FileRequest::Clear(name) => reply_done(session.clear(memory, map, name), reply),
+        FileRequest::Drop(name) => reply_done(session.remove(memory, map, name), reply),
+        FileRequest::Name(place) => answer_name(session, memory, map, place, reply),
+        FileRequest::Stat => answer_stat(&session.nodes.heaps, memory, reply),
+        FileRequest::Buffer(bytes) => return reply_lent(session.lend(memory, map, bytes), reply),
+        FileRequest::Unbuffer => return reply_gone(session.take_back(memory, map), reply),
+        FileRequest::Put {
+            file,
+            offset,
+            place,
+            len,
+        } => {
+            let range = FileRange { file, offset, len };
             reply_count(session.put(memory, map, &range, place), reply);
         }
-        Some(
-            FileRequest::Get {
-                file: name,
-                offset,
-                place,
-                len,
-            },
-        ) => {
-            let range = FileRange { name, offset, len };
+        FileRequest::Get {
+            file,
+            offset,
+            place,
+            len,
+        } => {
+            let range = FileRange { file, offset, len };
             reply_count(session.get(memory, map, &range, place), reply);
         }
     }
+    Effect::Nothing
+}
+
+/// Writes the reply to a text that is no request, and returns that the buffer is unchanged.
+fn refuse(reply: &mut Reply) -> Effect
+    ensures told { reply.new ≡ record reply.old { text = file_reply (Refused BadRequest) } }
+    ensures effect { result ≡ Nothing }
+{
+    FileReply::Refused(FileError::BadRequest).write(reply);
     Effect::Nothing
 }
 
@@ -171,21 +175,21 @@ fn answer_read(
     session: &FileSession,
     memory: &mut Memory,
     map: &RegionMap,
-    file: &FileRange<'_>,
+    range: &FileRange<'_>,
     reply: &mut Reply,
 )
     requires furnished { AreSoundHeaps session.now.nodes.heaps memory.old map.now }
     requires files { HasFiles session.now (stock_of session.now.nodes.heaps memory.old map.now) }
     ensures told { (answer : Answered)
-        × ((IsTold (Read file.now.name.now file.now.offset file.now.len) answer session.now
+        × ((IsTold (Read range.now.file.now range.now.offset range.now.len) answer session.now
         (stock_of session.now.nodes.heaps memory.old map.now))
         × (reply.new ≡ record reply.old { text = file_reply answer })) }
     ensures memory { memory.new ≡ memory.old }
 {
-    if file.len <= FEW_READ as u64 {
-        answer_read_by::<FEW_READ>(session, memory, map, file, reply);
+    if range.len <= FEW_READ as u64 {
+        answer_read_by::<FEW_READ>(session, memory, map, range, reply);
     } else {
-        answer_read_by::<MOST_READ>(session, memory, map, file, reply);
+        answer_read_by::<MOST_READ>(session, memory, map, range, reply);
     }
 }
 
@@ -195,21 +199,21 @@ fn answer_read_by<const N: usize>(
     session: &FileSession,
     memory: &mut Memory,
     map: &RegionMap,
-    file: &FileRange<'_>,
+    range: &FileRange<'_>,
     reply: &mut Reply,
 )
-    requires few { file.now.len ≤ MOST_READ → file.now.len ≤ N }
+    requires few { range.now.len ≤ MOST_READ → range.now.len ≤ N }
     requires small { N ≤ MOST_READ }
     requires furnished { AreSoundHeaps session.now.nodes.heaps memory.old map.now }
     requires files { HasFiles session.now (stock_of session.now.nodes.heaps memory.old map.now) }
     ensures told { (answer : Answered)
-        × ((IsTold (Read file.now.name.now file.now.offset file.now.len) answer session.now
+        × ((IsTold (Read range.now.file.now range.now.offset range.now.len) answer session.now
         (stock_of session.now.nodes.heaps memory.old map.now))
         × (reply.new ≡ record reply.old { text = file_reply answer })) }
     ensures memory { memory.new ≡ memory.old }
 {
     let mut buffer = [0; N];
-    match session.read(memory, map, file, &mut buffer) {
+    match session.read(memory, map, range, &mut buffer) {
         Ok(count) => FileReply::Bytes(&buffer[..count]).write(reply),
         Err(error) => FileReply::Refused(error).write(reply),
     }

@@ -20,7 +20,7 @@ pub struct FileSession {
 /// A range of a file, as a request gives it: the file's name, the offset of the first byte, and the number of bytes.
 #[derive(Clone, Copy)]
 pub(crate) struct FileRange<'a> {
-    pub(crate) name: &'a [u8],
+    pub(crate) file: &'a [u8],
     pub(crate) offset: u64,
     pub(crate) len: u64,
 }

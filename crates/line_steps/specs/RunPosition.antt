@@ -23,7 +23,7 @@ arrived_at number known (mark ∷ marks) =
     else record { number = number; known = known; ahead = mark ∷ marks }
 
 abbrev pub arrived : RunPosition → RunPosition
-arrived stand = arrived_at stand.number stand.known stand.ahead
+arrived position = arrived_at position.number position.known position.ahead
 
 -- the position before the first line, with the names that are given
 abbrev pub first_position : NameTable → List RoundMark → RunPosition
@@ -35,12 +35,12 @@ number_after n = min (n + 1) 18446744073709551615
 
 -- a line was passed
 abbrev pub passed : RunPosition → RunPosition
-passed stand = record stand { number = number_after stand.number }
+passed position = record position { number = number_after position.number }
 
 -- rounds begin or end after the next line
 abbrev pub crosses : RunPosition → Bool
-crosses stand = is_due (number_after stand.number) stand.ahead
+crosses position = is_due (number_after position.number) position.ahead
 
 -- the position after a directive
 abbrev pub position_following : RunPosition → Directive → RunPosition
-position_following stand directive = record stand { known = followed stand.known directive }
+position_following position directive = record position { known = followed position.known directive }

@@ -22,10 +22,10 @@ impl<'m> Model for RunPosition<'m> {
 
     ghost Value = { RunPosition };
 
-    ghost view = { λ stand. record {
-      number = stand.number;
-      known = stand.known;
-      ahead = stand.ahead.now;
+    ghost view = { λ position. record {
+      number = position.number;
+      known = position.known;
+      ahead = position.ahead.now;
     } };
 }
 
@@ -33,7 +33,7 @@ impl<'m> RunPosition<'m> {
     /// Returns the position before the first line of a scenario with these marks of rounds, with the names that are given. The
     /// error is that the host is out of memory.
     pub fn new(given: NameTable, marks: &'m [RoundMark]) -> Result<RunPosition<'m>, AllocError>
-        ensures { IfOk result (λ stand. stand ≡ first_position given marks.now) }
+        ensures { IfOk result (λ position. position ≡ first_position given marks.now) }
     {
         let mut known = given;
         let (number, ahead) = cross_due(&mut known, 1, marks)?;

@@ -1,10 +1,10 @@
 -- Access that is new, or that is lost, has its row.
-use Rattle.std.proofs.Common.{◌≡◌, ◌≤◌, ◌∙◌, ℕ, Bool, true, false, not, ◌&&◌, ◌||◌, List, [], ◌∷◌, length, refl, sym, ap, subst, Option, Some, None, arith}
-use Rattle.std.specs.Prelude.{All, Contains, is_some}
+use Rattle.std.proofs.Common.{◌≡◌, ◌≤◌, ◌∙◌, ℕ, Bool, true, false, not, ◌&&◌, ◌||◌, List, length, refl, ap, subst, Option, Some, None, arith}
+use Rattle.std.specs.Prelude.{Contains, is_some}
 use Rattle.std.specs.Option.{option_map}
 use Rattle.std.proofs.lemmas.List.Elements.{All-contains}
 use Rattle.own_model.specs.Listed.{Listed}
-use Rattle.list_reach.specs.Comparisons.{IsLeast, IsRouted, IsShortest, IsWitness, RoutedLabel, is_gained, is_lost, is_to}
+use Rattle.list_reach.specs.Comparisons.{IsRouted, IsShortest, IsWitness, RoutedLabel, is_gained, is_lost, is_to}
 use Rattle.list_diff.specs.declared.moved_labels.MovedLabels.{MovedLabels}
 use Rattle.list_diff.specs.Changes.{place_of}
 use Rattle.list_diff.specs.NewAccess.{HasWitness, IsAbout, IsOutOfReach, IsReached, LostAccessIsReported, NewAccessIsReported, reaches}

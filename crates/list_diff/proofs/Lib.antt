@@ -2,7 +2,6 @@ mod BinaryLemmas
 mod AccessLemmas
 mod BreachLemmas
 mod NewBreachLemmas
-mod EachLemmas
 mod PairLemmas
 mod ReachLemmas
 mod ReplyLemmas

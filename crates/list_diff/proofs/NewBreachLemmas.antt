@@ -1,14 +1,14 @@
 -- Which breaches of a policy are reported.
-use Rattle.std.proofs.Common.{◌≡◌, ◌<◌, ◌==◌, ◌&&◌, ℕ, Bool, true, false, List, [], ◌∷◌, ◌++◌, length, refl, sym, subst, ap, ◌∙◌, arith, inl, inr}
+use Rattle.std.proofs.Common.{◌≡◌, ◌<◌, ◌==◌, ℕ, Bool, true, false, List, [], ◌∷◌, ◌++◌, refl, sym, subst, ap, ◌∙◌, arith, inl, inr}
 use Rattle.std.specs.Prelude.{◌⊎◌, Contains, Option, Some, None, if◌then◌else◌}
-use Rattle.std.specs.List.{flat_map, list_any}
+use Rattle.std.specs.List.{flat_map}
 use Rattle.std.specs.Str.{bytes_eq}
 use Rattle.std.proofs.lemmas.Bool.Decides.{nat_tests}
 use Rattle.std.proofs.lemmas.List.Elements.{Contains-append_cases, Contains-append_left, Contains-append_right, Contains-push_cases}
 use Rattle.std.proofs.lemmas.List.Folds.{list_any_at}
 use Rattle.std.proofs.lemmas.Slice.Eq.{bytes_eq-Decides}
 use Rattle.list_diff.specs.PlacedBreaches.{BreachAt}
-use Rattle.list_diff.specs.Breaches.{ChangeAt, alone, breach_changes, came, gone, has, same_breach, same_server}
+use Rattle.list_diff.specs.Breaches.{ChangeAt, alone, came, gone, has, same_breach, same_server}
 use Rattle.list_diff.specs.NewBreaches.{GoneBreachIsReported, NewBreachIsReported, ReportedBreachIsGone, ReportedBreachIsNew, SameBreachesAreNone, new_one, old_one}
 use Rattle.list_diff.proofs.PairLemmas.{contains_found, contains_one}
 
@@ -109,9 +109,9 @@ same_servers (Some server) = (bytes_eq-Decides server server).1 refl
 
 same_itself : (breach : BreachAt) → same_breach breach breach ≡ true
 same_itself breach =
-    let line : (breach.line == breach.line) ≡ true = grind (arith, nat_tests) in
-    let client : bytes_eq breach.client breach.client ≡ true = (bytes_eq-Decides breach.client breach.client).1 refl in
-    rw (line, client) (same_servers breach.server)
+    let line : (breach.place.line == breach.place.line) ≡ true = grind (arith, nat_tests) in
+    let client : bytes_eq breach.place.client breach.place.client ≡ true = (bytes_eq-Decides breach.place.client breach.place.client).1 refl in
+    rw (line, client) (same_servers breach.place.server)
 
 -- a breach of a list is one that the list has
 has_itself : (breaches : List BreachAt) (breach : BreachAt) → Contains breaches breach → has breaches breach ≡ true

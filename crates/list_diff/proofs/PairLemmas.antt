@@ -1,6 +1,6 @@
 -- Each pair of a table is compared, and the rows of a pair that is compared are among all rows.
-use Rattle.std.proofs.Common.{◌≡◌, ◌∙◌, ◌<◌, ◌+◌, ◌==◌, ◌&&◌, ℕ, zero, suc, Bool, true, false, List, [], ◌∷◌, ◌++◌, length, get_or, refl, sym, subst, ap, Option, Some, None, arith}
-use Rattle.std.specs.Prelude.{Contains, find, position}
+use Rattle.std.proofs.Common.{◌≡◌, ◌∙◌, ◌<◌, ◌==◌, ◌&&◌, ℕ, zero, suc, Bool, true, List, [], ◌∷◌, length, get_or, refl, sym, subst, ap, Option, Some, None, arith}
+use Rattle.std.specs.Prelude.{Contains, find}
 use Rattle.std.specs.List.{flat_map, slice_get, position_or_len}
 use Rattle.std.specs.Option.{option_map, option_to_list}
 use Rattle.std.specs.Str.{bytes_eq}
@@ -12,11 +12,10 @@ use Rattle.std.proofs.lemmas.List.Sums.{passes_at_first}
 use Rattle.std.proofs.lemmas.Option.{get_or_from_slice_get, slice_get-get_or, slice_get_within}
 use Rattle.std.proofs.lemmas.Slice.Eq.{bytes_eq-Decides}
 use Rattle.own_model.specs.Listed.{Listed, ListedEntry}
-use Rattle.list_reach.specs.declared.client_reach.Reach.{Reach}
 use Rattle.list_reach.specs.declared.reach_table.ReachCell.{ReachCell}
 use Rattle.list_diff.specs.Changes.{place_of}
 use Rattle.list_diff.specs.NewAccess.{HasCell}
-use Rattle.list_diff.specs.Reaches.{HasRows, Shows, cell_at, cell_of, compared_pairs, is_cell, new_pair, new_pairs, old_pair, old_pairs, pair_at, pair_of, pair_unless, reach_of}
+use Rattle.list_diff.specs.Reaches.{HasRows, Shows, cell_at, cell_of, compared_pairs, is_cell, new_pair, new_pairs, old_pair, old_pairs, pair_at, pair_of, pair_unless}
 use Rattle.list_diff.specs.Routes.{Pair}
 use Rattle.list_diff.specs.declared.reach_changes.ReachChange.{ReachChange}
 use Rattle.list_diff.specs.declared.reach_changes.ReachSide.{ReachSide}

@@ -1,5 +1,5 @@
 -- The route path of a request with a label.
-use Rattle.std.proofs.Common.{◌≡◌, ◌∙◌, ℕ, List, Option, Some, sym, ap}
+use Rattle.std.proofs.Common.{◌≡◌, ◌∙◌, ℕ, List, Some, sym, ap}
 use Rattle.own_model.specs.Listed.{Listed}
 use Rattle.list_labels.specs.GivenLabels.{leads_to}
 use Rattle.list_labels.specs.RouteSteps.{route_steps_of}

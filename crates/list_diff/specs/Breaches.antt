@@ -1,5 +1,5 @@
 -- The breaches of a policy that one of two start lists alone has.
-use Rattle.std.specs.Prelude.{◌≡◌, ℕ, ◌==◌, ◌&&◌, Bool, true, false, List, [], ◌∷◌, ◌++◌, if◌then◌else◌, Option, Some, None}
+use Rattle.std.specs.Prelude.{ℕ, ◌==◌, ◌&&◌, Bool, true, false, List, [], ◌∷◌, ◌++◌, if◌then◌else◌, Option, Some, None}
 use Rattle.std.specs.List.{flat_map, list_any}
 use Rattle.std.specs.Str.{bytes_eq}
 use Rattle.list_diff.specs.PlacedBreaches.{BreachAt}
@@ -14,7 +14,9 @@ same_server (Some one) None = false
 
 -- breaches of one line by the same components are one breach
 abbrev pub same_breach : BreachAt → BreachAt → Bool
-same_breach one other = one.line == other.line && (bytes_eq one.client other.client && same_server one.server other.server)
+same_breach one other =
+    one.place.line == other.place.line
+    && (bytes_eq one.place.client other.place.client && same_server one.place.server other.place.server)
 
 abbrev pub has : List BreachAt → BreachAt → Bool
 has breaches breach = list_any (same_breach breach) breaches

@@ -1,5 +1,5 @@
 -- Which changes of reach have a row, for all labels.
-use Rattle.std.specs.Prelude.{◌≡◌, ℕ, ◌≤◌, Bool, true, false, List, length, Option, Some, Contains}
+use Rattle.std.specs.Prelude.{◌≡◌, ℕ, ◌≤◌, Bool, true, false, List, length, Some, Contains}
 use Rattle.own_model.specs.Listed.{Listed}
 use Rattle.list_labels.specs.GivenLabels.{IsGiven}
 use Rattle.list_reach.specs.Comparisons.{is_to}

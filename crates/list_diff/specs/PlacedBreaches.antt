@@ -8,12 +8,20 @@ use Rattle.list_policy.specs.Line.{LineAt}
 use Rattle.list_policy.specs.declared.breach.Breach.{Breach}
 use Rattle.list_policy.specs.declared.breach.Breach.TheVariants.{Reach, Excess}
 
--- a breach by its place in the policy and the paths of its components; one of a budget has no server
-pub record BreachAt : Type 0 where
+-- the place of a breach in the policy, with the paths of its components; one of a budget has no server
+pub record BreachPlace : Type 0 where
   pub line : ℕ
   pub column : ℕ
   pub client : List ℕ
   pub server : Option (List ℕ)
+
+-- a breach with its message
+pub record BreachAt : Type 0 where
+  pub place : BreachPlace
+  pub text : List ℕ
+
+abbrev pub place_in : BreachAt → BreachPlace
+place_in breach = breach.place
 
 abbrev pub path_of : Listed → ℕ → List ℕ
 path_of list number = unwrap_or (option_map (λ entry. entry.path) (slice_get list.entries number)) []
@@ -22,18 +30,22 @@ abbrev pub paths_of : Listed → Breach → List ℕ × Option (List ℕ)
 paths_of list (Reach breach) = (path_of list breach.client, Some (path_of list breach.server))
 paths_of list (Excess number) = (path_of list number, None)
 
--- a breach of a line by a list
-abbrev pub breach_at : Listed → LineAt → Breach → BreachAt
-breach_at list line breach =
+-- of a breach of a line by a list
+abbrev pub place_at : Listed → LineAt → Breach → BreachPlace
+place_at list line breach =
     record { line = line.number; column = line.column; client = (paths_of list breach).0; server = (paths_of list breach).1 }
 
 -- the breaches of a line are added
-abbrev pub AddsBreaches : Listed → LineAt → List BreachAt → List BreachAt → Type 0
-AddsBreaches list line old new = (breaches : List Breach) × AreBreaches list line breaches × (new ≡ old ++ map (breach_at list line) breaches)
+abbrev pub AddsBreaches : Listed → LineAt → List BreachPlace → List BreachPlace → Type 0
+AddsBreaches list line old new = (breaches : List Breach) × AreBreaches list line breaches × (new ≡ old ++ map (place_at list line) breaches)
 
--- all breaches of a policy's lines, line by line
+-- the places of all breaches of a policy's lines, line by line
+abbrev pub ArePlaces : Listed → List LineAt → List BreachPlace → Type 0
+ArePlaces list [] found = found ≡ []
+ArePlaces list (line ∷ lines) found =
+    (breaches : List Breach) × (others : List BreachPlace) × (found ≡ map (place_at list line) breaches ++ others)
+    × AreBreaches list line breaches × ArePlaces list lines others
+
+-- the breaches at these places, each with some message
 abbrev pub ArePlaced : Listed → List LineAt → List BreachAt → Type 0
-ArePlaced list [] found = found ≡ []
-ArePlaced list (line ∷ lines) found =
-    (breaches : List Breach) × (others : List BreachAt) × (found ≡ map (breach_at list line) breaches ++ others)
-    × AreBreaches list line breaches × ArePlaced list lines others
+ArePlaced list lines found = ArePlaces list lines (map place_in found)

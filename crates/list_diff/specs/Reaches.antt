@@ -92,6 +92,10 @@ abbrev pub IsRowIf : Bool → ReachSide → ReachSide → Pair → MovedLabels �
 IsRowIf false before after pair gained lost row = row ≡ None
 IsRowIf true before after pair gained lost row = (change : ReachChange) × (row ≡ Some change) × IsRow before after pair gained lost change
 
+-- the row of a pair with these labels that are gained and lost, if there are some
+abbrev pub IsRowOf : ReachSide → ReachSide → Pair → MovedLabels → MovedLabels → Option ReachChange → Type 0
+IsRowOf before after pair gained lost row = IsRowIf (moves_some gained lost) before after pair gained lost row
+
 -- the row of a pair shows which of some labels its server gains and which ones it loses, and how both lists route the witnesses
 pub record ShowsMoves (before after : ReachSide) (compared : List RoutedLabel) (pair : Pair) (row : Option ReachChange) : Type 0 where
   pub gained : MovedLabels
@@ -100,7 +104,7 @@ pub record ShowsMoves (before after : ReachSide) (compared : List RoutedLabel) (
   pub gained_routes : AreMoved before.list.now after.list.now pair gained
   pub loses : IsWitness (is_lost (place_of before.list.now pair.server.path) (place_of after.list.now pair.server.path)) compared lost.set.witness
   pub lost_routes : AreMoved before.list.now after.list.now pair lost
-  pub is : IsRowIf (moves_some gained lost) before after pair gained lost row
+  pub is : IsRowOf before after pair gained lost row
 
 -- these labels are routed as both lists route them, and represent all labels on each list
 pub record Shows (before after : ReachSide) (pair : Pair) (row : Option ReachChange) : Type 0 where

@@ -3,24 +3,18 @@
 #![tactic(auto)]
 
 mod differences;
-mod documents;
 mod entry_changes;
-mod entry_texts;
-mod label_sets;
 mod line_outcomes;
 mod moved_labels;
 mod need_changes;
 mod placed_breach;
 mod policy_breaches;
 mod reach_changes;
-mod reach_texts;
 mod reply_changes;
-mod reply_texts;
 mod theorems;
 
-pub use differences::ListDifferences;
+pub use differences::{ListDifferences, has_same_machine};
 pub use entry_changes::{EntryChange, changes};
-pub use label_sets::label_documents;
 pub use line_outcomes::{LineOutcome, LineResult, ResolutionFault, line_results};
 pub use moved_labels::MovedLabels;
 pub use need_changes::{ComponentNeed, NeedChange, QuotaAmounts, lacks};

@@ -2,7 +2,7 @@
 ghost use Rattle.std.specs.Prelude.{◌≡◌, ◌++◌, map, IfOk, OnOk};
 ghost use Rattle.std.specs.Option.{option_copied};
 ghost use Rattle.list_policy.specs.Line.{line_at};
-ghost use Rattle.list_diff.specs.PlacedBreaches.{AddsBreaches, ArePlaced, breach_at, path_of, paths_of};
+ghost use Rattle.list_diff.specs.PlacedBreaches.{AddsBreaches, ArePlaced, path_of, paths_of, place_at, place_in};
 
 use list_parser::StartList;
 use list_policy::{Breach, BreachText, PolicyLine};
@@ -25,16 +25,20 @@ pub struct PlacedBreach<'a> {
 }
 
 impl<'a> Model for PlacedBreach<'a> {
+    ghost use Rattle.std.specs.Prelude.{string_bytes};
     ghost use Rattle.std.specs.Option.{option_copied};
     ghost use Rattle.list_diff.specs.PlacedBreaches.{BreachAt};
 
     ghost Value = { BreachAt };
 
     ghost view = { λ breach. record {
-      line = breach.line;
-      column = breach.column;
-      client = breach.client.now;
-      server = option_copied breach.server;
+      place = record {
+        line = breach.line;
+        column = breach.column;
+        client = breach.client.now;
+        server = option_copied breach.server;
+      };
+      text = string_bytes breach.text;
     } };
 }
 
@@ -62,7 +66,8 @@ fn add_breaches<'a>(
     line: &PolicyLine,
 ) -> Result<(), AllocError>
     ensures { OnOk result
-        (AddsBreaches list.now (line_at line.now) found.old.items found.new.items) }
+        (AddsBreaches list.now (line_at line.now) (map place_in found.old.items)
+        (map place_in found.new.items)) }
 {
     let breaches = line.breaches(alloc, list)?;
     add_placed(alloc, found, list, line, breaches.as_slice())
@@ -76,8 +81,8 @@ fn add_placed<'a>(
     line: &PolicyLine,
     breaches: &[Breach],
 ) -> Result<(), AllocError>
-    ensures { OnOk result (found.new.items
-        ≡ found.old.items ++ map (breach_at list.now (line_at line.now)) breaches.now) }
+    ensures { OnOk result (map place_in found.new.items
+        ≡ map place_in found.old.items ++ map (place_at list.now (line_at line.now)) breaches.now) }
 {
     for breach in breaches {
         let one = placed(alloc, list, line, breach)?;
@@ -93,7 +98,7 @@ fn placed<'a>(
     line: &PolicyLine,
     breach: &Breach,
 ) -> Result<PlacedBreach<'a>, AllocError>
-    ensures { IfOk result (λ one. one ≡ breach_at list.now (line_at line.now) breach.now) }
+    ensures { IfOk result (λ one. one.place ≡ place_at list.now (line_at line.now) breach.now) }
 {
     let text = message_of(alloc, list, line, breach)?;
     let (client, server) = paths_of(list, breach);

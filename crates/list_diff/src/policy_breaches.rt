@@ -1,14 +1,10 @@
 //! Breaches of a policy that one of two start lists alone has.
-ghost use Rattle.std.specs.Prelude.{◌≡◌, ◌++◌, ◌∷◌, [], map, IfOk, List, OnOk};
+ghost use Rattle.std.specs.Prelude.{◌≡◌, ◌++◌, map, IfOk, OnOk};
 ghost use Rattle.std.specs.Option.{option_copied};
-ghost use Rattle.view_json.specs.Documents.{Lists, Member};
-ghost use Rattle.list_diff.specs.BreachTexts.{IsBreachLine, IsBreachObject, breach_line, breach_object, breach_sign};
-ghost use Rattle.list_diff.specs.DifferenceTexts.{AddsOne, ListsOne};
 ghost use Rattle.list_diff.specs.Breaches.{alone, breach_changes, change_at, has, same_breach, same_server};
 
 use crate::placed_breach::PlacedBreach;
 use std::alloc::{AllocError, Global};
-use view_json::{JsonField, Listing};
 
 /// A breach that one start list alone has.
 #[derive(Clone, Copy)]
@@ -87,62 +83,5 @@ impl<'a> BreachChange<'a> {
         match self {
             BreachChange::Gone(breach) | BreachChange::Came(breach) => breach,
         }
-    }
-
-    // Returns the sign of the change.
-    fn sign(&self) -> &'static str
-        ensures { result.now ≡ breach_sign (change_at self.now).is_new }
-    {
-        match self {
-            BreachChange::Gone(_) => "-",
-            BreachChange::Came(_) => "+",
-        }
-    }
-}
-
-impl BreachChange<'_> {
-    /// Adds a JSON document of the kind `breach` with its place in the policy. Fails if the host is out of memory.
-    pub fn list(&self, listing: &mut Listing) -> Result<(), AllocError>
-        ensures { (objects : List (List Member)) → Lists listing.old objects →
-            OnOk result (ListsOne listing.new objects (IsBreachObject self.now)) }
-    {
-        self.list_with(listing, self.breach().text.as_str())
-    }
-
-    // Adds a JSON document with a message.
-    fn list_with(&self, listing: &mut Listing, message: &str) -> Result<(), AllocError>
-        ensures { (objects : List (List Member)) → Lists listing.old objects → OnOk result
-            (Lists listing.new (objects ++ breach_object (change_at self.now) message.now ∷ [])) }
-    {
-        let (sign, breach) = (self.sign(), self.breach());
-        listing.add(&[
-            ("kind", JsonField::Word("breach")),
-            ("change", JsonField::Word(sign)),
-            ("line", JsonField::Number(breach.line as u64)),
-            ("column", JsonField::Number(breach.column as u64)),
-            ("text", JsonField::Text(message.as_bytes())),
-        ])
-    }
-
-    /// Adds a line with the number of the policy's line and the message of the breach. Fails if the host is out of memory.
-    pub fn add_line(&self, alloc: Global, told: &mut Vec<u8>) -> Result<(), AllocError>
-        ensures { OnOk result (AddsOne told.old.items told.new.items (IsBreachLine self.now)) }
-    {
-        self.add_line_with(alloc, told, self.breach().text.as_str())
-    }
-
-    // Adds a line with a message.
-    fn add_line_with(
-        &self,
-        alloc: Global,
-        told: &mut Vec<u8>,
-        message: &str,
-    ) -> Result<(), AllocError>
-        ensures { OnOk result (told.new.items
-            ≡ told.old.items ++ breach_line (change_at self.now) message.now) }
-    {
-        let (sign, line) = (self.sign(), self.breach().line);
-        let text = format!(in alloc; "{sign} policy {line}: {message}\n")?;
-        told.extend_from_slice(text.as_bytes())
     }
 }

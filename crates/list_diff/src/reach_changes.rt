@@ -4,7 +4,7 @@ ghost use Rattle.std.specs.List.{flat_map};
 ghost use Rattle.std.specs.Option.{option_copied, option_map, option_to_list};
 ghost use Rattle.list_reach.specs.Comparisons.{IsComparison};
 ghost use Rattle.list_diff.specs.Changes.{place_of};
-ghost use Rattle.list_diff.specs.Reaches.{AreReachChanges, HasRows, IsCompared, IsRowIf, ShowsMoves, cell_at, compared_pairs, is_cell, moves_some, new_pairs, old_pairs, pair_at, reach_of};
+ghost use Rattle.list_diff.specs.Reaches.{AreReachChanges, HasRows, IsCompared, IsRowOf, ShowsMoves, cell_at, compared_pairs, is_cell, moves_some, new_pairs, old_pairs, pair_at, reach_of};
 ghost use Rattle.list_diff.specs.Routes.{routes};
 
 use crate::moved_labels::{MovedLabels, requests_of};
@@ -333,8 +333,7 @@ fn row_with<'a>(
     gained: MovedLabels<'a>,
     lost: MovedLabels<'a>,
 ) -> Option<ReachChange<'a>>
-    ensures { IsRowIf (moves_some gained.entry lost.entry) before.entry after.entry pair.now gained.entry lost.entry
-        result }
+    ensures { IsRowOf before.entry after.entry pair.now gained.entry lost.entry result }
 {
     if has_some(&gained, &lost) {
         return Some(change_of(before, after, pair, gained, lost));

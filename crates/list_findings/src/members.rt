@@ -8,6 +8,56 @@ use crate::finding::{FindingText, Remark, StaticName};
 use std::alloc::{AllocError, Global};
 use text_near_words::nearest;
 
+/// The members that are read of each entry.
+const ENTRY_MEMBERS: [&str; 8] = [
+    "name",
+    "binary",
+    "quantum",
+    "caps",
+    "provides",
+    "route",
+    "reserve",
+    "reserve-caps",
+];
+
+/// Those of a server that declares its service.
+const SERVER_MEMBERS: [&str; 9] = [
+    "name",
+    "binary",
+    "quantum",
+    "caps",
+    "provides",
+    "route",
+    "reserve",
+    "reserve-caps",
+    "kinds",
+];
+
+/// Those of an init.
+const INIT_MEMBERS: [&str; 9] = [
+    "name",
+    "binary",
+    "quantum",
+    "caps",
+    "provides",
+    "route",
+    "reserve",
+    "reserve-caps",
+    "config",
+];
+
+/// Those of a rule.
+const RULE_MEMBERS: [&str; 8] = [
+    "service",
+    "any-service",
+    "label",
+    "label_prefix",
+    "label_suffix",
+    "child",
+    "any-child",
+    "parent",
+];
+
 /// The objects of a start list that have members, by what they are.
 #[derive(Clone, Copy)]
 pub(crate) enum MemberOwner {
@@ -37,49 +87,11 @@ impl MemberOwner {
         match self {
             MemberOwner::List => &["machine", "default-route", "start", "$schema"],
             MemberOwner::Machine => &["pages", "caps"],
-            MemberOwner::Entry => &[
-                "name",
-                "binary",
-                "quantum",
-                "caps",
-                "provides",
-                "route",
-                "reserve",
-                "reserve-caps",
-            ],
-            MemberOwner::Server => &[
-                "name",
-                "binary",
-                "quantum",
-                "caps",
-                "provides",
-                "route",
-                "reserve",
-                "reserve-caps",
-                "kinds",
-            ],
-            MemberOwner::Init => &[
-                "name",
-                "binary",
-                "quantum",
-                "caps",
-                "provides",
-                "route",
-                "reserve",
-                "reserve-caps",
-                "config",
-            ],
+            MemberOwner::Entry => &ENTRY_MEMBERS,
+            MemberOwner::Server => &SERVER_MEMBERS,
+            MemberOwner::Init => &INIT_MEMBERS,
             MemberOwner::Config => &["default-route", "start"],
-            MemberOwner::Rule => &[
-                "service",
-                "any-service",
-                "label",
-                "label_prefix",
-                "label_suffix",
-                "child",
-                "any-child",
-                "parent",
-            ],
+            MemberOwner::Rule => &RULE_MEMBERS,
             MemberOwner::Kind => &["kind", "block", "bytes"],
         }
     }

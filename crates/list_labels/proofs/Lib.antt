@@ -8,3 +8,4 @@ pub mod CandidateLemmas
 pub mod HeldLemmas
 pub mod LongerLemmas
 pub mod RepresentativeLemmas
+mod WordLemmas

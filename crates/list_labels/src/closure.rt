@@ -108,7 +108,8 @@ struct LabelStem<'a> {
     ghost given: { IsGiven label.now },
     ghost begins: { starts_with nat_eq label.now search.range.now.front ≡ true },
     ghost short: { length label.now < 64 },
-    ghost keyed: { key.now ≡ key_of search.requests.list.now search.requests.client search.requests.service.now label.now },
+    ghost keyed: { key.now ≡ key_of search.requests.list.now search.requests.client
+        search.requests.service.now label.now },
 }
 
 // Keeps labels that represent a label with a byte added: a small letter first, and a space last.

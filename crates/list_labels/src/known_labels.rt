@@ -10,7 +10,7 @@ use list_parser::{ListEntry, Rule};
 use std::alloc::{AllocError, Global};
 
 /// Adds the labels that the rules for a client distinguish. Fails if the host is out of memory.
-pub(crate) fn add_known(
+pub fn add_known(
     known: &mut Vec<ClientLabel>,
     wishes: SessionRequests<'_>,
 ) -> Result<(), AllocError> {

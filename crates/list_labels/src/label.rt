@@ -1,5 +1,5 @@
 //! Labels that a client gives, and the labels that the lists above it see.
-ghost use Rattle.std.specs.Prelude.{◌≡◌, ◌+◌, ◌≤◌, length};
+ghost use Rattle.std.specs.Prelude.{◌≡◌, ◌+◌, ◌≤◌, length, Some, encode_utf8_all};
 ghost use Rattle.std.specs.List.{list_all};
 ghost use Rattle.own_model.specs.Routes.{label_with};
 ghost use Rattle.own_model.specs.SessionArgs.{is_quotable};
@@ -33,7 +33,7 @@ impl Model for ClientLabel {
 
 impl ClientLabel {
     ghost use Rattle.std.specs.Prelude.{[], ◌∷◌, ◌++◌, ◌<◌};
-    ghost use Rattle.std.specs.Prelude.{Some, None, if◌then◌else◌};
+    ghost use Rattle.std.specs.Prelude.{None, if◌then◌else◌};
     ghost use Rattle.list_labels.specs.Asked.{is_given};
 
     /// Returns a text as a label, or none if the text is longer than 64 bytes or has a byte that no label has.
@@ -49,7 +49,7 @@ impl ClientLabel {
     }
 
     /// Returns the empty label, which is 0 bytes long.
-    pub(crate) fn empty() -> ClientLabel
+    pub fn empty() -> ClientLabel
         ensures { result ≡ [] }
     {
         ClientLabel {
@@ -94,6 +94,8 @@ fn is_plain(text: &[u8]) -> bool
 
 /// Writes the label; each byte is a character that can be printed.
 impl fmt::Display for ClientLabel {
+    ghost output = { λ label. Some (encode_utf8_all label) };
+
     fn fmt<W: fmt::Write>(&self, f: &mut fmt::Formatter<W>) -> fmt::Result {
         ByteText::of(self.as_bytes()).fmt(f)
     }

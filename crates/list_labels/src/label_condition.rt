@@ -14,8 +14,10 @@ use std::marker::Model;
 /// A condition on a label: the text with which it has to begin, and the text with which it has to end.
 #[derive(Drop)]
 pub struct LabelCondition {
-    pub(crate) front: ClientLabel,
-    pub(crate) end: ClientLabel,
+    /// The text with which the label has to begin, at most 64 bytes.
+    pub front: ClientLabel,
+    /// The text with which the label has to end, at most 64 bytes.
+    pub end: ClientLabel,
 }
 
 impl Model for LabelCondition {
@@ -83,7 +85,7 @@ impl LabelCondition {
 /// Returns the conditions of the rules that match a label by how it begins and ends, after the condition of the range. Fails if the
 /// host is out of memory.
 #[tactic(auto, unfolding(crate::specs::Asked::asked_of))]
-pub(crate) fn asked_of(
+pub fn asked_of(
     alloc: Global,
     wishes: SessionRequests<'_>,
     range: &LabelCondition,

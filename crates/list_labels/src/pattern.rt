@@ -1,7 +1,9 @@
 //! Patterns of labels: one label, or all labels with a beginning and an ending.
-ghost use Rattle.std.specs.Prelude.{◌≡◌};
+ghost use Rattle.std.specs.Prelude.{◌≡◌, Some};
+ghost use Rattle.std.specs.Fmt.{WritesOnOk};
 ghost use Rattle.std.specs.List.{list_any};
 ghost use Rattle.list_labels.specs.LabelSets.{has_label, is_in, set_has};
+ghost use Rattle.list_labels.specs.Words.{between_text, is_one, is_wide, labels_text, pattern_text, shape_text};
 
 use crate::label::ClientLabel;
 use std::fmt::{self, Display};
@@ -31,6 +33,8 @@ impl Pattern {
 
 /// `all`, `exactly "L"`, `beginning "L"`, `ending "L"` or `beginning "L" and ending "L"`.
 impl fmt::Display for Pattern {
+    ghost output = { λ pattern. Some (pattern_text pattern) };
+
     fn fmt<W: fmt::Write>(&self, f: &mut fmt::Formatter<W>) -> fmt::Result {
         match self {
             Pattern::Exactly(one) => write!(f, "exactly \"{one}\""),
@@ -44,7 +48,9 @@ fn show_between<W: fmt::Write>(
     f: &mut fmt::Formatter<W>,
     front: &ClientLabel,
     end: &ClientLabel,
-) -> fmt::Result {
+) -> fmt::Result
+    ensures { WritesOnOk W.write_str_gives f.old result (between_text front.now end.now) f.new }
+{
     match (front.as_bytes().is_empty(), end.as_bytes().is_empty()) {
         (true, true) => f.write_str("all"),
         (false, true) => write!(f, "beginning \"{front}\""),
@@ -56,11 +62,19 @@ fn show_between<W: fmt::Write>(
 /// The labels of a pattern, without those of other patterns.
 #[derive(Drop)]
 pub struct Shape {
-    pub(crate) pattern: Pattern,
-    pub(crate) except: Vec<Pattern>,
+    pattern: Pattern,
+    except: Vec<Pattern>,
 }
 
 impl Shape {
+    /// Returns the labels of a pattern, without those of the exceptions.
+    pub fn new(pattern: Pattern, except: Vec<Pattern>) -> Shape
+        ensures pattern { result.pattern ≡ pattern }
+        ensures except { result.except ≡ except }
+    {
+        Shape { pattern, except }
+    }
+
     /// Returns the pattern that the labels of the shape have.
     pub fn pattern(&self) -> &Pattern
         ensures { result.now ≡ self.now.pattern }
@@ -92,6 +106,8 @@ fn has_any(patterns: &[Pattern], label: &[u8]) -> bool
 
 /// The pattern, and after `but` or `but not` the exceptions.
 impl fmt::Display for Shape {
+    ghost output = { λ shape. Some (shape_text shape) };
+
     fn fmt<W: fmt::Write>(&self, f: &mut fmt::Formatter<W>) -> fmt::Result {
         self.pattern.fmt(f)?;
         let mut before = if self.is_wide() { " but " } else { " but not " };
@@ -105,7 +121,9 @@ impl fmt::Display for Shape {
 
 impl Shape {
     // Whether the pattern is the one of all labels.
-    fn is_wide(&self) -> bool {
+    fn is_wide(&self) -> bool
+        ensures { result ≡ is_wide self.now.pattern }
+    {
         match &self.pattern {
             Pattern::Exactly(_) => false,
             Pattern::Between(front, end) => {
@@ -118,10 +136,17 @@ impl Shape {
 /// A set of labels: those of some shapes.
 #[derive(Drop)]
 pub struct LabelSet {
-    pub(crate) shapes: Vec<Shape>,
+    shapes: Vec<Shape>,
 }
 
 impl LabelSet {
+    /// Returns the set of the labels of these shapes.
+    pub fn new(shapes: Vec<Shape>) -> LabelSet
+        ensures { result.shapes ≡ shapes }
+    {
+        LabelSet { shapes }
+    }
+
     /// Returns the shapes whose labels the set has, in order.
     pub fn shapes(&self) -> &[Shape]
         ensures { result.now ≡ self.now.shapes.items }
@@ -138,7 +163,9 @@ impl LabelSet {
     }
 
     /// Returns whether the set is shown as one label.
-    pub fn is_one(&self) -> bool {
+    pub fn is_one(&self) -> bool
+        ensures { result ≡ is_one self.now }
+    {
         match self.shapes.as_slice() {
             [shape] => match &shape.pattern {
                 Pattern::Exactly(_) => true,
@@ -151,12 +178,17 @@ impl LabelSet {
 
 /// The shapes with `; ` between two of them, and `none` if there is no shape.
 impl fmt::Display for LabelSet {
+    ghost output = { λ labels. Some (labels_text labels) };
+
     fn fmt<W: fmt::Write>(&self, f: &mut fmt::Formatter<W>) -> fmt::Result {
+        if self.shapes.is_empty() {
+            return f.write_str("none");
+        }
         let mut before = "";
         for shape in self.shapes.as_slice() {
             write!(f, "{before}{shape}")?;
             before = "; ";
         }
-        f.write_str(if self.shapes.is_empty() { "none" } else { "" })
+        Ok(())
     }
 }

@@ -1,5 +1,5 @@
 -- The lines of a policy, text by text, and the components of a line, path by path.
-use Rattle.std.proofs.Common.{Option, Some, None, Result, Ok, Err, ◌≡◌, ℕ, ◌<◌, ◌≤◌, ◌+◌, ◌==◌, suc, Bool, true, false, List, [], ◌∷◌, ◌++◌, length, drop, map, get_or, nat_eq, refl, sym, ap, subst, ◌∙◌, arith}
+use Rattle.std.proofs.Common.{Option, Some, None, Result, Ok, Err, ◌≡◌, ℕ, ◌<◌, ◌≤◌, ◌+◌, ◌==◌, suc, Bool, true, false, List, [], ◌∷◌, ◌++◌, length, drop, map, get_or, nat_eq, refl, sym, ap, ◌∙◌, arith}
 use Rattle.std.proofs.lemmas.Bool.{false≢true}
 use Rattle.std.proofs.lemmas.Bool.Decides.{nat_tests}
 use Rattle.std.proofs.lemmas.List.{append-nil, append_assoc, drop_all, drop_more}
@@ -8,6 +8,7 @@ use Rattle.std.specs.List.{starts_with}
 use Rattle.std.specs.Option.{option_map}
 use Rattle.own_model.specs.Listed.{Listed}
 use Rattle.list_reach.specs.Paths.{PathFault, numbers_below}
+use Rattle.list_reach.proofs.NamedLemmas.{numbers_more as below_more}
 use Rattle.list_policy.specs.Components.{FaultAt, fault_at, fault_in, faults_in, flawed, found_in, next_place, numbers_in, read_at}
 use Rattle.list_policy.specs.Cuts.{blanks, text_at}
 use Rattle.list_policy.specs.Reading.{LineSaid, unless_faulty}
@@ -38,20 +39,13 @@ some_found (fault ∷ faults) all line is some = ap (λ fs. unless_faulty fs lin
 
 -- ---- numbers below a bound
 
-next : (n : ℕ) → suc n ≡ n + 1
-next n = omega arith
-
-pub below_next : (passes : ℕ → Bool) (n : ℕ) → numbers_below passes (n + 1) ≡ numbers_below passes n ++ (if passes n then n ∷ [] else [])
-below_next passes n =
-    subst (λ (m : ℕ). numbers_below passes m ≡ numbers_below passes n ++ (if passes n then n ∷ [] else [])) (next n) refl
-
 pub below_kept : (passes : ℕ → Bool) (n : ℕ) (found : List ℕ) → found ≡ numbers_below passes n → passes n ≡ true
     → found ++ n ∷ [] ≡ numbers_below passes (n + 1)
-below_kept passes n found is yes' = rw (below_next passes n) (rw yes' (ap (λ xs. xs ++ n ∷ []) is))
+below_kept passes n found is yes' = rw (below_more passes n) (rw yes' (ap (λ xs. xs ++ n ∷ []) is))
 
 pub below_left : (passes : ℕ → Bool) (n : ℕ) (found : List ℕ) → found ≡ numbers_below passes n → passes n ≡ false
     → found ≡ numbers_below passes (n + 1)
-below_left passes n found is no' = rw (below_next passes n) (rw no' (is ∙ sym (append-nil (numbers_below passes n))))
+below_left passes n found is no' = rw (below_more passes n) (rw no' (is ∙ sym (append-nil (numbers_below passes n))))
 
 -- ---- the first place of a text
 

@@ -4,6 +4,7 @@ pub mod RangeReach
 pub mod Table
 pub mod Additions
 pub mod Rows
+pub mod Csv
 pub mod RouteQuery
 pub mod RuleTexts
 pub mod ScriptDecisions

@@ -4,10 +4,8 @@ ghost use Rattle.std.specs.Option.{option_copied};
 ghost use Rattle.list_labels.specs.Closure.{KeptLabel};
 ghost use Rattle.list_reach.specs.Comparisons.{AreRepresentatives, IsComparison, IsShortest, IsWitness, RoutedLabel, class_routes, is_gained, is_lost, is_moved, is_shorter, is_to, kept_routes, routed_on, routes_of};
 
-use list_labels::{
-    ClientLabel, KeyedLabel, LabelClass, LabelClasses, LabelSet, SessionRequests, described,
-    representatives_of,
-};
+use list_classes::{LabelClass, LabelClasses, described};
+use list_labels::{ClientLabel, KeyedLabel, LabelSet, SessionRequests, representatives_of};
 use list_routes::route;
 use std::alloc::{AllocError, Global};
 use std::marker::Model;

@@ -3,6 +3,7 @@ ghost use Rattle.std.specs.Prelude.{◌≡◌, ◌<◌, [], ◌∷◌, length, m
 ghost use Rattle.std.specs.List.{enumerate_from, flat_map};
 ghost use Rattle.std.specs.Option.{option_copied};
 ghost use Rattle.own_model.specs.Listed.{Listed, services_of};
+ghost use Rattle.list_reach.specs.Csv.{csv_text};
 ghost use Rattle.list_reach.specs.Paths.{is_chosen};
 ghost use Rattle.list_reach.specs.Rows.{AddsRows, provider_rows, row_of, rows, script_rows, service_rows};
 ghost use Rattle.list_reach.specs.Reach.{IsShortest, NoneRouted};
@@ -12,10 +13,11 @@ ghost use Rattle.list_reach.specs.ClientReach.{AreRoutes};
 use crate::client_reach::{ClientReach, Reach};
 use crate::comparison::RouteComparison;
 use crate::component_numbers::{ComponentKind, is_sought};
+use crate::reach_csv::csv_text;
 use crate::reach_filter::ReachFilter;
 use crate::services::service_name;
 use crate::texts::PathText;
-use list_labels::{ClientLabel, LabelSet, SessionRequests};
+use list_labels::{LabelSet, SessionRequests};
 use list_parser::{ListEntry, StartList};
 use std::alloc::{AllocError, Global};
 use std::fmt;
@@ -37,7 +39,7 @@ pub struct ReachCell<'a> {
     /// The set of the labels that are routed to the server.
     pub labels: LabelSet,
     // The labels in words, and their text in a row of a table.
-    words: String,
+    pub(crate) words: String,
     shown: String,
 }
 
@@ -123,9 +125,12 @@ impl<'a> ReachTable<'a> {
         self.cells.as_slice()
     }
 
-    /// Converts the table into comma-separated values, one line for each cell.
-    pub fn into_csv(self) -> ReachCsv<'a> {
-        ReachCsv { table: self }
+    /// Returns the table as comma-separated values: a row of column names, and a row for each cell. Fails if the host is out of
+    /// memory.
+    pub fn to_csv(&self, alloc: Global) -> Result<Vec<u8>, AllocError>
+        ensures { IfOk result (λ text. text.items ≡ csv_text self.now.list.now self.now.cells.items) }
+    {
+        csv_text(alloc, self.list, self.cells.as_slice())
     }
 }
 
@@ -397,67 +402,5 @@ impl ReachTable<'_> {
             }
         }
         most
-    }
-}
-
-/// A table as comma-separated values: a line of column names, and a line for each cell.
-#[derive(Drop)]
-pub struct ReachCsv<'a> {
-    table: ReachTable<'a>,
-}
-
-impl fmt::Display for ReachCsv<'_> {
-    fn fmt<W: fmt::Write>(&self, f: &mut fmt::Formatter<W>) -> fmt::Result {
-        f.write_str("from,service,to,reach,label,labels,witness\n")?;
-        for cell in self.table.cells() {
-            show_line(f, self.table.list, cell)?;
-        }
-        Ok(())
-    }
-}
-
-// A cell.
-fn show_line<W: fmt::Write>(
-    f: &mut fmt::Formatter<W>,
-    list: &StartList,
-    cell: &ReachCell<'_>,
-) -> fmt::Result {
-    let client = PathText::of(list, cell.client);
-    let server = PathText::of(list, cell.server);
-    write!(f, "{client},{},{server},", cell.service)?;
-    match &cell.reach {
-        Reach::Always => f.write_str("always,,all,\n"),
-        Reach::By(label) => show_some(f, label, cell.words.as_str()),
-        Reach::Never => f.write_str("none,,none,\n"),
-    }
-}
-
-// A label twice, with a set of labels between.
-fn show_some<W: fmt::Write>(
-    f: &mut fmt::Formatter<W>,
-    label: &ClientLabel,
-    words: &str,
-) -> fmt::Result {
-    f.write_str("some,")?;
-    show_label(f, label)?;
-    f.write_str(",\"")?;
-    for byte in words.as_bytes() {
-        if *byte == b'"' {
-            f.write_str("\"\"")?;
-        } else {
-            f.write_char(char::from(*byte))?;
-        }
-    }
-    f.write_str("\",")?;
-    show_label(f, label)?;
-    f.write_str("\n")
-}
-
-// A label, in quotes if it has a comma. It has neither a quote nor the end of a line.
-fn show_label<W: fmt::Write>(f: &mut fmt::Formatter<W>, label: &ClientLabel) -> fmt::Result {
-    if label.as_bytes().contains(&b',') {
-        write!(f, "\"{label}\"")
-    } else {
-        write!(f, "{label}")
     }
 }

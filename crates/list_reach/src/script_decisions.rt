@@ -79,7 +79,8 @@ fn add_script<'a>(
     requires entry { slice_get list.now.entries client ≡ Some entry.now }
     requires decided { All (IsDecided list.now) found.old.items }
     ensures { OnOk result (AddsDecisions list.now found.old.items
-        (entry_askings (services_of list.now.entries) (is_chosen chosen.now.from.items) (client, entry.now)) found.new.items) }
+        (entry_askings (services_of list.now.entries) (is_chosen chosen.now.from.items)
+        (client, entry.now)) found.new.items) }
 {
     if chosen.has_script(client) && is_sought(entry, ComponentKind::Script) {
         add_services(alloc, found, list, client, entry)

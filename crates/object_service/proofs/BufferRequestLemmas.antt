@@ -18,7 +18,7 @@ use Rattle.own_model.specs.ObjectSession.HoldingRequest.{OfObjects, OfBuffer}
 use Rattle.own_model.specs.ObjectText as model
 use Rattle.own_model.specs.ObjectText.{object_reply}
 use Rattle.own_model.specs.ObjectText.ObjectError.{Shared}
-use Rattle.own_model.specs.ObjectText.ObjectReply.{Refused}
+use Rattle.own_model.specs.ObjectText.ObjectReply.{Done, Lent, Refused}
 use Rattle.region_map.specs.Regions.{Regions}
 use Rattle.dataspace_core.specs.Store.{Store}
 use Rattle.server_frame.specs.SessionBuffer.{IsEffect, bytes_lent}
@@ -35,7 +35,7 @@ use Rattle.session_nodes.specs.SessionHeaps.{stock_of, StaySoundHeaps, KeepsHeap
 use Rattle.session_nodes.specs.SessionBuffer.{FreesBuffer, HasBuffer, LendsBuffer, buffer_key}
 use Rattle.session_nodes.specs.declared.session_buffer.SessionBuffer.{SessionBuffer}
 use Rattle.session_nodes.proofs.SourceLemmas.{buffer_kept, buffer_same}
-use Rattle.object_service.specs.Session.{objects_in, served_in, session_served, gone_reply, lent_reply, Answers, HasObjects, IsAnswered, IsReady, Leaves, LeavesSession, Serves}
+use Rattle.object_service.specs.Session.{objects_in, served_in, session_served, buffer_reply, Answers, HasObjects, IsAnswered, IsReady, Leaves, LeavesSession, Serves}
 use Rattle.object_service.specs.declared.session.ObjectSession.{ObjectSession}
 
 -- what is read of a text is its request
@@ -98,7 +98,7 @@ module _ {session : ObjectSession} {store : Store} {regions : Regions} (ready : 
   -- a buffer is lent, or refused
   pub lend_answers : (n : ℕ) (r : Result DsId FileError) (buffer : Option SessionBuffer) {new : Store} {after : Regions} → option_map model_error (result_err r) ≡ make_refusal n lends has.account →
       IfOk r (λ space. LendsBuffer n space buffer has (stock_of session.nodes.heaps new after) (holding_of session.nodes.heaps.contents new after) new) → OnErr r (buffer ≡ session.buffer) → OnErr r (new ≡ store) → OnErr r (after ≡ regions) →
-      StaySoundHeaps session.nodes.heaps session.nodes.heaps store new regions after → Answers kinds (session_served kinds (Some (OfBuffer (Make n))) session store regions) (lent_reply r) session (record session { buffer = buffer }) new after
+      StaySoundHeaps session.nodes.heaps session.nodes.heaps store new regions after → Answers kinds (session_served kinds (Some (OfBuffer (Make n))) session store regions) (buffer_reply Lent r) session (record session { buffer = buffer }) new after
   lend_answers n (Ok space) buffer {new} {after} refusal it same_buffer same_store same_map stays =
       let is = ap (λ o. lent_beside (objects_in kinds session has) (unless_refused o lends no_files has.account (made n no_files has.account))) refusal in
       record {
@@ -122,7 +122,7 @@ module _ {session : ObjectSession} {store : Store} {regions : Regions} (ready : 
   -- it is freed, or there is none
   pub take_back_answers : (r : Result DsId FileError) (buffer : Option SessionBuffer) {new : Store} {after : Regions} → option_map model_error (result_err r) ≡ cond (is_some session.buffer) None (Some NoBuffer) →
       IfOk r (λ space. FreesBuffer space session.buffer buffer has (stock_of session.nodes.heaps new after) (holding_of session.nodes.heaps.contents new after) store) → OnErr r (buffer ≡ session.buffer) → OnErr r (new ≡ store) → OnErr r (after ≡ regions) →
-      StaySoundHeaps session.nodes.heaps session.nodes.heaps store new regions after → Answers kinds (session_served kinds (Some (OfBuffer GiveBack)) session store regions) (gone_reply r) session (record session { buffer = buffer }) new after
+      StaySoundHeaps session.nodes.heaps session.nodes.heaps store new regions after → Answers kinds (session_served kinds (Some (OfBuffer GiveBack)) session store regions) (buffer_reply Done r) session (record session { buffer = buffer }) new after
   take_back_answers (Ok space) buffer {new} {after} refusal it same_buffer same_store same_map stays =
       let is = ap (λ b. lent_beside (objects_in kinds session has) (given_back (bytes_lent store (buffer_key b)) no_files has.account)) (sym it.was_is) in
       record {

@@ -19,6 +19,7 @@ use Rattle.session_nodes.specs.SoundHeaps.{Stock}
 use Rattle.session_nodes.specs.declared.node_list.NodeList.{NodeList}
 use Rattle.session_nodes.proofs.KeptLemmas.{blocks_are, stays_then}
 use Rattle.session_nodes.proofs.LinkLemmas.{listed_append, listed_front, map_kept, once_apart, once_later, unlisted}
+use Rattle.session_nodes.proofs.SearchLemmas.{before_kept, behind_kept}
 use Rattle.object_service.specs.Calls.{PutsWords, TakesContent}
 use Rattle.object_service.specs.Kinds.{kind_at}
 use Rattle.object_service.specs.Objects.{object_at, objects_of, number_at, numbers_of, unit_at, units_at, word_at, AreObjectNodes, IsObject}
@@ -208,19 +209,8 @@ module _ (list later : NodeList) (was taken mid new : Stock) (name : List ℕ) (
     abbrev g : ℕ → DeclaredObject
     g = object_at kinds new.nodes
 
-    other_same : (b : ℕ) → is_listed (found.before ++ found.behind) b ≡ true → g b ≡ f b
-    other_same b t =
-        let l = listed_append found.before (address ∷ found.behind) b in
-        let w = listed_append found.before found.behind b in
-        let fresh = once_apart found.before found.behind address (once_later 0 (found.before ++ address ∷ found.behind) found.stand.line.once) in
-        let listed : is_listed (nodes_in list was) b ≡ true = ap (λ xs. is_listed xs b) around ∙ grind (arith, nat_tests) in
-        same_object was.nodes new.nodes taken.contents new.contents b (other_stays b listed (unlisted (found.before ++ found.behind) address b fresh t)) kinds
-
-    same_before : map g found.before ≡ map f found.before
-    same_before = map_kept f g found.before (λ b t. other_same b (let w = listed_append found.before found.behind b in grind (arith, nat_tests)))
-
-    same_behind : map g found.behind ≡ map f found.behind
-    same_behind = map_kept f g found.behind (λ b t. other_same b (let w = listed_append found.before found.behind b in grind (arith, nat_tests)))
+    others_same : (b : ℕ) → is_listed (nodes_in list was) b ≡ true → b ≢ address → g b ≡ f b
+    others_same b t other = same_object was.nodes new.nodes taken.contents new.contents b (other_stays b t other) kinds
 
     changed_object : g address ≡ with_units units (f address)
     changed_object =
@@ -238,11 +228,13 @@ module _ (list later : NodeList) (was taken mid new : Stock) (name : List ℕ) (
     pub objects_changed : objects_of kinds later.first new.nodes
         ≡ record (objects_of kinds list.first was.nodes) { objects = with_first (is_named name) (with_units units) (objects_of kinds list.first was.nodes).objects }
     objects_changed =
+        let before = before_kept list.first list.last was.nodes was.contents name previous address node found f g others_same in
+        let behind = behind_kept list.first list.last was.nodes was.contents name previous address node found f g others_same in
         let value = ap (map g) (listed_changed ∙ around) ∙ append_map g found.before (address ∷ found.behind) in
         let parts : map g found.before ++ g address ∷ map g found.behind ≡ map f found.before ++ with_units units (f address) ∷ map f found.behind =
-        ap (λ (xs : List DeclaredObject). xs ++ g address ∷ map g found.behind) same_before
+        ap (λ (xs : List DeclaredObject). xs ++ g address ∷ map g found.behind) before
         ∙ ap (λ (x : DeclaredObject). map f found.before ++ x ∷ map g found.behind) changed_object
-        ∙ ap (λ (xs : List DeclaredObject). map f found.before ++ with_units units (f address) ∷ xs) same_behind in
+        ∙ ap (λ (xs : List DeclaredObject). map f found.before ++ with_units units (f address) ∷ xs) behind in
         let old = with_behind (is_named name) (with_units units) (map f found.before) (f address) (map f found.behind)
         (none_before kinds was.nodes name list.first list.last was.contents previous address node found) (is_of_name kinds was.nodes name list.first list.last was.contents previous address node found) in
         let all = value ∙ parts ∙ sym old ∙ sym (ap (with_first (is_named name) (with_units units)) (objects_around kinds was.nodes name list.first list.last was.contents previous address node found)) in

@@ -1,16 +1,14 @@
 -- An object that is found by its name.
-use Rattle.std.proofs.Common.{◌≡◌, ℕ, zero, suc, ◌≤◌, true, false, List, [], ◌∷◌, ◌++◌, length, map, Some, None, refl, sym, ap, subst, ◌∙◌, arith}
+use Rattle.std.proofs.Common.{◌≡◌, ℕ, true, false, List, [], ◌∷◌, ◌++◌, map, Some, None, refl, sym, ap, subst, ◌∙◌}
 use Rattle.std.proofs.lemmas.Bool.{false_from_ne_true}
-use Rattle.std.proofs.lemmas.Bool.Decides.{nat_tests}
-use Rattle.std.proofs.lemmas.Option.{none-some, same_Some}
+use Rattle.std.proofs.lemmas.Option.{none-some}
 use Rattle.std.proofs.lemmas.Slice.Eq.{bytes_eq-Decides}
-use Rattle.std.specs.Prelude.{find, slice_get, Option, IfNone}
+use Rattle.std.specs.Prelude.{find, Option, IfNone}
 use Rattle.std.specs.Str.{bytes_eq}
 use Rattle.own_model.specs.NatMap.{NatMap}
 use Rattle.own_model.specs.ObjectKinds.{ObjectKind}
 use Rattle.own_model.specs.ObjectService.{is_named, object_named}
 use Rattle.own_model.specs.OwnHeap.{OwnHeap}
-use Rattle.own_model.specs.Text.{is_name}
 use Rattle.sliced_heap.specs.Chain.{is_listed}
 use Rattle.session_nodes.specs.Node.{StoredNode}
 use Rattle.session_nodes.specs.NodeList.{IsFound, NoneHas}
@@ -20,16 +18,6 @@ use Rattle.session_nodes.proofs.LinkLemmas.{listed_first, listed_later}
 use Rattle.session_nodes.proofs.SearchLemmas.{in_blocks}
 use Rattle.object_service.specs.Objects.{object_at, objects_of}
 use Rattle.object_service.proofs.ListLemmas.{append_map, find_behind}
-
--- a name that is one is short
-pub name_fits : (name : List ℕ) → is_name name ≡ true → length name ≤ 32
-name_fits name is = grind (arith, nat_tests)
-
--- what is at a place is listed
-pub listed_at : (blocks : List ℕ) (place a : ℕ) → slice_get blocks place ≡ Some a → is_listed blocks a ≡ true
-listed_at [] place a is = absurd (none-some a is)
-listed_at (b ∷ blocks) zero a is = subst (λ x. is_listed (b ∷ blocks) x ≡ true) (same_Some b a is) (listed_first b blocks)
-listed_at (b ∷ blocks) (suc place) a is = listed_later b a blocks (listed_at blocks place a is)
 
 -- a node that is found is listed, and found by its own name
 module _ (first last : ℕ) (nodes : OwnHeap) (contents : NatMap (List ℕ)) (name : List ℕ) (previous address : ℕ) (node : StoredNode) (found : IsFound first last nodes contents name previous address node) where

@@ -7,6 +7,6 @@ pub mod KeptLemmas
 pub mod ChangeLemmas
 pub mod TakenLemmas
 pub mod ServeLemmas
-pub mod ReadyLemmas
+pub mod ThereLemmas
 pub mod BufferRequestLemmas
 pub mod NameLemmas

@@ -2,7 +2,7 @@
 use Rattle.std.proofs.Common.{◌≡◌, ◌≢◌, ℕ, ◌+◌, ◌^◌, ◌≤◌, ◌==◌, cond, Bool, true, false, List, Option, Some, None, is_some, refl, sym, ap, subst, ◌∙◌, arith}
 use Rattle.std.proofs.lemmas.Bool.Decides.{nat_tests}
 use Rattle.std.proofs.lemmas.Option.{none-some, same_Some}
-use Rattle.std.specs.Prelude.{slice_get, SomeIff, Result, Ok, Err}
+use Rattle.std.specs.Prelude.{slice_get, Result, Err}
 use Rattle.std.specs.Option.{option_map}
 use Rattle.std.specs.Result.{result_ok}
 use Rattle.trade_base.specs.Page.{is_valid_size}
@@ -199,10 +199,6 @@ named_served kinds place reply session later old new regions kept is same reply_
     (ap (λ (s : ObjectSession). objects_in kinds s (stock_of s.nodes.heaps old regions)) is)
     kept
     (record { label = ap (λ (s : ObjectSession). s.label) is; buffer = ap (λ (s : ObjectSession). s.buffer) is }))
-
--- a sum or a product that is returned is it
-pub sum_is : {E : Type 0} (o : Option ℕ) (r : Result ℕ E) (P : Type 0) (n sum : ℕ) → SomeIff o P sum → o ≡ result_ok r → r ≡ Ok n → n ≡ sum
-sum_is o r P n sum iff ok is = let told = subst (λ (x : Option ℕ). SomeIff x P sum) (ok ∙ ap result_ok is) iff in told.1
 
 -- what was none before it was an error
 pub none_before : {T E : Type 0} (o : Option T) (r : Result T E) (e : E) → o ≡ result_ok r → r ≡ Err e → o ≡ None

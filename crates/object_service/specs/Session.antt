@@ -7,7 +7,7 @@ use Rattle.own_model.specs.ObjectKinds.{ObjectKind}
 use Rattle.own_model.specs.ObjectService.{DeclaredObject, Objects, ObjectServed, request_served, told, unless_refused, block_refusal, made_by, contents, contents_refusal, with_units, changed}
 use Rattle.own_model.specs.ObjectSession.{HoldingRequest, HoldingServed, holding_request_served}
 use Rattle.own_model.specs.ObjectText as model
-use Rattle.own_model.specs.ObjectText.ObjectReply.{Done, Counted, Named, Lent, Refused}
+use Rattle.own_model.specs.ObjectText.ObjectReply.{Done, Counted, Named, Refused}
 use Rattle.own_model.specs.Services.ServiceState.{Holding}
 use Rattle.own_model.specs.Session.{Labelled}
 use Rattle.trade_base.specs.declared.id.DsId.{DsId}
@@ -144,12 +144,7 @@ counted_reply (Err e) = Refused (model_object_error e)
 abbrev pub named_reply : DeclaredObject → model.ObjectReply
 named_reply object = Named object.kind.name object.name object.units
 
--- a buffer is created, with its dataspace
-abbrev pub lent_reply : Result DsId FileError → model.ObjectReply
-lent_reply (Ok _) = Lent
-lent_reply (Err e) = Refused (model_object_error (Shared e))
-
--- the buffer is freed
-abbrev pub gone_reply : Result DsId FileError → model.ObjectReply
-gone_reply (Ok _) = Done
-gone_reply (Err e) = Refused (model_object_error (Shared e))
+-- a buffer is created or freed, with its dataspace: the reply, if it is done
+abbrev pub buffer_reply : model.ObjectReply → Result DsId FileError → model.ObjectReply
+buffer_reply reply (Ok _) = reply
+buffer_reply _ (Err e) = Refused (model_object_error (Shared e))

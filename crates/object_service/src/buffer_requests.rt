@@ -3,10 +3,11 @@ ghost use Rattle.std.specs.Prelude.{◌≡◌, List, Some};
 ghost use Rattle.own_model.specs.BufferService.BufferRequest.{Make, GiveBack};
 ghost use Rattle.own_model.specs.ObjectKinds as model;
 ghost use Rattle.own_model.specs.ObjectSession.HoldingRequest.{OfBuffer};
+ghost use Rattle.own_model.specs.ObjectText.ObjectReply.{Done, Lent};
 ghost use Rattle.server_frame.specs.SessionBuffer.{IsEffect};
 ghost use Rattle.session_nodes.specs.SessionHeaps.{StaySoundHeaps};
 ghost use Rattle.session_nodes.specs.SessionBuffer.{buffer_key, lent_effect, gone_effect};
-ghost use Rattle.object_service.specs.Session.{Answers, IsReady, session_served, gone_reply, lent_reply};
+ghost use Rattle.object_service.specs.Session.{Answers, IsReady, buffer_reply, session_served};
 
 use crate::session::ObjectSession;
 use dataspace_core::Memory;
@@ -28,7 +29,7 @@ impl ObjectSession {
         requires ready { IsReady self.old memory.old map.old }
         ensures answers { (kinds : List model.ObjectKind) → Answers kinds
             (session_served kinds (Some (OfBuffer (Make bytes))) self.old memory.old map.old)
-            (lent_reply result) self.old self.new memory.new map.new }
+            (buffer_reply Lent result) self.old self.new memory.new map.new }
         ensures effect { IsEffect (lent_effect result)
             (buffer_key self.old.buffer) (buffer_key self.new.buffer) }
         ensures stays { StaySoundHeaps self.old.nodes.heaps self.new.nodes.heaps
@@ -46,7 +47,7 @@ impl ObjectSession {
         requires ready { IsReady self.old memory.old map.old }
         ensures answers { (kinds : List model.ObjectKind) → Answers kinds
             (session_served kinds (Some (OfBuffer GiveBack)) self.old memory.old map.old)
-            (gone_reply result) self.old self.new memory.new map.new }
+            (buffer_reply Done result) self.old self.new memory.new map.new }
         ensures effect { IsEffect (gone_effect result)
             (buffer_key self.old.buffer) (buffer_key self.new.buffer) }
         ensures stays { StaySoundHeaps self.old.nodes.heaps self.new.nodes.heaps

@@ -5,12 +5,13 @@ ghost use Rattle.own_model.specs.ObjectSession.{holding_request};
 ghost use Rattle.own_model.specs.ObjectText as model;
 ghost use Rattle.own_model.specs.ObjectText.{object_reply};
 ghost use Rattle.own_model.specs.ObjectText.{ObjectReply as Answered};
+ghost use Rattle.own_model.specs.ObjectText.ObjectReply.{Done, Lent};
 ghost use Rattle.own_model.specs.ObjectText.ObjectRequest.{Name};
 ghost use Rattle.dataspace_core.specs.Store.{account_in, IsOpenIn};
 ghost use Rattle.sliced_heap.specs.Heap.{payer_of};
 ghost use Rattle.session_nodes.specs.SessionBuffer.{lent_effect, gone_effect};
 ghost use Rattle.session_nodes.specs.SessionHeaps.{stock_of, AreSoundHeaps};
-ghost use Rattle.object_service.specs.Session.{HasObjects, IsReady, IsAnswered, Serves, done_reply, counted_reply, lent_reply, gone_reply, served_in, session_served};
+ghost use Rattle.object_service.specs.Session.{HasObjects, IsReady, IsAnswered, Serves, buffer_reply, counted_reply, done_reply, served_in, session_served};
 
 use crate::read_requests::name_of;
 use crate::session::ObjectSession;
@@ -235,7 +236,7 @@ fn reply_count(outcome: Result<u64, ObjectError>, reply: &mut Reply)
 /// Writes the reply of a created buffer, or the error, and returns the effect on the buffer. The selector is appended later.
 fn reply_lent(outcome: Result<DsId, FileError>, reply: &mut Reply) -> Effect
     ensures told { reply.new ≡ record reply.old {
-      text = object_reply (lent_reply outcome);
+      text = object_reply (buffer_reply Lent outcome);
     } }
     ensures effect { result ≡ lent_effect outcome }
 {
@@ -254,7 +255,7 @@ fn reply_lent(outcome: Result<DsId, FileError>, reply: &mut Reply) -> Effect
 /// Writes the reply of a freed buffer, or the error, and returns the effect on the buffer.
 fn reply_gone(outcome: Result<DsId, FileError>, reply: &mut Reply) -> Effect
     ensures told { reply.new ≡ record reply.old {
-      text = object_reply (gone_reply outcome);
+      text = object_reply (buffer_reply Done outcome);
     } }
     ensures effect { result ≡ gone_effect outcome }
 {

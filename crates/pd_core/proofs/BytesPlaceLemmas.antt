@@ -1,9 +1,8 @@
 -- A script's peeks and pokes where a range is found: in a region's dataspace, in a sliced block's payload or in a payload of its heap.
-use Rattle.std.proofs.Common.{◌≡◌, ◌≢◌, ℕ, ◌+◌, ◌-◌, ◌≤◌, true, List, [], length, drop, Option, Some, None, is_some, subst, refl, sym, ap, ◌∙◌, slice_range, arith, inl, inr}
+use Rattle.std.proofs.Common.{◌≡◌, ◌≢◌, ℕ, ◌+◌, ◌-◌, ◌≤◌, true, List, [], length, drop, Option, Some, None, is_some, subst, refl, sym, ap, ◌∙◌, slice_range, inl, inr}
 use Rattle.std.proofs.lemmas.Option.{none-some}
 use Rattle.std.specs.Option.{option_map, option_and_then, unwrap_or}
-use Rattle.std.specs.FinMap.{get, insert, len}
-use Rattle.trade_base.specs.Bytes.{with_bytes}
+use Rattle.std.specs.FinMap.{get, insert}
 use Rattle.trade_base.specs.declared.id.DsId.{DsId}
 use Rattle.own_model.specs.Call.Call.{Peek, Poke}
 use Rattle.own_model.specs.OwnState.{Object, named_bytes, with_part}
@@ -14,7 +13,6 @@ use Rattle.own_model.specs.Region.{Region}
 use Rattle.own_model.specs.Reply.Reply.{Bytes, Done}
 use Rattle.own_model.specs.Sliced.{sliced_header as header, block_found}
 use Rattle.own_model.proofs.StepBytesLemmas.{found_payload, peeks_payload, pokes_payload}
-use Rattle.own_model.proofs.Totals.{len-insert_at}
 use Rattle.cap_space.specs.declared.cap.Cap.TheVariants.{Dataspace}
 use Rattle.dataspace_core.specs.Store.{Store, Part, part, account_of, Exists, space_at, bytes_of, part_with_bytes, PartBecomes, IsOpenIn}
 use Rattle.dataspace_core.specs.Share.{Share, share_in}
@@ -33,7 +31,7 @@ use Rattle.pd_core.specs.declared.script.Script.{Script}
 use Rattle.sliced_heap.proofs.BesideLemmas.{map_of, sliced_no_block}
 use Rattle.pd_core.proofs.BytesLemmas.{renamed_is, selector, names, fits, peek_is, poke_is, put_over, poke_settles}
 use Rattle.pd_core.proofs.LentPokeLemmas.{lent_poked}
-use Rattle.pd_core.proofs.HeapCallLemmas.{own_in, parts, finishes_parts}
+use Rattle.pd_core.proofs.HeapCallLemmas.{own_in, parts, finishes_parts, put_spare}
 use Rattle.heap_core.proofs.StayLemmas.{heap_stays}
 use Rattle.pd_core.proofs.HeapPlaceLemmas.{block_fits, block_peeked, block_poked_ends}
 use Rattle.pd_core.proofs.ScriptNameLemmas.{Names, IsOwn, own_or_lent}
@@ -205,13 +203,7 @@ module _ (store : Store) (script : Script) (sound : IsSoundScript store script) 
           rest = refl;
           ram_limit = ap (λ q. (account_of q).ram_limit) becomes.own;
           caps_limit = ap (λ q. (account_of q).caps_limit) becomes.own;
-          spare = omega (
-            arith,
-            sound.own.paid.spare,
-            ap (λ (q : Part). len q.spaces) becomes.own,
-            ap (λ q. (account_of q).caps_used) becomes.own,
-            len-insert_at p.spaces ds (with_bytes (bytes_of p ds) offset bytes) is.holds.bytes (sliced_has (length bytes) is),
-          );
+          spare = put_spare script.account.0 ds offset _ bytes is.holds.bytes (sliced_has (length bytes) is) becomes sound.own.paid.spare;
           others = becomes.others;
           root = becomes.root;
           parents = becomes.parents;

@@ -2,6 +2,7 @@
 -- the accounts, and that the core stays sound.
 use Rattle.std.proofs.Common.{◌≡◌, ◌≢◌, ℕ, zero, suc, ◌≤◌, false, true, Some, refl, sym, ap, subst, ◌∙◌, inl, inr, None}
 use Rattle.std.proofs.lemmas.Bool.{cases_eq}
+use Rattle.std.proofs.lemmas.Option.{none-some}
 use Rattle.std.specs.FinMap.{get}
 use Rattle.std.specs.Option.{option_map}
 use Rattle.std.specs.Prelude.{◌⊎◌, Option, IfSome}
@@ -61,6 +62,20 @@ pub record Follows (store : Store) (before : Role) (store' : Store) (after : Rol
   pub inits : (account : ℕ) → IsInitOf before account → IsInitOf after account
   pub reserve : reserve_in after ≡ reserve_in before
   pub reserved : (account : ℕ) → reserve_in before ≡ Some account → Rests account store store'
+
+-- a role without a reserve follows itself where it is sound and has the own state that it had
+pub follows_itself : {store store' : Store} (role : Role) → reserve_in role ≡ None → IsSoundRole store' role → ((S S' : Sessions) → AgreeOn (caps_in role) S S' → own_in S' store' role ≡ own_in S store role) → Follows store role store' role
+follows_itself role none sound own = record {
+  sound = sound;
+  own = own;
+  caps = refl;
+  places = refl;
+  pays = λ a pays. pays;
+  paid = λ a pays. pays;
+  inits = λ a is. is;
+  reserve = refl;
+  reserved = λ a is. absurd (none-some a (sym none ∙ is));
+}
 
 -- each role except one follows the one at its place
 abbrev pub OthersFollow : ℕ → Store → Roles → Store → Roles → Type 0

@@ -22,7 +22,7 @@ use Rattle.pd_core.specs.Own.{no_sessions, no_lent, own_of}
 use Rattle.pd_core.specs.Sound.{WritesLent}
 use Rattle.pd_core.specs.declared.component.Role.{Role}
 use Rattle.pd_core.specs.declared.component.Role.TheVariants.{Script as AScript, Server as AServer, Init as AnInit, Gone as AGone}
-use Rattle.pd_core.proofs.CoreChangeLemmas.{InitsRest, ReserveRests, Follows, OthersFollow}
+use Rattle.pd_core.proofs.CoreChangeLemmas.{InitsRest, ReserveRests, Follows, OthersFollow, follows_itself}
 use Rattle.pd_core.proofs.CoreHeldLemmas.{IsLender, lender, same_place, no_place, no_reserve_place, no_reserve_session, same_session, session_no_init, pays_alone, script_inits}
 use Rattle.pd_core.proofs.LentWriteLemmas.{same_books, room_by_books}
 use Rattle.pd_core.proofs.CoreRoleLemmas.{Leaves, role_left, rows_left}
@@ -75,17 +75,9 @@ module _ (store store' : Store) (role : Role) (id : ℕ) (row : Row Labelled) wh
 server_follows : (store store' : Store) (id : ℕ) (row : Row Labelled) (role : Role) → get (rows_in store role) id ≡ Some row → IsSoundRole store role → Works store' role →
     ((account : ℕ) → Pays role account → part account store' ≡ part account store) → caps_limits_in store' ≡ caps_limits_in store → Follows store role store' role
 server_follows store store' id row (AScript script) there sound works same caps = absurd (none-some row (sym (get-empty id) ∙ there))
-server_follows store store' id row (AServer account host) there sound works same caps = record {
-  sound = record { is_open = ap (λ (p : Part). is_some p.account) (same account.0 refl) ∙ sound.is_open; works = works; places = omega (arith, sound.places, caps) };
-  own = λ S S' _. ap (λ p. own_of no_lent no_sessions p empty empty no_heap empty) (same account.0 refl);
-  caps = refl;
-  places = refl;
-  pays = λ a pays. pays;
-  paid = λ a pays. pays;
-  inits = λ a is. is;
-  reserve = refl;
-  reserved = λ a is. absurd (none-some a is);
-}
+server_follows store store' id row (AServer account host) there sound works same caps =
+    follows_itself (AServer account host) refl (record { is_open = ap (λ (p : Part). is_some p.account) (same account.0 refl) ∙ sound.is_open; works = works; places = omega (arith, sound.places, caps) })
+    (λ S S' _. ap (λ p. own_of no_lent no_sessions p empty empty no_heap empty) (same account.0 refl))
 server_follows store store' id row (AnInit key) there sound works same caps = absurd (none-some row (sym (get-empty id) ∙ there))
 server_follows store store' id row AGone there sound works same caps = absurd (none-some row (sym (get-empty id) ∙ there))
 

@@ -31,7 +31,7 @@ use Rattle.pd_core.specs.Sound.{session_at, buffer_at}
 use Rattle.pd_core.specs.declared.component.Component.{Component}
 use Rattle.pd_core.specs.declared.component.Role.{Role}
 use Rattle.pd_core.specs.declared.component.Role.TheVariants.{Script as AScript, Server as AServer, Init as AnInit, Gone as AGone}
-use Rattle.pd_core.proofs.CoreChangeLemmas.{ChangesCore, Follows, OthersFollow, core_after, homes_after}
+use Rattle.pd_core.proofs.CoreChangeLemmas.{ChangesCore, Follows, OthersFollow, follows_itself, core_after, homes_after}
 use Rattle.pd_core.proofs.ComponentLemmas.{a_script, pays_is, pays_script}
 use Rattle.dataspace_core.proofs.RoomLaws.{room_after_exit}
 use Rattle.pd_core.proofs.CoreHeldLemmas.{names_none, same_place, not_place, no_reserve_place, IsOf, no_session_of, no_place_of, no_reserve_of, init_pays, session_no_init, reserve_no_init, reserve_no_head, place_outer, pays_alone, script_inits, held_by, client_pays}
@@ -77,17 +77,7 @@ offer_of_script role is = ap offer_in (a_script role is).1
 init_role_follows : {store store' : Store} (role : Role) (account : ℕ) → IsInitOf role account → IsOpenIn store' account → Follows store role store' role
 init_role_follows (AScript script) account is opens = absurd is
 init_role_follows (AServer key host) account is opens = absurd is
-init_role_follows {store' = store'} (AnInit key) account is opens = record {
-  sound = subst (IsOpenIn store') (sym is) opens;
-  own = λ S S' _. refl;
-  caps = refl;
-  places = refl;
-  pays = λ a pays. pays;
-  paid = λ a pays. pays;
-  inits = λ a its. its;
-  reserve = refl;
-  reserved = λ a has. absurd (none-some a has);
-}
+init_role_follows {store' = store'} (AnInit key) account is opens = follows_itself (AnInit key) refl (subst (IsOpenIn store') (sym is) opens) (λ S S' _. refl)
 init_role_follows AGone account is opens = absurd is
 
 -- ---- a script without a session

@@ -1,7 +1,8 @@
 -- What a call of its heap leaves of a script: its sliced blocks, and what its selectors name.
-use Rattle.std.proofs.Common.{◌≡◌, ◌≢◌, ℕ, ◌+◌, ◌≤◌, [], Some, IsSome, sym, ap, subst, ◌∙◌, arith}
+use Rattle.std.proofs.Common.{◌≡◌, ◌≢◌, ℕ, ◌+◌, ◌≤◌, List, [], Some, IsSome, sym, ap, subst, ◌∙◌, arith}
 use Rattle.std.proofs.lemmas.Option.{same_Some}
 use Rattle.std.specs.FinMap.{get, len}
+use Rattle.trade_base.specs.Bytes.{with_bytes}
 use Rattle.trade_base.specs.declared.id.DsId.{DsId}
 use Rattle.own_model.specs.Call.{Call}
 use Rattle.own_model.specs.NatMap.{NatMap, total}
@@ -9,10 +10,11 @@ use Rattle.own_model.specs.OwnState.{OwnState}
 use Rattle.own_model.specs.OwnStep.{script_step}
 use Rattle.own_model.specs.Region.{Region}
 use Rattle.own_model.specs.Reply.{Reply}
+use Rattle.own_model.proofs.Totals.{len-insert_at}
 use Rattle.cap_space.specs.Space.{Space}
 use Rattle.cap_space.specs.declared.cap.Cap.TheVariants.{Dataspace}
 use Rattle.region_map.specs.Regions.{Regions}
-use Rattle.dataspace_core.specs.Store.{Store, part, account_of, IsOpenIn}
+use Rattle.dataspace_core.specs.Store.{Store, Part, part, account_of, bytes_of, part_with_bytes, IsOpenIn, PartBecomes}
 use Rattle.dataspace_core.specs.Share.{Share, share_in, KeepsShares}
 use Rattle.sliced_heap.specs.Heap.{share_at, blocks_at}
 use Rattle.sliced_heap.specs.Theorems.{HeapStays}
@@ -61,6 +63,17 @@ pub record Alone (account : ℕ) (store : Store) (space : Space) (regions : Regi
 pub parts_with_shares : {account : ℕ} {store store' : Store} {heap after : NatMap Region} {tags numbers : NatMap ℕ} → KeepsShares account store store' heap tags after numbers → OthersStay account store store'
 unfolding share_in
 parts_with_shares keeps other apart = ap (λ (s : Share). s.part) (keeps.shares other apart)
+
+-- and parts that stay make shares that stay where the regions do
+pub shares_with_parts : {account : ℕ} {store store' : Store} {after : Part} (heap : NatMap Region) (tags : NatMap ℕ) → PartBecomes account after store store' → KeepsShares account store store' heap tags heap tags
+shares_with_parts heap tags becomes = record { shares = λ other apart. ap (λ q. share_in q heap tags) (becomes.others other apart); root = becomes.root; parents = becomes.parents; room = becomes.room }
+
+-- bytes that are put over those of a dataspace take up no place of the account
+pub put_spare : (account ds offset rpcs : ℕ) (put bytes : List ℕ) {store store' : Store} → get (part account store).spaces ds ≡ Some bytes → PartBecomes account (part_with_bytes (part account store) ds offset put) store store' →
+    len (part account store).spaces + rpcs ≤ (account_of (part account store)).caps_used → len (part account store').spaces + rpcs ≤ (account_of (part account store')).caps_used
+put_spare account ds offset rpcs put bytes {store} there becomes spare =
+    let many = len-insert_at (part account store).spaces ds (with_bytes (bytes_of (part account store) ds) offset put) bytes there in
+    omega (arith, spare, ap (λ (q : Part). len q.spaces) becomes.own, ap (λ q. (account_of q).caps_used) becomes.own, many)
 
 -- and does that to the own state which the model's call does
 pub record Ends (account : ℕ) (call : Call) (reply : Reply) (store : Store) (space : Space) (regions : Regions) (heap : Heap) (store' : Store) (after : Regions) (heap' : Heap) : Type 0 where

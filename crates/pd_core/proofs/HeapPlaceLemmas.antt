@@ -4,9 +4,8 @@ use Rattle.std.proofs.lemmas.Bool.{cases_eq}
 use Rattle.std.proofs.lemmas.Option.{same_Some}
 use Rattle.std.specs.Prelude.{None}
 use Rattle.std.specs.Option.{option_map, option_and_then}
-use Rattle.std.specs.FinMap.{get, len}
+use Rattle.std.specs.FinMap.{get}
 use Rattle.own_model.proofs.NatMapLemmas.{mapped_from}
-use Rattle.trade_base.specs.Bytes.{with_bytes}
 use Rattle.own_model.specs.Call.Call.{Peek, Poke}
 use Rattle.own_model.specs.HeapWindow.{heap_high, largest_machine}
 use Rattle.own_model.specs.OwnStep.{count_refusal, script_step}
@@ -17,11 +16,9 @@ use Rattle.own_model.specs.Reply.Reply.{Bytes, Done}
 use Rattle.own_model.specs.Sliced.{block_found}
 use Rattle.own_model.proofs.StepBytesLemmas.{found_block, peeks_block, pokes_block}
 use Rattle.own_model.proofs.HeapStepLemmas.{not_both, payload_some, payload_within_range, heap_lies}
-use Rattle.own_model.proofs.Totals.{len-insert_at}
 use Rattle.cap_space.specs.Space.{Space}
 use Rattle.region_map.specs.Regions.{Regions}
-use Rattle.dataspace_core.specs.Store.{Store, Part, part, account_of, bytes_of, part_with_bytes, PartBecomes}
-use Rattle.dataspace_core.specs.Share.{share_in}
+use Rattle.dataspace_core.specs.Store.{Store, Part, part, account_of, part_with_bytes, PartBecomes}
 use Rattle.dataspace_core.proofs.WindowLaws.{in_memory}
 use Rattle.sliced_heap.specs.Heap.{share_at, blocks_at}
 use Rattle.heap_core.specs.declared.heap.Heap.{Heap}
@@ -33,7 +30,7 @@ use Rattle.dataspace_core.proofs.ShareLaws.{in_share}
 use Rattle.pd_core.specs.Own.{Sessions, selector_of, own_of}
 use Rattle.sliced_heap.proofs.ShareLemmas.{region_of_block}
 use Rattle.pd_core.proofs.BytesLemmas.{renamed_is}
-use Rattle.pd_core.proofs.HeapCallLemmas.{Owns, Ends, Alone, own_in}
+use Rattle.pd_core.proofs.HeapCallLemmas.{Owns, Ends, Alone, own_in, shares_with_parts, put_spare}
 use Rattle.pd_core.proofs.ScriptOwnLemmas.{all_sessions}
 use Rattle.heap_core.proofs.RangeLemmas.{payload_poked, payload_read}
 use Rattle.heap_core.proofs.BlockRangeLemmas.{blocks_are_regions as heap_blocks_are_regions}
@@ -153,12 +150,7 @@ module _ {store : Store} {space : Space} {regions : Regions} {heap : Heap} (o : 
   poked_alone = record {
     sound = pokes.sound;
     payer = refl;
-    shares = record {
-      shares = λ other apart. ap (λ q. share_in q regions.heap regions.tags) (becomes.others other apart);
-      root = becomes.root;
-      parents = becomes.parents;
-      room = becomes.room;
-    };
+    shares = shares_with_parts regions.heap regions.tags becomes;
     rest = refl;
     stands = blocks_in_place (heap_payer heap) store store' regions (λ s r there. put.alike r.of);
     kept = λ k some none. put.others k (λ e.
@@ -168,13 +160,7 @@ module _ {store : Store} {space : Space} {regions : Regions} {heap : Heap} (o : 
     unnamed = o.own.blocks.unnamed;
     ram_limit = ap (λ q. (account_of q).ram_limit) becomes.own;
     caps_limit = ap (λ q. (account_of q).caps_limit) becomes.own;
-    spare = omega (
-      arith,
-      o.own.paid.spare,
-      ap (λ (q : Part). len q.spaces) becomes.own,
-      ap (λ q. (account_of q).caps_used) becomes.own,
-      len-insert_at (part (heap_payer heap) store).spaces ds (with_bytes (bytes_of (part (heap_payer heap) store) ds) offset bytes) held.bytes held.there,
-    );
+    spare = put_spare (heap_payer heap) ds offset _ bytes held.bytes held.there becomes o.own.paid.spare;
   }
 
   -- so the poke is the model's

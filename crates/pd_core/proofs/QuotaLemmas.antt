@@ -33,6 +33,7 @@ use Rattle.pd_core.specs.Own.{Sessions, no_sessions, object_of, own_of, part_at,
 use Rattle.pd_core.specs.Component.{Pays, kind_of, caps_in, rows_in, own_in, own, rows_of}
 use Rattle.pd_core.specs.Core.{Places, init_in, inits_of, roles_of, rows_at, sessions_in, world_of, IsCore}
 use Rattle.pd_core.specs.Exit.{HasSelectorsTo}
+use Rattle.pd_core.specs.Sessions.{row_session}
 use Rattle.pd_core.specs.SessionCalls.{named_in}
 use Rattle.pd_core.specs.Sound.{session_at}
 use Rattle.pd_core.proofs.SessionBetweenLemmas.{its as named_row}
@@ -175,6 +176,14 @@ session_at_place places store components i d q here =
     ap (λ (s : OwnState). session_named (get s.selectors q)) (own_at_place places store components i d here)
     ∙ by_role (sessions_in store (roles_of components)) store (get_or components i d).role q
 
+-- by what is read of the component there
+pub named_at_place : (places : Places) (store : Store) (components : List Component) (i : ℕ) (d : Component) (q : ℕ) (found : Result (ℕ × SessionId) Refusal) → i < length components → d ≡ get_or components i d → named_in d.role q ≡ found →
+    session_named (get (state_at (world_of places store components).states i).selectors q) ≡ found_in (sessions_in store (roles_of components)) found
+named_at_place places store components i d q found here read is =
+    session_at_place places store components i d q here
+    ∙ ap (λ (c : Component). found_in (sessions_in store (roles_of components)) (named_in c.role q)) (sym read)
+    ∙ ap (found_in (sessions_in store (roles_of components))) is
+
 -- a session of a component is of the kinds that the component offers
 pub row_of_kinds : (store : Store) (role : Role) (id : ℕ) (row : Row Labelled) → get (rows_in store role) id ≡ Some row → (key : AccountId) (host : AnyServer) → role ≡ AServer key host →
     offered_kinds (offer_of row.value.state) ≡ offered_kinds (offer_of_host host)
@@ -195,3 +204,9 @@ served_where {store} {components} {i} {d} q {named} core here read is =
     let within = host_within components named.0 two.serving in
     let its = named_row two q named.1 (named_cap names) in
     record { row = its.row; there = its.there; within = within; its = λ e. ap (λ r. get (rows_in store r) named.1.0) (sym (role_at components named.0 e within)) ∙ its.there }
+
+-- and a session that is found is the one that the own state has
+pub served_at_place : (places : Places) (store : Store) (components : List Component) (i : ℕ) (d : Component) (q : ℕ) (named : ℕ × SessionId) → i < length components → d ≡ get_or components i d → named_in d.role q ≡ Ok named →
+    (served : IsServed store components named) → session_named (get (state_at (world_of places store components).states i).selectors q) ≡ Some (row_session named.0 served.row)
+served_at_place places store components i d q named here read is served =
+    named_at_place places store components i d q (Ok named) here read is ∙ ap (option_map (row_session named.0)) served.there

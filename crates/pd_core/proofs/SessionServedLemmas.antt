@@ -1,5 +1,5 @@
 -- A request of a session that a selector names, by what it does to the session's buffer: that it goes as the model's.
-use Rattle.std.proofs.Common.{◌≡◌, ◌≢◌, ℕ, ◌+◌, ◌<◌, ◌≤◌, ◌++◌, List, Option, None, Some, length, take, get_or, set, codes, decimal, refl, sym, ap, subst, ◌∙◌, arith}
+use Rattle.std.proofs.Common.{◌≡◌, ◌≢◌, ℕ, ◌+◌, ◌≤◌, ◌++◌, List, Option, None, Some, length, take, get_or, set, codes, decimal, refl, sym, ap, subst, ◌∙◌, arith}
 use Rattle.std.proofs.Math.Seq.{take-append_seam}
 use Rattle.std.proofs.lemmas.List.{get_or-set_other, get_or_default, length-append}
 use Rattle.std.specs.Prelude.{false}
@@ -53,8 +53,8 @@ use Rattle.pd_core.proofs.ServerLemmas.{lent_paid, paid_in}
 use Rattle.pd_core.proofs.SessionChangeLemmas.{AreTwo, ReplacesTwo, session_goes, two_places}
 use Rattle.pd_core.proofs.SessionStepLemmas.{named_at}
 use Rattle.pd_core.proofs.SessionTurnLemmas.{Turns, turns_same, turns_made, lent_script, still_has, one_more, turns_given, given_script, kept_has, given_removes}
-use Rattle.pd_core.proofs.SessionWorldLemmas.{row, named, there, pays, face, host_put, kept_put}
-use Rattle.pd_core.proofs.CoreWorldLemmas.{face_of, SameFaces, face_set}
+use Rattle.pd_core.proofs.SessionWorldLemmas.{its as named_role, Names, named_two, named_cap, host_within, row, named, there, pays, face, host_put, kept_put}
+use Rattle.pd_core.proofs.CoreWorldLemmas.{face_of, role_at, SameFaces, face_set}
 
 -- ---- what a request is answered
 
@@ -123,9 +123,37 @@ face_as before after was is now =
 
 -- ---- a request
 
-module _ {store : Store} (components : List Component) {i s : ℕ} {script : Script} (two : AreTwo store (roles_of components) i s script) (d host : Component) (host_is : roles_of components s ≡ host.role)
-    (q : ℕ) (session : SessionId) (names : get script.caps.caps q ≡ Some (Session s session)) (store' : Store) (host' : Component) (stays : StaysServer store host store' host') (request : List ℕ) (effect : Effect)
-    (served_as : (one : Row Labelled) → get (rows_of store host) session.0 ≡ Some one → ServesSession one session.0 effect (row_served service_step request store one) store store' (rows_of store host) (rows_of store' host')) where
+-- the server at a place has served a request of the session that a selector names
+pub record HasServed (store : Store) (components : List Component) (i : ℕ) (d : Component) (q : ℕ) (pair : ℕ × SessionId) (host e : Component) (request : List ℕ) (effect : Effect) (told : Told) (store' : Store) (host' : Component) : Type 0 where
+  pub named_by : Names store components i d q pair
+  pub read : host ≡ get_or components pair.0 e
+  pub stays : StaysServer store host store' host'
+  pub served_as : (one : Row Labelled) → get (rows_of store host) pair.1.0 ≡ Some one → ServesSession one pair.1.0 effect (row_served service_step request store one) store store' (rows_of store host) (rows_of store' host')
+  pub text : (one : Row Labelled) → get (rows_of store host) pair.1.0 ≡ Some one → told.text ≡ (row_served service_step request store one).text
+  pub lines : (one : Row Labelled) → get (rows_of store host) pair.1.0 ≡ Some one → told.lines ≡ (row_served service_step request store one).lines
+
+module _ {store : Store} {components : List Component} {i : ℕ} {d : Component} {q : ℕ} {pair : ℕ × SessionId} {host e : Component} {request : List ℕ} {effect : Effect} {told : Told} {store' : Store} {host' : Component}
+    (done : HasServed store components i d q pair host e request effect told store' host') where
+  open done use {named_by, read, stays, served_as, text, lines}
+
+  abbrev s : ℕ
+  s = pair.0
+
+  abbrev session : SessionId
+  session = pair.1
+
+  abbrev script : Script
+  script = (named_role named_by).0
+
+  abbrev two : AreTwo store (roles_of components) i s script
+  two = named_two named_by
+
+  abbrev names : get script.caps.caps q ≡ Some (Session s session)
+  names = named_cap named_by
+
+  abbrev host_is : roles_of components s ≡ host.role
+  host_is = role_at components s e (host_within components s two.serving) ∙ ap (λ (c : Component). c.role) (sym read)
+
   -- the session, what it lends and the selector of that
   abbrev its_row : Row Labelled
   its_row = row components two d host host_is q session names
@@ -195,115 +223,108 @@ module _ {store : Store} (components : List Component) {i s : ℕ} {script : Scr
   host_face : face_of host' ≡ face_of host
   host_face = face components two d host host_is q session names store' host' stays (λ _. unlisted)
 
-  module _ (e : Component) (read : host ≡ get_or components s e) (places : Places) where
-    host_faces : SameFaces components (set components s host')
-    host_faces = face_set components s host' e (host_face ∙ ap face_of read)
+  host_faces : SameFaces components (set components s host')
+  host_faces = face_set components s host' e (host_face ∙ ap face_of read)
 
-    -- ---- it does nothing to what is lent
+  -- ---- it does nothing to what is lent
 
-    pub nothing_goes : effect ≡ Nothing → (told : Told) → ((one : Row Labelled) → get (rows_of store host) session.0 ≡ Some one → told.text ≡ (row_served service_step request store one).text) →
-        ((one : Row Labelled) → get (rows_of store host) session.0 ≡ Some one → told.lines ≡ (row_served service_step request store one).lines) →
-        Goes places (CallSession q request) i told store components store' (set components s host')
-    nothing_goes none told text lines =
-        let its = there components two d host host_is q session names in
-        let same : serves.lent ≡ its_row.buffer = subst (λ f. IsEffect f its_row.buffer serves.lent) none serves.effect_is in
-        turned_goes (set components s host') script
-        (subst (Turns script script q k its_row.buffer) (sym same) (turns_same script q k s session names its_row.buffer at (script_sound two).own.named.one))
-        names (script_sound two).own.paid.placed (host_put components two host') host_faces places told (text its_row its ∙ sym (told_same (lent_in store') (lent_in store) k its_row.buffer serves.lent o.reply same)) (lines its_row its)
+  pub nothing_goes : effect ≡ Nothing → (places : Places) → Goes places (CallSession q request) i told store components store' (set components s host')
+  nothing_goes none places =
+      let its = there components two d host host_is q session names in
+      let same : serves.lent ≡ its_row.buffer = subst (λ f. IsEffect f its_row.buffer serves.lent) none serves.effect_is in
+      turned_goes (set components s host') script
+      (subst (Turns script script q k its_row.buffer) (sym same) (turns_same script q k s session names its_row.buffer at (script_sound two).own.named.one))
+      names (script_sound two).own.paid.placed (host_put components two host') host_faces places told (text its_row its ∙ sym (told_same (lent_in store') (lent_in store) k its_row.buffer serves.lent o.reply same)) (lines its_row its)
 
-    -- ---- the caller is read beside the server
+  -- ---- the caller is read beside the server
 
-    module _ (here : i < length components) (was : (get_or components i d).role ≡ AScript script) (d' : Component) where
-      abbrev again : Component
-      again = get_or (set components s host') i d'
+  module _ (d' : Component) where
+    abbrev again : Component
+    again = get_or (set components s host') i d'
 
-      same_role : (get_or (set components s host') i d').role ≡ AScript script
-      same_role = ap (λ (c : Component). c.role) (get_or-set_other components s i host' d' (λ at. two_places two (sym at)) ∙ get_or_default components i d' d here) ∙ was
+    same_role : (get_or (set components s host') i d').role ≡ AScript script
+    same_role = ap (λ (c : Component). c.role) (get_or-set_other components s i host' d' (λ at. two_places two (sym at)) ∙ get_or_default components i d' d named_by.here) ∙ (named_role named_by).1
 
-      -- ---- it makes a buffer
+    -- ---- it makes a buffer
 
-      module _ (space : DsId) (makes : effect ≡ MakesBuffer space) where
-        made : (its_row.buffer ≡ None) × (serves.lent ≡ Some space.0)
-        made = subst (λ f. IsEffect f its_row.buffer serves.lent) makes serves.effect_is
+    module _ (space : DsId) (makes : effect ≡ MakesBuffer space) where
+      made : (its_row.buffer ≡ None) × (serves.lent ≡ Some space.0)
+      made = subst (λ f. IsEffect f its_row.buffer serves.lent) makes serves.effect_is
 
-        free : IsLentAt script.caps.caps q k None
-        free = subst (IsLentAt script.caps.caps q k) made.0 at
+      free : IsLentAt script.caps.caps q k None
+      free = subst (IsLentAt script.caps.caps q k) made.0 at
 
-        -- there is a place for it
-        placed_more : (account_of (part script.account.0 store)).caps_limit + total session_weight script.caps.caps + 1 ≤ script.caps.places
-        placed_more =
-            let its = named components two d host host_is q session names in
-            omega (arith, its.placed, its.least, ap lent_weight made.0, ap (λ (a : Account). a.caps_limit) (account_of-part script.account.0 store))
+      -- there is a place for it
+      placed_more : (account_of (part script.account.0 store)).caps_limit + total session_weight script.caps.caps + 1 ≤ script.caps.places
+      placed_more =
+          let its = named components two d host host_is q session names in
+          omega (arith, its.placed, its.least, ap lent_weight made.0, ap (λ (a : Account). a.caps_limit) (account_of-part script.account.0 store))
 
-        pub has_left : HasSelectorLeft (get_or (set components s host') i d').role
-        unfolding own_of
-        has_left =
-            let sound = script_sound two in
-            let within = (sound.own.lawful all_sessions (λ q server session there. refl)).within.caps in
-            subst HasSelectorLeft (sym same_role) (let placed = placed_more in omega (arith, placed, within, sound.own.paid.named))
+      pub has_left : HasSelectorLeft (get_or (set components s host') i d').role
+      unfolding own_of
+      has_left =
+          let sound = script_sound two in
+          let within = (sound.own.lawful all_sessions (λ q server session there. refl)).within.caps in
+          subst HasSelectorLeft (sym same_role) (let placed = placed_more in omega (arith, placed, within, sound.own.paid.named))
 
-        -- the reply waits for its selector
-        pub is_lent : (told : Told) → ((one : Row Labelled) → get (rows_of store host) session.0 ≡ Some one → told.text ≡ (row_served service_step request store one).text) → told.text ≡ codes "OK cap "
-        is_lent told text =
-            let bytes : (served None (row_session 0 its_row) request).buffer ≡ Some (lent_in store' space.0)
-            = ap (λ b. (served (option_map (lent_in store) b) (row_session 0 its_row) request).buffer) (sym made.0) ∙ sym serves.bytes ∙ ap (option_map (lent_in store')) made.1 in
-            text its_row (there components two d host host_is q session names) ∙ ap (λ b. (served (option_map (lent_in store) b) (row_session 0 its_row) request).reply) made.0
-            ∙ lent_reply (row_session 0 its_row) request (lent_in store' space.0) bytes
+      -- the reply waits for its selector
+      pub is_lent : told.text ≡ codes "OK cap "
+      is_lent =
+          let bytes : (served None (row_session 0 its_row) request).buffer ≡ Some (lent_in store' space.0)
+          = ap (λ b. (served (option_map (lent_in store) b) (row_session 0 its_row) request).buffer) (sym made.0) ∙ sym serves.bytes ∙ ap (option_map (lent_in store')) made.1 in
+          text its_row (there components two d host host_is q session names) ∙ ap (λ b. (served (option_map (lent_in store) b) (row_session 0 its_row) request).reply) made.0
+          ∙ lent_reply (row_session 0 its_row) request (lent_in store' space.0) bytes
 
-        pub made_goes : (by : Selector) → by.0 ≡ q → (selector : Selector) (kept : Component) → selector.0 ≡ new_selector (caps_of (get_or (set components s host') i d')) →
-            kept ≡ record (get_or (set components s host') i d') { role = with_buffer (get_or (set components s host') i d').role selector.0 space by } →
-            (told told' : Told) → ((one : Row Labelled) → get (rows_of store host) session.0 ≡ Some one → told.text ≡ (row_served service_step request store one).text) →
-            ((one : Row Labelled) → get (rows_of store host) session.0 ≡ Some one → told.lines ≡ (row_served service_step request store one).lines) →
-            told' ≡ record told { text = told.text ++ decimal selector.0 } →
-            Goes places (CallSession q request) i told' store components store' (set (set components s host') i kept)
-        made_goes by of selector kept least is told told' text lines added =
-            let its = there components two d host host_is q session names in
-            let selects : selector.0 ≡ k = least ∙ ap (λ r. new_selector (caps_in r)) same_role ∙ sym ((holds_lent two q session names).new made.0) in
-            let now_role : with_buffer (get_or (set components s host') i d').role selector.0 space by ≡ AScript (lent_script script q k s session names space by of free)
-            = ap (λ r. with_buffer r selector.0 space by) same_role ∙ ap (λ n. with_buffer (AScript script) n space by) selects in
-            let role : kept.role ≡ AScript (lent_script script q k s session names space by of free) = ap (λ (c : Component). c.role) is ∙ now_role in
-            let fresh = fresh_lent two q session names store' others serves.lent paid_lent (ap (λ (p : Part). p.spaces) same_part) in
-            let made_turn = turns_made script q k s session names space by of free (λ p beside name. fresh p space.0 made.1 beside name) in
-            let turns = subst (λ a. Turns script (lent_script script q k s session names space by of free) q k a serves.lent) (sym made.0)
-            (subst (Turns script (lent_script script q k s session names space by of free) q k None) (sym made.1) made_turn) in
-            turned_goes (set (set components s host') i kept) (lent_script script q k s session names space by of free) turns (still_has script q k s session names space by of free)
-            (let placed = placed_more in omega (arith, placed, one_more script q k s session names space by of free))
-            (subst (λ r. ReplacesTwo (roles_of components) (roles_of (set (set components s host') i kept)) i s r host'.role) role (kept_put components two host' kept))
-            (face_set (set components s host') i kept d' (face_as (get_or (set components s host') i d') kept same_role is now_role) ∙ host_faces)
-            places told'
-            (ap (λ (t : Told). t.text) added ∙ (λ j. text its_row its j ++ decimal (selects j)) ∙ sym (told_made (lent_in store') (lent_in store) k space.0 its_row.buffer serves.lent o.reply made.0 made.1))
-            (ap (λ (t : Told). t.lines) added ∙ lines its_row its)
+      pub made_goes : (places : Places) (by : Selector) → by.0 ≡ q → (selector : Selector) (kept : Component) → selector.0 ≡ new_selector (caps_of (get_or (set components s host') i d')) →
+          kept ≡ record (get_or (set components s host') i d') { role = with_buffer (get_or (set components s host') i d').role selector.0 space by } →
+          (told' : Told) → told' ≡ record told { text = told.text ++ decimal selector.0 } →
+          Goes places (CallSession q request) i told' store components store' (set (set components s host') i kept)
+      made_goes places by of selector kept least is told' added =
+          let its = there components two d host host_is q session names in
+          let selects : selector.0 ≡ k = least ∙ ap (λ r. new_selector (caps_in r)) same_role ∙ sym ((holds_lent two q session names).new made.0) in
+          let now_role : with_buffer (get_or (set components s host') i d').role selector.0 space by ≡ AScript (lent_script script q k s session names space by of free)
+          = ap (λ r. with_buffer r selector.0 space by) same_role ∙ ap (λ n. with_buffer (AScript script) n space by) selects in
+          let role : kept.role ≡ AScript (lent_script script q k s session names space by of free) = ap (λ (c : Component). c.role) is ∙ now_role in
+          let fresh = fresh_lent two q session names store' others serves.lent paid_lent (ap (λ (p : Part). p.spaces) same_part) in
+          let made_turn = turns_made script q k s session names space by of free (λ p beside name. fresh p space.0 made.1 beside name) in
+          let turns = subst (λ a. Turns script (lent_script script q k s session names space by of free) q k a serves.lent) (sym made.0)
+          (subst (Turns script (lent_script script q k s session names space by of free) q k None) (sym made.1) made_turn) in
+          turned_goes (set (set components s host') i kept) (lent_script script q k s session names space by of free) turns (still_has script q k s session names space by of free)
+          (let placed = placed_more in omega (arith, placed, one_more script q k s session names space by of free))
+          (subst (λ r. ReplacesTwo (roles_of components) (roles_of (set (set components s host') i kept)) i s r host'.role) role (kept_put components two host' kept))
+          (face_set (set components s host') i kept d' (face_as (get_or (set components s host') i d') kept same_role is now_role) ∙ host_faces)
+          places told'
+          (ap (λ (t : Told). t.text) added ∙ (λ j. text its_row its j ++ decimal (selects j)) ∙ sym (told_made (lent_in store') (lent_in store) k space.0 its_row.buffer serves.lent o.reply made.0 made.1))
+          (ap (λ (t : Told). t.lines) added ∙ lines its_row its)
 
-      -- ---- it gives one back
+    -- ---- it gives one back
 
-      module _ (space : DsId) (gives : effect ≡ GivesBuffer space) where
-        given : (its_row.buffer ≡ Some space.0) × (serves.lent ≡ None)
-        given = subst (λ f. IsEffect f its_row.buffer serves.lent) gives serves.effect_is
+    module _ (space : DsId) (gives : effect ≡ GivesBuffer space) where
+      given : (its_row.buffer ≡ Some space.0) × (serves.lent ≡ None)
+      given = subst (λ f. IsEffect f its_row.buffer serves.lent) gives serves.effect_is
 
-        lent_at : IsLentAt script.caps.caps q k (Some space.0)
-        lent_at = subst (IsLentAt script.caps.caps q k) given.0 at
+      lent_at : IsLentAt script.caps.caps q k (Some space.0)
+      lent_at = subst (IsLentAt script.caps.caps q k) given.0 at
 
-        -- which the caller names
-        pub given_named : NamesBuffer space.0 (get_or (set components s host') i d').role
-        given_named = subst (NamesBuffer space.0) (sym same_role) (record { selector = k; named = buffer_test (get script.caps.caps k) q space.0 lent_at.has })
+      -- which the caller names
+      pub given_named : NamesBuffer space.0 (get_or (set components s host') i d').role
+      given_named = subst (NamesBuffer space.0) (sym same_role) (record { selector = k; named = buffer_test (get script.caps.caps k) q space.0 lent_at.has })
 
-        pub given_goes : (dropped : Component) → DropsBuffer space.0 (get_or (set components s host') i d') dropped →
-            (told : Told) → ((one : Row Labelled) → get (rows_of store host) session.0 ≡ Some one → told.text ≡ (row_served service_step request store one).text) →
-            ((one : Row Labelled) → get (rows_of store host) session.0 ≡ Some one → told.lines ≡ (row_served service_step request store one).lines) →
-            Goes places (CallSession q request) i told store components store' (set (set components s host') i dropped)
-        given_goes dropped drops told text lines =
-            let its = there components two d host host_is q session names in
-            let one = (script_sound two).own.named.one in
-            let selects : drops.selector ≡ k
-            = one drops.selector k space.0 (tested_key (get script.caps.caps drops.selector) space.0 (ap (λ r. is_buffer space.0 (get (caps_in r) drops.selector)) (sym same_role) ∙ drops.named))
-            (buffer_key (get script.caps.caps k) q space.0 lent_at.has) in
-            let now_role : without_buffer (get_or (set components s host') i d').role drops.selector space.0 ≡ AScript (given_script script q k s session names space.0 lent_at)
-            = ap (λ r. without_buffer r drops.selector space.0) same_role ∙ ap (λ n. without_buffer (AScript script) n space.0) selects in
-            let role : dropped.role ≡ AScript (given_script script q k s session names space.0 lent_at) = ap (λ (c : Component). c.role) drops.gone ∙ now_role in
-            let turns = subst (λ a. Turns script (given_script script q k s session names space.0 lent_at) q k a serves.lent) (sym given.0)
-            (subst (Turns script (given_script script q k s session names space.0 lent_at) q k (Some space.0)) (sym given.1) (turns_given script q k s session names space.0 lent_at)) in
-            turned_goes (set (set components s host') i dropped) (given_script script q k s session names space.0 lent_at) turns (kept_has script q k s session names space.0 lent_at)
-            (omega (arith, (script_sound two).own.paid.placed, (given_removes script q k s session names space.0 lent_at).fewer))
-            (subst (λ r. ReplacesTwo (roles_of components) (roles_of (set (set components s host') i dropped)) i s r host'.role) role (kept_put components two host' dropped))
-            (face_set (set components s host') i dropped d' (face_as (get_or (set components s host') i d') dropped same_role drops.gone now_role) ∙ host_faces)
-            places told (text its_row its ∙ sym (told_gone (lent_in store') (lent_in store) k space.0 its_row.buffer serves.lent o.reply given.0)) (lines its_row its)
+      pub given_goes : (places : Places) (dropped : Component) → DropsBuffer space.0 (get_or (set components s host') i d') dropped →
+          Goes places (CallSession q request) i told store components store' (set (set components s host') i dropped)
+      given_goes places dropped drops =
+          let its = there components two d host host_is q session names in
+          let one = (script_sound two).own.named.one in
+          let selects : drops.selector ≡ k
+          = one drops.selector k space.0 (tested_key (get script.caps.caps drops.selector) space.0 (ap (λ r. is_buffer space.0 (get (caps_in r) drops.selector)) (sym same_role) ∙ drops.named))
+          (buffer_key (get script.caps.caps k) q space.0 lent_at.has) in
+          let now_role : without_buffer (get_or (set components s host') i d').role drops.selector space.0 ≡ AScript (given_script script q k s session names space.0 lent_at)
+          = ap (λ r. without_buffer r drops.selector space.0) same_role ∙ ap (λ n. without_buffer (AScript script) n space.0) selects in
+          let role : dropped.role ≡ AScript (given_script script q k s session names space.0 lent_at) = ap (λ (c : Component). c.role) drops.gone ∙ now_role in
+          let turns = subst (λ a. Turns script (given_script script q k s session names space.0 lent_at) q k a serves.lent) (sym given.0)
+          (subst (Turns script (given_script script q k s session names space.0 lent_at) q k (Some space.0)) (sym given.1) (turns_given script q k s session names space.0 lent_at)) in
+          turned_goes (set (set components s host') i dropped) (given_script script q k s session names space.0 lent_at) turns (kept_has script q k s session names space.0 lent_at)
+          (omega (arith, (script_sound two).own.paid.placed, (given_removes script q k s session names space.0 lent_at).fewer))
+          (subst (λ r. ReplacesTwo (roles_of components) (roles_of (set (set components s host') i dropped)) i s r host'.role) role (kept_put components two host' dropped))
+          (face_set (set components s host') i dropped d' (face_as (get_or (set components s host') i d') dropped same_role drops.gone now_role) ∙ host_faces)
+          places told (text its_row its ∙ sym (told_gone (lent_in store') (lent_in store) k space.0 its_row.buffer serves.lent o.reply given.0)) (lines its_row its)

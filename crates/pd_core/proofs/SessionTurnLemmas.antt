@@ -7,6 +7,7 @@ use Rattle.trade_base.specs.declared.id.DsId.{DsId}
 use Rattle.trade_base.specs.declared.id.Selector.{Selector}
 use Rattle.trade_base.specs.declared.id.SessionId.{SessionId}
 use Rattle.own_model.specs.NatMap.{NatMap, total}
+use Rattle.own_model.specs.Region.{Region}
 use Rattle.own_model.proofs.NatMapLemmas.{get-insert_same, get-insert_other, get-remove_same, get-remove_other}
 use Rattle.own_model.proofs.Totals.{len-insert_new, len-remove_at, total-insert_new, total-remove}
 use Rattle.cap_space.specs.Space.{with_cap, without_cap}
@@ -19,7 +20,7 @@ use Rattle.pd_core.specs.Sound.{rpc_weight, session_weight, lent_weight, buffer_
 use Rattle.pd_core.specs.declared.script.Script.{Script}
 use Rattle.pd_core.proofs.LentLemmas.{buffer_is}
 use Rattle.pd_core.proofs.ScriptNameLemmas.{Names}
-use Rattle.pd_core.proofs.SessionOwnLemmas.{TurnsTables, regions_same, lent_names}
+use Rattle.pd_core.proofs.SessionOwnLemmas.{TurnsTables, regions_after, regions_same, lent_names}
 
 -- a script after a call of a session under a selector: its account, its heaps and its places stay; two selectors change, and the
 -- regions of what was lent, and as many sessions and buffers come or go as selectors
@@ -94,6 +95,19 @@ module _ (script : Script) (q k server : ℕ) (session : SessionId) (has : get s
     rpcs = refl;
   }
 
+  -- where nothing is lent afterwards
+  none_lent : (lent : Option ℕ) (after : NatMap Cap) (user : NatMap Region) → IsLentAt script.caps.caps q k lent → ((s : ℕ) → s ≢ q → s ≢ k → get after s ≡ get script.caps.caps s) →
+      key_at (get after q) ≡ None → get after k ≡ None → user ≡ regions_after lent None script.regions.user → TurnsTables script.caps.caps after script.regions.user user q k lent None
+  none_lent lent after user at others no_after none regions = record {
+    others = others;
+    no_spaces = record { before = no_space; after = no_after };
+    before = at;
+    after = record { has = ap buffer_at none; free = λ _. none };
+    kept = λ a b _ is. absurd (none-some b is);
+    fresh = λ s other is. absurd (none-some other is);
+    regions = regions;
+  }
+
   -- a buffer comes, in a dataspace that no selector named
   module _ (space : DsId) (by : Selector) (of : by.0 ≡ q) (at : IsLentAt script.caps.caps q k None) where
     abbrev pub lent_script : Script
@@ -153,15 +167,7 @@ module _ (script : Script) (q k server : ℕ) (session : SessionId) (has : get s
     turns_given = record {
       is = refl;
       places = refl;
-      tables = record {
-        others = λ s _ apart. get-remove_other caps k s apart;
-        no_spaces = record { before = no_space; after = ap key_at kept_has };
-        before = at;
-        after = record { has = ap buffer_at gone_at; free = λ _. gone_at };
-        kept = λ a b _ is. absurd (none-some b is);
-        fresh = λ s other is. absurd (none-some other is);
-        regions = refl;
-      };
+      tables = none_lent (Some key) given_script.caps.caps given_script.regions.user at (λ s _ apart. get-remove_other caps k s apart) (ap key_at kept_has) gone_at refl;
       sessions = given_removes.sessions;
       rpcs = given_removes.rpcs;
     }
@@ -186,15 +192,7 @@ module _ (script : Script) (q k server : ℕ) (session : SessionId) (has : get s
     turns_closed = record {
       is = refl;
       places = refl;
-      tables = record {
-        others = λ s apart _. get-remove_other caps q s apart;
-        no_spaces = record { before = no_space; after = ap key_at gone };
-        before = at;
-        after = record { has = ap buffer_at free_still; free = λ _. free_still };
-        kept = λ a b is. absurd (none-some a is);
-        fresh = λ s key is. absurd (none-some key is);
-        regions = refl;
-      };
+      tables = none_lent None closed_script.caps.caps closed_script.regions.user at (λ s apart _. get-remove_other caps q s apart) (ap key_at gone) free_still refl;
       sessions = closes.sessions;
       rpcs = closes.rpcs;
     }
@@ -230,15 +228,7 @@ module _ (script : Script) (q k server : ℕ) (session : SessionId) (has : get s
     turns_ended = record {
       is = refl;
       places = refl;
-      tables = record {
-        others = λ s apart beside. get-remove_other (remove caps q) k s beside ∙ get-remove_other caps q s apart;
-        no_spaces = record { before = no_space; after = ap key_at ended_gone };
-        before = at;
-        after = record { has = ap buffer_at none_at; free = λ _. none_at };
-        kept = λ a b _ is. absurd (none-some b is);
-        fresh = λ s other is. absurd (none-some other is);
-        regions = refl;
-      };
+      tables = none_lent (Some key) ended_script.caps.caps ended_script.regions.user at (λ s apart beside. get-remove_other (remove caps q) k s beside ∙ get-remove_other caps q s apart) (ap key_at ended_gone) none_at refl;
       sessions = let first = closes.sessions in omega (arith, first, last.sessions);
       rpcs = last.rpcs ∙ closes.rpcs;
     }

@@ -5,6 +5,7 @@ use Rattle.std.proofs.lemmas.Option.{none-some, same_Some}
 use Rattle.std.specs.FinMap.{get, insert}
 use Rattle.std.specs.Option.{option_map}
 use Rattle.std.specs.Prelude.{IsSome}
+use Rattle.trade_base.specs.declared.id.AccountId.{AccountId}
 use Rattle.trade_base.specs.declared.id.DsId.{DsId}
 use Rattle.trade_base.specs.declared.id.SessionId.{SessionId}
 use Rattle.trade_base.specs.declared.refusal.Refusal.{Refusal}
@@ -26,6 +27,8 @@ use Rattle.dataspace_core.specs.Store.{Store, Part, part, space_at, account_in, 
 use Rattle.dataspace_core.proofs.PartLaws.{paid_in_part}
 use Rattle.server_frame.specs.Frame.{Row}
 use Rattle.server_frame.specs.SessionBuffer.{key_of}
+use Rattle.server_kinds.specs.Host.{Serves as HostServes}
+use Rattle.server_kinds.specs.declared.any_server.AnyServer.{AnyServer}
 use Rattle.pd_core.specs.Answer.{told_alone}
 use Rattle.pd_core.specs.Component.{amounts_in, entry_of, kind_of, offer_in, caps_in, rows_in, rows_of, own_in, IsSoundRole, Serves, StaysServer}
 use Rattle.pd_core.specs.Core.{Places, roles_of, sessions_in, IsCore}
@@ -35,12 +38,12 @@ use Rattle.pd_core.specs.SessionCalls.{Goes, named_in}
 use Rattle.pd_core.specs.Sound.{session_at, buffer_at}
 use Rattle.pd_core.specs.declared.component.Component.{Component}
 use Rattle.pd_core.specs.declared.component.Role.{Role}
-use Rattle.pd_core.specs.declared.component.Role.TheVariants.{Script as AScript, Gone as AGone}
+use Rattle.pd_core.specs.declared.component.Role.TheVariants.{Script as AScript, Server as AServer, Gone as AGone}
 use Rattle.pd_core.specs.declared.script.Script.{Script}
 use Rattle.pd_core.proofs.ReserveAsideLemmas.{refused_aside}
 use Rattle.pd_core.proofs.CoreChangeLemmas.{AllRestBut}
 use Rattle.pd_core.proofs.CorePlainLemmas.{face_is}
-use Rattle.pd_core.proofs.ServerLemmas.{server_of_row, lent_paid}
+use Rattle.pd_core.proofs.ServerLemmas.{server_of_row, is_server, serving_as, host_serves_in, lent_paid}
 use Rattle.pd_core.proofs.SessionBetweenLemmas.{its as its_row, under, holds_lent, its_lent, lent_alike, are_others, names_session, row_alone, raise_moves, changes_written, script_sound}
 use Rattle.pd_core.proofs.SessionChangeLemmas.{AreTwo, ReplacesTwo, KeepsBut, session_goes, two_places}
 use Rattle.pd_core.proofs.SessionNamedLemmas.{upgrades_done, upgrade_unread, upgrade_refused}
@@ -138,6 +141,17 @@ module _ {store : Store} {components : List Component} {i : ℕ} {d : Component}
   pub named_cap : get (its.0).caps.caps selector ≡ Some (Session named.0 named.1)
   named_cap = cap_of (get (its.0).caps.caps selector) named its.2
 
+-- ---- the server of two places
+
+module _ {store : Store} (components : List Component) {i s : ℕ} {script : Script} (two : AreTwo store (roles_of components) i s script) where
+  -- it is read at its place
+  pub read_role : (e : Component) → roles_of components s ≡ (get_or components s e).role
+  read_role e = role_at components s e (host_within components s two.serving)
+
+  -- and is one
+  pub read_server : {role : Role} → roles_of components s ≡ role → {X : Type 0} → ((key : AccountId) (host : AnyServer) → role ≡ AServer key host → X) → X
+  read_server is case = let its = is_server _ (subst (λ r. IsSome (offer_in r)) is two.serving) in case its.0 its.1.0 its.1.1
+
 -- the server that is read at its place
 module _ {store : Store} (components : List Component) {i s : ℕ} {script : Script} (two : AreTwo store (roles_of components) i s script) (d host : Component) (host_is : roles_of components s ≡ host.role)
     (q : ℕ) (session : SessionId) (names : get script.caps.caps q ≡ Some (Session s session)) where
@@ -223,3 +237,9 @@ module _ {store : Store} (components : List Component) {i s : ℕ} {script : Scr
         session_goes components (set components s host') two d host_is (host_put components two host') (face_set components s host' e (face ∙ ap face_of read)) (row_alone two q session names)
         (changes_written two q session names store' keeps names (holds_lent two q session names).at refl refl written moves done.sound stays.machine) stays
         places (Upgrade q text) refl refl Done [] (told_alone (reply_text Done)) refl refl done.does
+
+-- the server that is read serves the session that a selector names
+pub read_serves : {store : Store} {components : List Component} {i : ℕ} {d : Component} {selector : ℕ} {pair : ℕ × SessionId} → Names store components i d selector pair → (at : Component) → roles_of components pair.0 ≡ at.role →
+    {key : AccountId} {host : AnyServer} → at.role ≡ AServer key host → HostServes store host pair.1.0
+read_serves {components} {d} {selector} {pair} names at read {key} {host} is =
+    host_serves_in at key host (host_serves components (named_two names) d (serving_as at key host) (read ∙ is) selector pair.1 (named_cap names))

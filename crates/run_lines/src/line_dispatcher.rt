@@ -80,7 +80,7 @@ impl<'a> LineDispatcher<'a> {
     }
 
     /// Answers a line that is parsed already, as `answer` does: `said` is its call, or `None` if it makes none.
-    #[inline]
+    #[inline(always)]
     pub fn answer_read<'b, R: Router + Drop>(
         &self,
         core: &mut Core<R>,

@@ -8,7 +8,7 @@ use Rattle.line_steps.specs.RunPosition.{RunPosition}
 use Rattle.run_lines.specs.Answer.{AnswersLine, IsAnswer}
 use Rattle.run_lines.specs.declared.line_answer.LineAnswer.{LineAnswer}
 use Rattle.run_scenario.specs.CallAnswers.{AnswersIn, TakesStep}
-use Rattle.run_scenario.specs.LineSteps.{next_stand, resolved_at}
+use Rattle.run_scenario.specs.LineSteps.{next_position, resolved_at}
 use Rattle.run_scenario.specs.declared.line_step.LineStep.{LineStep}
 use Rattle.run_record.specs.Marked.{all_marked, unmarked}
 use Rattle.run_record.specs.RecordedCalls.{RecordingState, awaits_after, events, events_in, first_recording, recording_behind}
@@ -35,15 +35,15 @@ answers_line world line (Some answer) answers =
     (refl, subst (λ l. IsAnswer world (heard world.entries l) answer) (sym (ap (λ ls. get_or ls 0 line) answers.1)) answers.2)
 
 -- the state after a line
-pub stepped : {E : Type 0} (r : Result Unit E) (stand mid next : RunPosition) (awaits mid_awaits : Bool) (line : List ℕ) (old new : World) (turn : LineStep) (seen : ResolvedLine) →
-    TakesStep None stand.number (resolved_at None stand line) old new turn → seen ≡ resolved_at None stand line → mid ≡ stand → mid_awaits ≡ awaits_after awaits seen →
-    (TakesStep None mid.number (resolved_at None mid line) old new turn → OnOk r (next ≡ next_stand None old mid line)) →
-    OnOk r (recording_in next mid_awaits new ≡ recording_behind (recording_in stand awaits old) line)
-stepped r stand mid next awaits mid_awaits line old new turn seen takes is mid_is awaited leads =
-    by r (subst (λ (s : RunPosition). TakesStep None s.number (resolved_at None s line) old new turn → OnOk r (next ≡ next_stand None old s line)) mid_is leads takes)
+pub stepped : {E : Type 0} (r : Result Unit E) (position mid next : RunPosition) (awaits mid_awaits : Bool) (line : List ℕ) (old new : World) (step : LineStep) (seen : ResolvedLine) →
+    TakesStep None position.number (resolved_at None position line) old new step → seen ≡ resolved_at None position line → mid ≡ position → mid_awaits ≡ awaits_after awaits seen →
+    (TakesStep None mid.number (resolved_at None mid line) old new step → OnOk r (next ≡ next_position None old mid line)) →
+    OnOk r (recording_in next mid_awaits new ≡ recording_behind (recording_in position awaits old) line)
+stepped r position mid next awaits mid_awaits line old new step seen takes is mid_is awaited leads =
+    by r (subst (λ (s : RunPosition). TakesStep None s.number (resolved_at None s line) old new step → OnOk r (next ≡ next_position None old s line)) mid_is leads takes)
   where
-    by : {E : Type 0} (r : Result Unit E) → OnOk r (next ≡ next_stand None old stand line) → OnOk r (recording_in next mid_awaits new ≡ recording_behind (recording_in stand awaits old) line)
-    by (Ok done) leads = λ i. record { stand = leads i; world = takes.world i; awaits = (awaited ∙ ap (awaits_after awaits) is) i }
+    by : {E : Type 0} (r : Result Unit E) → OnOk r (next ≡ next_position None old position line) → OnOk r (recording_in next mid_awaits new ≡ recording_behind (recording_in position awaits old) line)
+    by (Ok done) leads = λ i. record { position = leads i; world = takes.world i; awaits = (awaited ∙ ap (awaits_after awaits) is) i }
     by (Err fault) leads = tt
 
 -- ---- all lines
@@ -51,16 +51,16 @@ stepped r stand mid next awaits mid_awaits line old new turn seen takes is mid_i
 -- a line more is played
 pub one_more : (whole marks now : List LineMark) (all all' : Bool) (stage next : RecordingState) (text line : List ℕ) (behind : List (List ℕ)) →
     whole ≡ all_marked (events all stage (pieces_of text)) marks → pieces_of text ≡ line ∷ behind →
-    now ≡ all_marked (events_in all stage (resolved_at None stage.stand line)) marks → all' ≡ all → next ≡ recording_behind stage line →
+    now ≡ all_marked (events_in all stage (resolved_at None stage.position line)) marks → all' ≡ all → next ≡ recording_behind stage line →
     whole ≡ all_marked (events all' next behind) now
 one_more whole marks now all all' stage next text line behind so pieces now_is all_is next_is =
     rw (now_is, all_is, next_is)
     (so ∙ ap (λ ps. all_marked (events all stage ps) marks) pieces
-    ∙ marked_on (events_in all stage (resolved_at None stage.stand line)) (events all (recording_behind stage line) behind) marks)
+    ∙ marked_on (events_in all stage (resolved_at None stage.position line)) (events all (recording_behind stage line) behind) marks)
 
 -- a play begins
-pub first_in : (stand : RunPosition) (awaits : Bool) (world : World) (start : RunPosition) → stand ≡ start → awaits ≡ false → recording_in stand awaits world ≡ first_recording world start
-first_in stand awaits world start is none = rw (is, none) refl
+pub first_in : (position : RunPosition) (awaits : Bool) (world : World) (start : RunPosition) → position ≡ start → awaits ≡ false → recording_in position awaits world ≡ first_recording world start
+first_in position awaits world start is none = rw (is, none) refl
 
 -- the whole text
 pub whole_recorded : (all made_all : Bool) (start : RunPosition) (played scenario : List ℕ) (world : World)

@@ -12,10 +12,10 @@ use Rattle.run_record.specs.declared.recording.Recording.{Recording}
 -- one line more
 pub unread_more : (whole before now : List Unread) (stage next : RecordingState) (text line : List ℕ) (behind : List (List ℕ)) →
     before ++ unread_from stage (pieces_of text) ≡ whole → pieces_of text ≡ line ∷ behind →
-    now ≡ before ++ unread_in stage.stand.number (resolved_at None stage.stand line) → next ≡ recording_behind stage line →
+    now ≡ before ++ unread_in stage.position.number (resolved_at None stage.position line) → next ≡ recording_behind stage line →
     now ++ unread_from next behind ≡ whole
 unread_more whole before now stage next text line behind so pieces now_is next_is =
-    let here : List Unread = unread_in stage.stand.number (resolved_at None stage.stand line) in
+    let here : List Unread = unread_in stage.position.number (resolved_at None stage.position line) in
     ap (λ us. us ++ unread_from next behind) now_is
     ∙ ap (λ s. (before ++ here) ++ unread_from s behind) next_is
     ∙ append_assoc before here (unread_from (recording_behind stage line) behind)

@@ -10,17 +10,17 @@ use Rattle.line_steps.specs.RunPosition.{RunPosition}
 use Rattle.line_names.specs.Filling.{FilledLine}
 use Rattle.line_names.specs.NameTable.{NameTable}
 use Rattle.run_lines.specs.Answer.{finished_lines}
-use Rattle.run_scenario.specs.LineSteps.{left_behind, next_stand, reply_in, resolved_at}
+use Rattle.run_scenario.specs.LineSteps.{left_behind, next_position, reply_in, resolved_at}
 
 -- the position in the scenario, the world, and whether log lines are expected of the next call
 pub record RecordingState : Type 0 where
-  pub stand : RunPosition
+  pub position : RunPosition
   pub world : World
   pub awaits : Bool
 
 -- before the first line
 abbrev pub first_recording : World → RunPosition → RecordingState
-first_recording world start = record { stand = start; world = world; awaits = false }
+first_recording world start = record { position = start; world = world; awaits = false }
 
 -- the log lines that a call finishes, unless log lines are expected of it already
 abbrev pub lines_for : Bool → World → List ℕ → List ℕ
@@ -56,7 +56,7 @@ pub record Event : Type 0 where
 -- with `all` it doesn't count that log lines are expected already
 abbrev pub hearing_of : Bool → RecordingState → FilledLine → List ℕ → Option (List ℕ) → RecordedCall
 hearing_of all stage filled call reply = record {
-  known = stage.stand.known;
+  known = stage.position.known;
   binds = nat_lt 0 (length filled.holes);
   expects = is_some reply;
   call = call;
@@ -66,21 +66,21 @@ hearing_of all stage filled call reply = record {
 
 -- the result of the next line by what it is
 abbrev pub events_in : Bool → RecordingState → ResolvedLine → List Event
-events_in all stage (Log text) = record { number = stage.stand.number; meeting = Logs } ∷ []
+events_in all stage (Log text) = record { number = stage.position.number; meeting = Logs } ∷ []
 events_in all stage (Call filled call reply) =
-    record { number = stage.stand.number; meeting = Hears (hearing_of all stage filled call reply) } ∷ []
+    record { number = stage.position.number; meeting = Hears (hearing_of all stage filled call reply) } ∷ []
 events_in all stage resolved = []
 
 -- after a line of the scenario
 abbrev pub recording_behind : RecordingState → List ℕ → RecordingState
 recording_behind stage line = record {
-  stand = next_stand None stage.world stage.stand line;
-  world = left_behind None stage.world stage.stand line;
-  awaits = awaits_after stage.awaits (resolved_at None stage.stand line);
+  position = next_position None stage.world stage.position line;
+  world = left_behind None stage.world stage.position line;
+  awaits = awaits_after stage.awaits (resolved_at None stage.position line);
 }
 
 -- all results of lines from a state on
 abbrev pub events : Bool → RecordingState → List (List ℕ) → List Event
 events all stage [] = []
 events all stage (line ∷ lines) =
-    events_in all stage (resolved_at None stage.stand line) ++ events all (recording_behind stage line) lines
+    events_in all stage (resolved_at None stage.position line) ++ events all (recording_behind stage line) lines

@@ -23,7 +23,7 @@ unread_in number resolved = if is_unread resolved then record { number = number;
 abbrev pub unread_from : RecordingState → List (List ℕ) → List Unread
 unread_from stage [] = []
 unread_from stage (line ∷ lines) =
-    unread_in stage.stand.number (resolved_at None stage.stand line) ++ unread_from (recording_behind stage line) lines
+    unread_in stage.position.number (resolved_at None stage.position line) ++ unread_from (recording_behind stage line) lines
 
 -- and of a text that is run from a position on
 abbrev pub unread_lines : World → RunPosition → List ℕ → List Unread

@@ -54,7 +54,7 @@ marks_view marks = map mark_view marks
 
 -- the position of a run, in a world
 abbrev pub recording_in : RunPosition → Bool → World → RecordingState
-recording_in stand awaits world = record { stand = stand; world = world; awaits = awaits }
+recording_in position awaits world = record { position = position; world = world; awaits = awaits }
 
 -- the line that is written by a form, if it isn't the one that it was
 abbrev pub line_by : List ℕ → LineRecord → RecordedForm → Option (List ℕ)

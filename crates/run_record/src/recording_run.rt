@@ -33,7 +33,7 @@ use std::alloc::{AllocError, Global};
 pub(crate) struct RecordingRun<'a, 'm> {
     /// Whether each reply is written again.
     all: bool,
-    stand: RunPosition<'m>,
+    position: RunPosition<'m>,
     /// Whether log lines are expected of the next call.
     awaits: bool,
     marks: LineMarks<'a>,
@@ -50,13 +50,13 @@ impl<'a, 'm> RecordingRun<'a, 'm> {
     ) -> RecordingRun<'a, 'm>
         ensures all { result.all ≡ all }
         ensures marks { result.marks ≡ marks.entry }
-        ensures stand { result.stand ≡ start.entry }
+        ensures position { result.position ≡ start.entry }
         ensures awaits { result.awaits ≡ false }
         ensures unread { result.unread.items ≡ [] }
     {
         RecordingRun {
             all,
-            stand: start,
+            position: start,
             awaits: false,
             marks,
             unread: Vec::new(alloc),
@@ -74,10 +74,10 @@ impl<'a, 'm> RecordingRun<'a, 'm> {
         requires listed { core.old.entries ≡ entries_of (start_list_of list.now) }
         ensures all { self.new.all ≡ self.old.all }
         ensures marks { OnOk result (marks_view self.new.marks.marks.items ≡ all_marked
-            (events self.old.all (recording_in self.old.stand self.old.awaits core.old) (pieces_of scenario.now))
+            (events self.old.all (recording_in self.old.position self.old.awaits core.old) (pieces_of scenario.now))
             (marks_view self.old.marks.marks.items)) }
         ensures unread { OnOk result (unread_view self.new.unread.items ≡ unread_view self.old.unread.items
-            ++ unread_from (recording_in self.old.stand self.old.awaits core.old) (pieces_of scenario.now)) }
+            ++ unread_from (recording_in self.old.position self.old.awaits core.old) (pieces_of scenario.now)) }
     {
         let mut rest = Some(scenario);
         while let Some(text) = rest {
@@ -98,36 +98,36 @@ impl<'a, 'm> RecordingRun<'a, 'm> {
     ) -> Result<(), AllocError>
         requires listed { core.old.entries ≡ entries_of (start_list_of list.now) }
         ensures all { self.new.all ≡ self.old.all }
-        ensures stage { OnOk result (recording_in self.new.stand self.new.awaits core.new
-            ≡ recording_behind (recording_in self.old.stand self.old.awaits core.old) line.now) }
+        ensures stage { OnOk result (recording_in self.new.position self.new.awaits core.new
+            ≡ recording_behind (recording_in self.old.position self.old.awaits core.old) line.now) }
         ensures marks { OnOk result (marks_view self.new.marks.marks.items ≡ all_marked
-            (events_in self.old.all (recording_in self.old.stand self.old.awaits core.old)
-            (resolved_at None self.old.stand line.now)) (marks_view self.old.marks.marks.items)) }
+            (events_in self.old.all (recording_in self.old.position self.old.awaits core.old)
+            (resolved_at None self.old.position line.now)) (marks_view self.old.marks.marks.items)) }
         ensures unread { OnOk result (unread_view self.new.unread.items ≡ unread_view self.old.unread.items
-            ++ unread_in self.old.stand.number (resolved_at None self.old.stand line.now)) }
+            ++ unread_in self.old.position.number (resolved_at None self.old.position line.now)) }
     {
         let run = LineDispatcher { list, only: None };
-        let turn = take_step(&run, core, &self.stand, line, buffers);
-        self.note(line, &turn)?;
-        move_past(&mut self.stand, &turn)
+        let step = take_step(&run, core, &self.position, line, buffers);
+        self.note(line, &step)?;
+        move_past(&mut self.position, &step)
     }
 
     // Records the step of a line, before the position moves past it.
-    fn note(&mut self, line: &[u8], turn: &LineStep<'_>) -> Result<(), AllocError>
-        requires { resolved_view turn.now.resolved ≡ resolved_at None self.old.stand line.now }
+    fn note(&mut self, line: &[u8], step: &LineStep<'_>) -> Result<(), AllocError>
+        requires { resolved_view step.now.resolved ≡ resolved_at None self.old.position line.now }
         ensures all { self.new.all ≡ self.old.all }
-        ensures stand { self.new.stand ≡ self.old.stand }
+        ensures position { self.new.position ≡ self.old.position }
         ensures awaits { OnOk result
-            (self.new.awaits ≡ awaits_after self.old.awaits (resolved_view turn.now.resolved)) }
+            (self.new.awaits ≡ awaits_after self.old.awaits (resolved_view step.now.resolved)) }
         ensures marks { (world : World) → AnswersIn None world
-            (calls_in (resolved_view turn.now.resolved)) (answer_of turn.now.answered) →
+            (calls_in (resolved_view step.now.resolved)) (answer_of step.now.answered) →
             OnOk result (marks_view self.new.marks.marks.items ≡ all_marked
-            (events_in self.old.all (recording_in self.old.stand self.old.awaits world)
-            (resolved_view turn.now.resolved)) (marks_view self.old.marks.marks.items)) }
+            (events_in self.old.all (recording_in self.old.position self.old.awaits world)
+            (resolved_view step.now.resolved)) (marks_view self.old.marks.marks.items)) }
         ensures unread { OnOk result (unread_view self.new.unread.items ≡ unread_view self.old.unread.items
-            ++ unread_in self.old.stand.number (resolved_view turn.now.resolved)) }
+            ++ unread_in self.old.position.number (resolved_view step.now.resolved)) }
     {
-        match &turn.resolved {
+        match &step.resolved {
             ResolvedLine::TooLong => self.miss(UnreadReason::TooLong),
             ResolvedLine::BadName(fault) => self.miss(UnreadReason::Name(*fault)),
             ResolvedLine::Misplaced(column, why) => {
@@ -136,10 +136,10 @@ impl<'a, 'm> RecordingRun<'a, 'm> {
             ResolvedLine::BadLine(fault) => self.miss(UnreadReason::Fault(*fault)),
             ResolvedLine::Log(_) => {
                 self.awaits = true;
-                self.marks.log(self.stand.number());
+                self.marks.log(self.position.number());
                 Ok(())
             }
-            ResolvedLine::Call(call) => self.note_call(line, call, answer_in(&turn.answered)),
+            ResolvedLine::Call(call) => self.note_call(line, call, answer_in(&step.answered)),
             ResolvedLine::Skipped | ResolvedLine::Directive(_) | ResolvedLine::Nothing => Ok(()),
         }
     }
@@ -151,13 +151,13 @@ impl<'a, 'm> RecordingRun<'a, 'm> {
         call: &ScenarioCall<'_>,
         answer: Option<LineAnswer<'_>>,
     ) -> Result<(), AllocError>
-        requires { resolved_at None self.old.stand line.now ≡ call_view call.now }
+        requires { resolved_at None self.old.position line.now ≡ call_view call.now }
         ensures all { self.new.all ≡ self.old.all }
-        ensures stand { self.new.stand ≡ self.old.stand }
+        ensures position { self.new.position ≡ self.old.position }
         ensures awaits { self.new.awaits ≡ false }
         ensures marks { (world : World) → AnswersLine None world call.now.line.now answer.entry →
             OnOk result (marks_view self.new.marks.marks.items ≡ all_marked
-            (events_in self.old.all (recording_in self.old.stand self.old.awaits world) (call_view call.now))
+            (events_in self.old.all (recording_in self.old.position self.old.awaits world) (call_view call.now))
             (marks_view self.old.marks.marks.items)) }
         ensures unread { self.new.unread ≡ self.old.unread }
     {
@@ -167,20 +167,20 @@ impl<'a, 'm> RecordingRun<'a, 'm> {
             return Ok(());
         };
         let lines = lines_for(awaited, answer);
-        let heard = recorded_call(self.stand.known(), line, call, answer.reply, lines);
-        self.marks.hear(self.stand.number(), &heard)
+        let heard = recorded_call(self.position.known(), line, call, answer.reply, lines);
+        self.marks.hear(self.position.number(), &heard)
     }
 
     // Records why the next line can't be parsed.
     fn miss(&mut self, why: UnreadReason) -> Result<(), AllocError>
         ensures all { self.new.all ≡ self.old.all }
-        ensures stand { self.new.stand ≡ self.old.stand }
+        ensures position { self.new.position ≡ self.old.position }
         ensures awaits { self.new.awaits ≡ self.old.awaits }
         ensures marks { self.new.marks ≡ self.old.marks }
         ensures unread { OnOk result (unread_view self.new.unread.items ≡ unread_view self.old.unread.items
-            ++ record { number = self.old.stand.number; line = line_by_reason why } ∷ []) }
+            ++ record { number = self.old.position.number; line = line_by_reason why } ∷ []) }
     {
-        let number = self.stand.number();
+        let number = self.position.number();
         self.unread.push(UnreadLine { number, why })?;
         Ok(())
     }

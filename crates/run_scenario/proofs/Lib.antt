@@ -10,7 +10,7 @@ pub mod SaidLemmas
 pub mod ShownLemmas
 pub mod TallyLemmas
 pub mod TextLemmas
-pub mod TurnLemmas
+pub mod LineStepLemmas
 pub mod WriteLemmas
 pub mod RunReportLemmas
 pub mod StepLemmas

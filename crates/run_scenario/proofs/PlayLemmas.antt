@@ -22,12 +22,12 @@ use Rattle.run_scenario.specs.Reports.{left_over_report}
 use Rattle.run_scenario.specs.RunReports.{ReportScope, ReportsLine, WritesAllReports, WritesReports, scope_of}
 use Rattle.run_scenario.specs.Writes.{start_at}
 use Rattle.view_diagnostics.specs.Diagnostics.{SubjectAt}
-use Rattle.run_scenario.specs.LineSteps.{LineStep, call_of, left_behind, next_stand, resolved_at, stand_behind, turn_of, turns_of}
+use Rattle.run_scenario.specs.LineSteps.{LineStep, call_of, left_behind, next_position, resolved_at, position_behind, step_of, steps_of}
 use Rattle.run_scenario.specs.Observation.{Watches}
 use Rattle.line_steps.specs.RunPosition.{RunPosition, crosses}
 use Rattle.run_scenario.proofs.RunReportLemmas.{reports_closed, reports_more}
 use Rattle.run_scenario.proofs.TallyLemmas.{errors_counted, tallies_more, tallies_none}
-use Rattle.run_scenario.proofs.PlayedLemmas.{answered_more, answered-one, calls_of_steps-one, left_more, stand_more, told_more, text_of_steps-one, turns_more}
+use Rattle.run_scenario.proofs.PlayedLemmas.{answered_more, answered-one, calls_of_steps-one, left_more, position_more, told_more, text_of_steps-one, more_steps}
 
 -- ---- one line behind others
 
@@ -45,43 +45,43 @@ ready_next (Ok complained) a = a
 ready_next (Err fault) a = tt
 
 -- how a line's error is found and counted, unless there is a fault
-record StepsTallyAt (only : Option (List ℕ)) (mid : World) (stand : RunPosition) (line : List ℕ) (now next : Tally) (error : Bool) : Type 0 where
-  judged : error ≡ has_error only mid (resolved_at only stand line) now.awaited
-  expects : next.awaited ≡ awaited_after stand.number (resolved_at only stand line) now.awaited
+record StepsTallyAt (only : Option (List ℕ)) (mid : World) (position : RunPosition) (line : List ℕ) (now next : Tally) (error : Bool) : Type 0 where
+  judged : error ≡ has_error only mid (resolved_at only position line) now.awaited
+  expects : next.awaited ≡ awaited_after position.number (resolved_at only position line) now.awaited
   counts : CountsOne error now.errors next.errors
 
 abbrev StepsTally : Option (List ℕ) → World → RunPosition → List ℕ → Tally → Tally → Result Bool LineRunFault → Type 0
-StepsTally only mid stand line now next judged = IfOk judged (StepsTallyAt only mid stand line now next)
+StepsTally only mid position line now next judged = IfOk judged (StepsTallyAt only mid position line now next)
 
-module _ (only : Option (List ℕ)) (start mid : World) (first stand : RunPosition) (xs : List (List ℕ)) (line : List ℕ)
-    (left : mid ≡ after_all only start (calls_of_steps (turns_of only start first xs))) (stands : stand ≡ stand_behind only start first xs) where
+module _ (only : Option (List ℕ)) (start mid : World) (first position : RunPosition) (xs : List (List ℕ)) (line : List ℕ)
+    (left : mid ≡ after_all only start (calls_of_steps (steps_of only start first xs))) (stands : position ≡ position_behind only start first xs) where
   abbrev earlier : List (List ℕ)
-  earlier = calls_answered only (turns_of only start first xs)
+  earlier = calls_answered only (steps_of only start first xs)
 
-  world_next : (last : World) → last ≡ left_behind only mid stand line → last ≡ after_all only start (calls_of_steps (turns_of only start first (xs ++ line ∷ [])))
-  world_next last then = left_more only start mid first stand xs (line ∷ []) left stands last (then ∙ ap (after_all only mid) (sym (calls_of_steps-one (turn_of only stand line))))
+  world_next : (last : World) → last ≡ left_behind only mid position line → last ≡ after_all only start (calls_of_steps (steps_of only start first (xs ++ line ∷ [])))
+  world_next last then = left_more only start mid first position xs (line ∷ []) left stands last (then ∙ ap (after_all only mid) (sym (calls_of_steps-one (step_of only position line))))
 
-  seen_next : (seen : List (List ℕ) → Type 0) → seen (earlier ++ said_by only (call_of only stand line)) → seen (calls_answered only (turns_of only start first (xs ++ line ∷ [])))
+  seen_next : (seen : List (List ℕ) → Type 0) → seen (earlier ++ said_by only (call_of only position line)) → seen (calls_answered only (steps_of only start first (xs ++ line ∷ [])))
   seen_next seen sees =
-      subst seen (ap (λ calls. earlier ++ calls) (sym (answered-one only (turn_of only stand line))) ∙ answered_more only start mid first stand xs (line ∷ []) left stands []) sees
+      subst seen (ap (λ calls. earlier ++ calls) (sym (answered-one only (step_of only position line))) ∙ answered_more only start mid first position xs (line ∷ []) left stands []) sees
 
   -- and its error is counted after theirs
-  tallied : (begun now next : Tally) (judged : Result Bool LineRunFault) → Tallies only start begun now (turns_of only start first xs) → StepsTally only mid stand line now next judged →
-      OnOk judged (Tallies only start begun next (turns_of only start first (xs ++ line ∷ [])))
+  tallied : (begun now next : Tally) (judged : Result Bool LineRunFault) → Tallies only start begun now (steps_of only start first xs) → StepsTally only mid position line now next judged →
+      OnOk judged (Tallies only start begun next (steps_of only start first (xs ++ line ∷ [])))
   tallied begun now next (Ok error) led steps =
-      subst (Tallies only start begun next) (turns_more only start mid first stand xs (line ∷ []) left stands)
-      (tallies_more only start mid begun now next (turns_of only start first xs) (turn_of only stand line) error left led steps.judged steps.expects steps.counts)
+      subst (Tallies only start begun next) (more_steps only start mid first position xs (line ∷ []) left stands)
+      (tallies_more only start mid begun now next (steps_of only start first xs) (step_of only position line) error left led steps.judged steps.expects steps.counts)
   tallied begun now next (Err fault) led steps = tt
 
-  goes_on : {A : Type 0} (calls : Bool) (reports seen : List (List ℕ) → Type 0) (last : World) (next : RunPosition) (begun then : Tally) (judged : Result Bool LineRunFault) (write_failed : Bool) → A → last ≡ left_behind only mid stand line →
-      OnOk judged (seen (earlier ++ said_by only (call_of only stand line))) → OnOk judged (next ≡ next_stand only mid stand line) →
-      OnOk judged (Tallies only start begun then (turns_of only start first (xs ++ line ∷ []))) → OnOk judged (reports (xs ++ line ∷ [])) → Fails judged write_failed (takes_memory calls (resolved_at only stand line) || crosses stand) →
+  goes_on : {A : Type 0} (calls : Bool) (reports seen : List (List ℕ) → Type 0) (last : World) (next : RunPosition) (begun then : Tally) (judged : Result Bool LineRunFault) (write_failed : Bool) → A → last ≡ left_behind only mid position line →
+      OnOk judged (seen (earlier ++ said_by only (call_of only position line))) → OnOk judged (next ≡ next_position only mid position line) →
+      OnOk judged (Tallies only start begun then (steps_of only start first (xs ++ line ∷ []))) → OnOk judged (reports (xs ++ line ∷ [])) → Fails judged write_failed (takes_memory calls (resolved_at only position line) || crosses position) →
       Continues (λ lines. A × LeadsSteps only start last first next begun then reports seen lines) (λ fault lines. A × StopsSteps calls only start last first fault lines) (xs ++ line ∷ []) (counted judged)
   goes_on calls reports seen last next begun then (Ok complained) write_failed a world sees after tallies reported fails = (
     a,
     record {
       world_is = world_next last world;
-      stands = after ∙ stand_more only start mid first stand xs (line ∷ []) left stands;
+      stands = after ∙ position_more only start mid first position xs (line ∷ []) left stands;
       tallies = tallies;
       reported = reported;
       sees = seen_next seen sees;
@@ -94,20 +94,20 @@ module _ (only : Option (List ℕ)) (start mid : World) (first stand : RunPositi
     a,
     record {
       world_is = world_next last world;
-      takes = (turns_of only start first xs, turn_of only stand line, sym (turns_more only start mid first stand xs (line ∷ []) left stands), fails.1);
+      takes = (steps_of only start first xs, step_of only position line, sym (more_steps only start mid first position xs (line ∷ []) left stands), fails.1);
     },
   )
 
   -- what is told of it is told behind what was told of those, and it leads on
   pub bench_plays : {A : Type 0} (tells : List (List ℕ) → ℕ → List ℕ → List ℕ) (calls : Bool) (reports seen : List (List ℕ) → Type 0) (last : World) (next : RunPosition) (begun then : Tally) (judged : Result Bool LineRunFault) (write_failed : Bool) (w w' : Option (List ℕ)) (g g' : List ℕ) → A →
-      last ≡ left_behind only mid stand line → OutputsUnless judged w g w' g' (text_of_calls tells earlier stand.number (said_by only (call_of only stand line))) →
-      OnOk judged (seen (earlier ++ said_by only (call_of only stand line))) → OnOk judged (next ≡ next_stand only mid stand line) →
-      OnOk judged (Tallies only start begun then (turns_of only start first (xs ++ line ∷ []))) → OnOk judged (reports (xs ++ line ∷ [])) → Fails judged write_failed (takes_memory calls (resolved_at only stand line) || crosses stand) →
-      HandlesLine (λ lines. text_of_steps tells only [] (turns_of only start first lines)) (λ lines. A × LeadsSteps only start last first next begun then reports seen lines) (λ fault lines. A × StopsSteps calls only start last first fault lines) xs line (counted judged) w g w' g'
+      last ≡ left_behind only mid position line → OutputsUnless judged w g w' g' (text_of_calls tells earlier position.number (said_by only (call_of only position line))) →
+      OnOk judged (seen (earlier ++ said_by only (call_of only position line))) → OnOk judged (next ≡ next_position only mid position line) →
+      OnOk judged (Tallies only start begun then (steps_of only start first (xs ++ line ∷ []))) → OnOk judged (reports (xs ++ line ∷ [])) → Fails judged write_failed (takes_memory calls (resolved_at only position line) || crosses position) →
+      HandlesLine (λ lines. text_of_steps tells only [] (steps_of only start first lines)) (λ lines. A × LeadsSteps only start last first next begun then reports seen lines) (λ fault lines. A × StopsSteps calls only start last first fault lines) xs line (counted judged) w g w' g'
   bench_plays tells calls reports seen last next begun then judged write_failed w w' g g' a world told sees after tallies reported fails = record {
-    piece = text_of_steps tells only earlier (turn_of only stand line ∷ []);
-    more = sym (told_more only tells start mid first stand [] xs (line ∷ []) left stands);
-    tells = tells_counted _ judged (subst (OutputsUnless judged w g w' g') (text_of_steps-one only tells earlier (turn_of only stand line)) told);
+    piece = text_of_steps tells only earlier (step_of only position line ∷ []);
+    more = sym (told_more only tells start mid first position [] xs (line ∷ []) left stands);
+    tells = tells_counted _ judged (subst (OutputsUnless judged w g w' g') (text_of_steps-one only tells earlier (step_of only position line)) told);
     goes_on = goes_on calls reports seen last next begun then judged write_failed a world sees after tallies reported fails;
   }
     where
@@ -132,45 +132,45 @@ listed_on entries_at only calls old leaves listed run_is = ap (λ (w : World). w
 
 -- the same for a player that is the one that began
 module _ {R A : Type 0} (only_of : R → Option (List ℕ)) (list_of : R → Listed) (seen_old seen_new : R → World → List (List ℕ) → Type 0) where
-  pub bench_line : {at run : R} {subject mid_subject : SubjectAt} {telling now_telling : World → List (List ℕ) → ℕ → List ℕ → List ℕ} (start : World) {first : RunPosition} (xs : List (List ℕ)) (line : List ℕ)
+  pub runner_line : {at run : R} {subject mid_subject : SubjectAt} {telling now_telling : World → List (List ℕ) → ℕ → List ℕ → List ℕ} (start : World) {first : RunPosition} (xs : List (List ℕ)) (line : List ℕ)
       (calls : Bool) (judged : Result Bool LineRunFault) {failed : Bool} {old new : Point} {begun : Tally} (errors now_errors : ℕ) (e e' e'' : Option (List ℕ)) → IfOk judged (λ error. CountsOne error errors now_errors) →
       A → run ≡ at → mid_subject ≡ subject → now_telling ≡ telling →
-      LeadsSteps (only_of at) start old.world first old.stand begun (tally errors old.awaited) (WritesReports (scope_of subject (list_of at)) (start_at (only_of at) start first begun.awaited) e e') (seen_old at start) xs →
-      RunsLine (only_of run) now_telling calls (seen_old run) (seen_new run) (resolved_at (only_of run) old.stand line) failed judged old new →
-      OnOk judged (ReportsLine (scope_of mid_subject (list_of run)) (only_of run) old.world old.stand line old.awaited e' e'') →
-      HandlesLine (λ lines. text_of_steps (telling start) (only_of at) [] (turns_of (only_of at) start first lines))
-      (λ lines. A × LeadsSteps (only_of at) start new.world first new.stand begun (tally now_errors new.awaited) (WritesReports (scope_of subject (list_of at)) (start_at (only_of at) start first begun.awaited) e e'') (seen_new at start) lines)
+      LeadsSteps (only_of at) start old.world first old.position begun (tally errors old.awaited) (WritesReports (scope_of subject (list_of at)) (start_at (only_of at) start first begun.awaited) e e') (seen_old at start) xs →
+      RunsLine (only_of run) now_telling calls (seen_old run) (seen_new run) (resolved_at (only_of run) old.position line) failed judged old new →
+      OnOk judged (ReportsLine (scope_of mid_subject (list_of run)) (only_of run) old.world old.position line old.awaited e' e'') →
+      HandlesLine (λ lines. text_of_steps (telling start) (only_of at) [] (steps_of (only_of at) start first lines))
+      (λ lines. A × LeadsSteps (only_of at) start new.world first new.position begun (tally now_errors new.awaited) (WritesReports (scope_of subject (list_of at)) (start_at (only_of at) start first begun.awaited) e e'') (seen_new at start) lines)
       (λ fault lines. A × StopsSteps calls (only_of at) start new.world first fault lines) xs line (counted judged) old.written old.gathered new.written new.gathered
-  bench_line {at} {run} {subject} {mid_subject} {telling} {now_telling} start {first} xs line calls judged {failed} {old} {new} {begun} errors now_errors e e' e'' counts kept run_is subject_is tells_is led plays reported =
-      bench_plays (only_of at) start old.world first old.stand xs line led.world_is led.stands (telling start) calls (WritesReports scope (start_at (only_of at) start first begun.awaited) e e'') (seen_new at start) new.world new.stand begun (tally now_errors new.awaited) judged failed old.written new.written old.gathered new.gathered kept
+  runner_line {at} {run} {subject} {mid_subject} {telling} {now_telling} start {first} xs line calls judged {failed} {old} {new} {begun} errors now_errors e e' e'' counts kept run_is subject_is tells_is led plays reported =
+      bench_plays (only_of at) start old.world first old.position xs line led.world_is led.stands (telling start) calls (WritesReports scope (start_at (only_of at) start first begun.awaited) e e'') (seen_new at start) new.world new.position begun (tally now_errors new.awaited) judged failed old.written new.written old.gathered new.gathered kept
       here.hears.world (here.hears.told start _ watches) (sees_on judged _ _ _ _ (here.hears.sees start _ watches)) here.stands
-      (tallied (only_of at) start old.world first old.stand xs line led.world_is led.stands begun (tally errors old.awaited) (tally now_errors new.awaited) judged led.tallies (steps judged here.judged here.expects counts))
+      (tallied (only_of at) start old.world first old.position xs line led.world_is led.stands begun (tally errors old.awaited) (tally now_errors new.awaited) judged led.tallies (steps judged here.judged here.expects counts))
       (reports judged reported) here.failing
     where
       scope : ReportScope
       scope = scope_of subject (list_of at)
 
-      reports : (judged : Result Bool LineRunFault) → OnOk judged (ReportsLine (scope_of mid_subject (list_of run)) (only_of run) old.world old.stand line old.awaited e' e'') →
+      reports : (judged : Result Bool LineRunFault) → OnOk judged (ReportsLine (scope_of mid_subject (list_of run)) (only_of run) old.world old.position line old.awaited e' e'') →
           OnOk judged (WritesReports scope (start_at (only_of at) start first begun.awaited) e e'' (xs ++ line ∷ []))
       reports (Ok error) reported =
-          let own : ReportsLine scope (only_of at) old.world old.stand line old.awaited e' e'' =
-          subst (λ s. ReportsLine (scope_of s (list_of at)) (only_of at) old.world old.stand line old.awaited e' e'') subject_is
-          (subst (λ r. ReportsLine (scope_of mid_subject (list_of r)) (only_of r) old.world old.stand line old.awaited e' e'') run_is reported) in
-          reports_more scope (only_of at) start old.world first old.stand begun.awaited old.awaited xs line led.world_is led.stands led.tallies.awaits e e' e'' own.0 led.reported own.1 own.2
+          let own : ReportsLine scope (only_of at) old.world old.position line old.awaited e' e'' =
+          subst (λ s. ReportsLine (scope_of s (list_of at)) (only_of at) old.world old.position line old.awaited e' e'') subject_is
+          (subst (λ r. ReportsLine (scope_of mid_subject (list_of r)) (only_of r) old.world old.position line old.awaited e' e'') run_is reported) in
+          reports_more scope (only_of at) start old.world first old.position begun.awaited old.awaited xs line led.world_is led.stands led.tallies.awaits e e' e'' own.0 led.reported own.1 own.2
       reports (Err fault) reported = tt
 
-      steps : (judged : Result Bool LineRunFault) → IfOk judged (λ error. error ≡ has_error (only_of at) old.world (resolved_at (only_of at) old.stand line) old.awaited) →
-          OnOk judged (new.awaited ≡ awaited_after old.stand.number (resolved_at (only_of at) old.stand line) old.awaited) → IfOk judged (λ error. CountsOne error errors now_errors) →
-          StepsTally (only_of at) old.world old.stand line (tally errors old.awaited) (tally now_errors new.awaited) judged
+      steps : (judged : Result Bool LineRunFault) → IfOk judged (λ error. error ≡ has_error (only_of at) old.world (resolved_at (only_of at) old.position line) old.awaited) →
+          OnOk judged (new.awaited ≡ awaited_after old.position.number (resolved_at (only_of at) old.position line) old.awaited) → IfOk judged (λ error. CountsOne error errors now_errors) →
+          StepsTally (only_of at) old.world old.position line (tally errors old.awaited) (tally now_errors new.awaited) judged
       steps (Ok error) judged expects counts = record { judged = judged; expects = expects; counts = counts }
       steps (Err fault) judged expects counts = tt
 
-      here : RunsLine (only_of at) telling calls (seen_old at) (seen_new at) (resolved_at (only_of at) old.stand line) failed judged old new
+      here : RunsLine (only_of at) telling calls (seen_old at) (seen_new at) (resolved_at (only_of at) old.position line) failed judged old new
       here =
-          subst (λ t. RunsLine (only_of at) t calls (seen_old at) (seen_new at) (resolved_at (only_of at) old.stand line) failed judged old new) tells_is
-          (subst (λ r. RunsLine (only_of r) now_telling calls (seen_old r) (seen_new r) (resolved_at (only_of r) old.stand line) failed judged old new) run_is plays)
+          subst (λ t. RunsLine (only_of at) t calls (seen_old at) (seen_new at) (resolved_at (only_of at) old.position line) failed judged old new) tells_is
+          (subst (λ r. RunsLine (only_of r) now_telling calls (seen_old r) (seen_new r) (resolved_at (only_of r) old.position line) failed judged old new) run_is plays)
 
-      watches : Watches (seen_old at) start (calls_answered (only_of at) (turns_of (only_of at) start first xs)) old.world
+      watches : Watches (seen_old at) start (calls_answered (only_of at) (steps_of (only_of at) start first xs)) old.world
       watches = record { leads = led.world_is; sees = led.sees }
 
 -- at first no line is
@@ -188,8 +188,8 @@ module _ (A : Type 0) (calls : Bool) (only : Option (List ℕ)) (old new : World
 
   -- what is known however it ends
   ends_at : (lines : List (List ℕ)) (fault : Option LineRunFault) → EndsAs leads stops fault lines →
-      A × (new ≡ after_all only old (calls_of_steps (turns_of only old first lines))) × TakesMemoryFor calls fault (turns_of only old first lines) × IfNone fault (Tallies only old begun then (turns_of only old first lines))
-      × IfNone fault (seen (calls_answered only (turns_of only old first lines))) × IfNone fault (reports lines × (then.awaited ≡ awaited_behind begun.awaited (turns_of only old first lines)))
+      A × (new ≡ after_all only old (calls_of_steps (steps_of only old first lines))) × TakesMemoryFor calls fault (steps_of only old first lines) × IfNone fault (Tallies only old begun then (steps_of only old first lines))
+      × IfNone fault (seen (calls_answered only (steps_of only old first lines))) × IfNone fault (reports lines × (then.awaited ≡ awaited_behind begun.awaited (steps_of only old first lines)))
   ends_at lines None ended = (ended.0, ended.1.world_is, tt, ended.1.tallies, ended.1.sees, (ended.1.reported, ended.1.tallies.awaits))
   ends_at lines (Some ReadFault) ended = (ended.0, ended.1.world_is, tt, tt, tt, tt)
   ends_at lines (Some WriteFault) ended = ⊎_elim (λ on. (on.0, on.1.world_is, tt, tt, tt, tt)) (λ stopped. (stopped.0, stopped.1.world_is, tt, tt, tt, tt)) ended
@@ -197,16 +197,16 @@ module _ (A : Type 0) (calls : Bool) (only : Option (List ℕ)) (old new : World
   ends_at lines (Some NoMemory) ended = (ended.0, ended.1.world_is, ended.1.takes, tt, tt, tt)
 
   module _ (tells : List (List ℕ) → ℕ → List ℕ → List ℕ) {fault : Option LineRunFault} {count : ℕ} {front : List ℕ} {input rest : Option (List ℕ)} {failed : Bool} {w w' : Option (List ℕ)}
-      (plays : PlaysLines (λ lines. text_of_steps tells only [] (turns_of only old first lines)) leads stops fault count most_lines front input rest failed w w') where
+      (plays : PlaysLines (λ lines. text_of_steps tells only [] (steps_of only old first lines)) leads stops fault count most_lines front input rest failed w w') where
     pub remains : A
     remains = (ends_at plays.given fault plays.ends_as).0
 
-    pub world_left : new ≡ after_all only old (calls_of_steps (turns_of only old first plays.given))
+    pub world_left : new ≡ after_all only old (calls_of_steps (steps_of only old first plays.given))
     world_left = (ends_at plays.given fault plays.ends_as).1
 
     -- the turns of the lines were played
-    pub turns_played : RunsAll tells calls seen (Tallies only old begun then) (λ lines. reports lines × (then.awaited ≡ awaited_behind begun.awaited (turns_of only old first lines))) only first fault count old new front input rest failed w w'
-    turns_played = record {
+    pub steps_run : RunsAll tells calls seen (Tallies only old begun then) (λ lines. reports lines × (then.awaited ≡ awaited_behind begun.awaited (steps_of only old first lines))) only first fault count old new front input rest failed w w'
+    steps_run = record {
       given = plays.given;
       readable = plays.readable;
       world = world_left;
@@ -240,7 +240,7 @@ complaints_work (Some fault) k a writing = tt
 
 -- what is complained of then may not be told
 pub plays_closed : {tells : List (List ℕ) → ℕ → List ℕ → List ℕ} {calls : Bool} {seen : List (List ℕ) → Type 0} {counts closed : List LineStep → Type 0} {reports all : List (List ℕ) → Type 0} {only : Option (List ℕ)} {first : RunPosition} {count : ℕ} {old new : World} {front : List ℕ} {input rest : Option (List ℕ)} {failed : Bool} {w w' : Option (List ℕ)}
-    (fault ended : Option LineRunFault) (a b : Bool) → ClosesAs fault ended a b → IfNone ended ((turns : List LineStep) → counts turns → closed turns) → IfNone ended ((lines : List (List ℕ)) → reports lines → all lines) →
+    (fault ended : Option LineRunFault) (a b : Bool) → ClosesAs fault ended a b → IfNone ended ((steps : List LineStep) → counts steps → closed steps) → IfNone ended ((lines : List (List ℕ)) → reports lines → all lines) →
     RunsAll tells calls seen counts reports only first fault count old new front input rest failed w w' → RunsAll tells calls seen closed all only first ended count old new front input rest failed w w'
 plays_closed None None a b closes more last plays = record {
   given = plays.given;
@@ -286,13 +286,13 @@ plays_closed (Some fault) ended a b closes more last plays =
 
 -- an expected log line that no call follows is counted then
 pub closed_counts : (only : Option (List ℕ)) (start : World) (begun : Tally) (errors now_errors : ℕ) (awaited : Awaited) (ended : Option LineRunFault) → IfNone ended (CountsOne (is_some awaited.first) errors now_errors) →
-    IfNone ended ((turns : List LineStep) → Tallies only start begun (tally errors awaited) turns → CountsErrors only start begun now_errors turns)
-closed_counts only start begun errors now_errors awaited None counts = λ turns led. errors_counted only start begun (tally errors awaited) turns now_errors led counts
+    IfNone ended ((steps : List LineStep) → Tallies only start begun (tally errors awaited) steps → CountsErrors only start begun now_errors steps)
+closed_counts only start begun errors now_errors awaited None counts = λ steps led. errors_counted only start begun (tally errors awaited) steps now_errors led counts
 closed_counts only start begun errors now_errors awaited (Some fault) counts = tt
 
 -- and reported
 pub closed_reports : (scope : ReportScope) (only : Option (List ℕ)) (start : World) (first : RunPosition) (begun awaited : Awaited) (w w' w'' : Option (List ℕ)) (ended : Option LineRunFault) → IfNone ended (Appends w' w'' (left_over_report scope.subject awaited)) →
-    IfNone ended ((lines : List (List ℕ)) → WritesReports scope (start_at only start first begun) w w' lines × (awaited ≡ awaited_behind begun (turns_of only start first lines)) → WritesAllReports scope (start_at only start first begun) w w'' lines)
+    IfNone ended ((lines : List (List ℕ)) → WritesReports scope (start_at only start first begun) w w' lines × (awaited ≡ awaited_behind begun (steps_of only start first lines)) → WritesAllReports scope (start_at only start first begun) w w'' lines)
 closed_reports scope only start first begun awaited w w' w'' None reported = λ lines led. reports_closed scope only start first begun awaited w w' w'' lines led.1 led.0 reported
 closed_reports scope only start first begun awaited w w' w'' (Some fault) reported = tt
 

@@ -8,7 +8,7 @@ use Rattle.own_model.proofs.RunningLemmas.{Tracks-none, transcript_after-running
 use Rattle.run_lines.specs.Answered.{after_all, output_of_lines}
 use Rattle.run_lines.proofs.ToldLemmas.{left_by_both, left_none, said_by-append, said_none, running_transcript-append, world_running-append}
 use Rattle.run_scenario.specs.RunCalls.{calls_answered, calls_of_steps, engine_text, text_of_calls, text_of_steps}
-use Rattle.run_scenario.specs.LineSteps.{LineStep, call_of, calls_in, resolved_at, left_behind, next_stand, stand_behind, turn_of, turns_of}
+use Rattle.run_scenario.specs.LineSteps.{LineStep, call_of, calls_in, resolved_at, left_behind, next_position, position_behind, step_of, steps_of}
 use Rattle.line_steps.specs.ResolvedLines.{is_skipped, resolved_by}
 use Rattle.line_steps.specs.ResolvedLines.ResolvedLine.{TooLong, Skipped}
 use Rattle.line_names.specs.Filling.{filled}
@@ -17,34 +17,34 @@ use Rattle.line_steps.specs.RunPosition.{RunPosition}
 use Rattle.run_scenario.proofs.SaidLemmas.{is_long, is_short}
 
 -- what a line is that isn't too long, and isn't skipped
-pub resolved_own : (only : Option (List ℕ)) (stand : RunPosition) (line : List ℕ) → length line ≤ longest_line → is_skipped only line ≡ false → resolved_at only stand line ≡ resolved_by stand.known line (filled stand.known line)
-resolved_own only stand line short own =
-    ap (λ b. cond b (cond (is_skipped only line) Skipped (resolved_by stand.known line (filled stand.known line))) TooLong) (is_short (length line) short)
-    ∙ ap (λ b. cond b Skipped (resolved_by stand.known line (filled stand.known line))) own
+pub resolved_own : (only : Option (List ℕ)) (position : RunPosition) (line : List ℕ) → length line ≤ longest_line → is_skipped only line ≡ false → resolved_at only position line ≡ resolved_by position.known line (filled position.known line)
+resolved_own only position line short own =
+    ap (λ b. cond b (cond (is_skipped only line) Skipped (resolved_by position.known line (filled position.known line))) TooLong) (is_short (length line) short)
+    ∙ ap (λ b. cond b Skipped (resolved_by position.known line (filled position.known line))) own
 
 -- one that is skipped
-pub resolved_skipped : (only : Option (List ℕ)) (stand : RunPosition) (line : List ℕ) → length line ≤ longest_line → is_skipped only line ≡ true → Skipped ≡ resolved_at only stand line
-resolved_skipped only stand line short skipped =
-    sym (ap (λ b. cond b (cond (is_skipped only line) Skipped (resolved_by stand.known line (filled stand.known line))) TooLong) (is_short (length line) short)
-    ∙ ap (λ b. cond b Skipped (resolved_by stand.known line (filled stand.known line))) skipped)
+pub resolved_skipped : (only : Option (List ℕ)) (position : RunPosition) (line : List ℕ) → length line ≤ longest_line → is_skipped only line ≡ true → Skipped ≡ resolved_at only position line
+resolved_skipped only position line short skipped =
+    sym (ap (λ b. cond b (cond (is_skipped only line) Skipped (resolved_by position.known line (filled position.known line))) TooLong) (is_short (length line) short)
+    ∙ ap (λ b. cond b Skipped (resolved_by position.known line (filled position.known line))) skipped)
 
 -- and one that is too long
-pub resolved_long : (only : Option (List ℕ)) (stand : RunPosition) (line : List ℕ) → longest_line < length line → resolved_at only stand line ≡ TooLong
-resolved_long only stand line long =
-    ap (λ b. cond b (cond (is_skipped only line) Skipped (resolved_by stand.known line (filled stand.known line))) TooLong) (is_long (length line) long)
+pub resolved_long : (only : Option (List ℕ)) (position : RunPosition) (line : List ℕ) → longest_line < length line → resolved_at only position line ≡ TooLong
+resolved_long only position line long =
+    ap (λ b. cond b (cond (is_skipped only line) Skipped (resolved_by position.known line (filled position.known line))) TooLong) (is_long (length line) long)
 
 -- there is a turn for each line
-pub turns_length : (only : Option (List ℕ)) (world : World) (stand : RunPosition) (lines : List (List ℕ)) → length (turns_of only world stand lines) ≡ length lines
-turns_length only world stand [] = refl
-turns_length only world stand (line ∷ lines) = omega (arith, turns_length only (left_behind only world stand line) (next_stand only world stand line) lines)
+pub steps_length : (only : Option (List ℕ)) (world : World) (position : RunPosition) (lines : List (List ℕ)) → length (steps_of only world position lines) ≡ length lines
+steps_length only world position [] = refl
+steps_length only world position (line ∷ lines) = omega (arith, steps_length only (left_behind only world position line) (next_position only world position line) lines)
 
 -- the calls of turns, and then of others
 pub calls_of_steps-append : (xs ys : List LineStep) → calls_of_steps (xs ++ ys) ≡ calls_of_steps xs ++ calls_of_steps ys
-calls_of_steps-append xs ys = flat_map-append (λ turn. calls_in turn.resolved) xs ys
+calls_of_steps-append xs ys = flat_map-append (λ step. calls_in step.resolved) xs ys
 
 -- of one
-pub calls_of_steps-one : (turn : LineStep) → calls_of_steps (turn ∷ []) ≡ calls_in turn.resolved
-calls_of_steps-one turn = append-nil (calls_in turn.resolved)
+pub calls_of_steps-one : (step : LineStep) → calls_of_steps (step ∷ []) ≡ calls_in step.resolved
+calls_of_steps-one step = append-nil (calls_in step.resolved)
 
 -- what is told of a call that is answered
 pub told_of_one : (tells : List (List ℕ) → ℕ → List ℕ → List ℕ) (earlier : List (List ℕ)) (number : ℕ) (call : List ℕ) (calls : List (List ℕ)) → calls ≡ call ∷ [] →
@@ -59,8 +59,8 @@ module _ (only : Option (List ℕ)) where
       ∙ ap (λ calls. earlier ++ calls) (sym (ap (said_by only) (calls_of_steps-append xs ys) ∙ said_by-append only (calls_of_steps xs) (calls_of_steps ys)))
 
   -- of one
-  pub answered-one : (turn : LineStep) → calls_answered only (turn ∷ []) ≡ said_by only (calls_in turn.resolved)
-  answered-one turn = ap (said_by only) (calls_of_steps-one turn)
+  pub answered-one : (step : LineStep) → calls_answered only (step ∷ []) ≡ said_by only (calls_in step.resolved)
+  answered-one step = ap (said_by only) (calls_of_steps-one step)
 
   -- the world that both leave
   left_by_turns : (world mid last : World) (xs ys : List LineStep) → mid ≡ after_all only world (calls_of_steps xs) → last ≡ after_all only mid (calls_of_steps ys) →
@@ -70,46 +70,46 @@ module _ (only : Option (List ℕ)) where
 
   -- ---- the turns of lines, and then of others
 
-  left_on : (world : World) (stand : RunPosition) (x : List ℕ) (turns : List LineStep) →
-      after_all only (left_behind only world stand x) (calls_of_steps turns) ≡ after_all only world (calls_of_steps (turn_of only stand x ∷ turns))
-  left_on world stand x turns = left_by_both only world (left_behind only world stand x) _ (call_of only stand x) (calls_of_steps turns) refl refl
+  left_on : (world : World) (position : RunPosition) (x : List ℕ) (steps : List LineStep) →
+      after_all only (left_behind only world position x) (calls_of_steps steps) ≡ after_all only world (calls_of_steps (step_of only position x ∷ steps))
+  left_on world position x steps = left_by_both only world (left_behind only world position x) _ (call_of only position x) (calls_of_steps steps) refl refl
 
-  turns_of-append : (world : World) (stand : RunPosition) (xs ys : List (List ℕ)) →
-      turns_of only world stand (xs ++ ys)
-      ≡ turns_of only world stand xs ++ turns_of only (after_all only world (calls_of_steps (turns_of only world stand xs))) (stand_behind only world stand xs) ys
-  turns_of-append world stand [] ys = ap (λ w. turns_of only w stand ys) (sym (left_none only world))
-  turns_of-append world stand (x ∷ xs) ys =
-      let left = left_behind only world stand x in
-      let next = next_stand only world stand x in
-      ap (λ turns. turn_of only stand x ∷ turns)
-      (turns_of-append left next xs ys
-      ∙ ap (λ w. turns_of only left next xs ++ turns_of only w (stand_behind only left next xs) ys) (left_on world stand x (turns_of only left next xs)))
+  steps_of-append : (world : World) (position : RunPosition) (xs ys : List (List ℕ)) →
+      steps_of only world position (xs ++ ys)
+      ≡ steps_of only world position xs ++ steps_of only (after_all only world (calls_of_steps (steps_of only world position xs))) (position_behind only world position xs) ys
+  steps_of-append world position [] ys = ap (λ w. steps_of only w position ys) (sym (left_none only world))
+  steps_of-append world position (x ∷ xs) ys =
+      let left = left_behind only world position x in
+      let next = next_position only world position x in
+      ap (λ steps. step_of only position x ∷ steps)
+      (steps_of-append left next xs ys
+      ∙ ap (λ w. steps_of only left next xs ++ steps_of only w (position_behind only left next xs) ys) (left_on world position x (steps_of only left next xs)))
 
-  stand_behind-append : (world : World) (stand : RunPosition) (xs ys : List (List ℕ)) →
-      stand_behind only world stand (xs ++ ys) ≡ stand_behind only (after_all only world (calls_of_steps (turns_of only world stand xs))) (stand_behind only world stand xs) ys
-  stand_behind-append world stand [] ys = ap (λ w. stand_behind only w stand ys) (sym (left_none only world))
-  stand_behind-append world stand (x ∷ xs) ys =
-      let left = left_behind only world stand x in
-      let next = next_stand only world stand x in
-      stand_behind-append left next xs ys
-      ∙ ap (λ w. stand_behind only w (stand_behind only left next xs) ys) (left_on world stand x (turns_of only left next xs))
+  position_behind-append : (world : World) (position : RunPosition) (xs ys : List (List ℕ)) →
+      position_behind only world position (xs ++ ys) ≡ position_behind only (after_all only world (calls_of_steps (steps_of only world position xs))) (position_behind only world position xs) ys
+  position_behind-append world position [] ys = ap (λ w. position_behind only w position ys) (sym (left_none only world))
+  position_behind-append world position (x ∷ xs) ys =
+      let left = left_behind only world position x in
+      let next = next_position only world position x in
+      position_behind-append left next xs ys
+      ∙ ap (λ w. position_behind only w (position_behind only left next xs) ys) (left_on world position x (steps_of only left next xs))
 
-  module _ (world mid : World) (stand next : RunPosition) (xs ys : List (List ℕ)) (left : mid ≡ after_all only world (calls_of_steps (turns_of only world stand xs)))
-      (stands : next ≡ stand_behind only world stand xs) where
-    pub turns_more : turns_of only world stand xs ++ turns_of only mid next ys ≡ turns_of only world stand (xs ++ ys)
-    turns_more = (λ i. turns_of only world stand xs ++ turns_of only (left i) (stands i) ys) ∙ sym (turns_of-append world stand xs ys)
+  module _ (world mid : World) (position next : RunPosition) (xs ys : List (List ℕ)) (left : mid ≡ after_all only world (calls_of_steps (steps_of only world position xs)))
+      (stands : next ≡ position_behind only world position xs) where
+    pub more_steps : steps_of only world position xs ++ steps_of only mid next ys ≡ steps_of only world position (xs ++ ys)
+    more_steps = (λ i. steps_of only world position xs ++ steps_of only (left i) (stands i) ys) ∙ sym (steps_of-append world position xs ys)
 
-    pub stand_more : stand_behind only mid next ys ≡ stand_behind only world stand (xs ++ ys)
-    stand_more = (λ i. stand_behind only (left i) (stands i) ys) ∙ sym (stand_behind-append world stand xs ys)
+    pub position_more : position_behind only mid next ys ≡ position_behind only world position (xs ++ ys)
+    position_more = (λ i. position_behind only (left i) (stands i) ys) ∙ sym (position_behind-append world position xs ys)
 
-    pub left_more : (last : World) → last ≡ after_all only mid (calls_of_steps (turns_of only mid next ys)) → last ≡ after_all only world (calls_of_steps (turns_of only world stand (xs ++ ys)))
+    pub left_more : (last : World) → last ≡ after_all only mid (calls_of_steps (steps_of only mid next ys)) → last ≡ after_all only world (calls_of_steps (steps_of only world position (xs ++ ys)))
     left_more last then =
-        left_by_turns world mid last (turns_of only world stand xs) (turns_of only mid next ys) left then ∙ ap (λ turns. after_all only world (calls_of_steps turns)) turns_more
+        left_by_turns world mid last (steps_of only world position xs) (steps_of only mid next ys) left then ∙ ap (λ steps. after_all only world (calls_of_steps steps)) more_steps
 
     pub answered_more : (earlier : List (List ℕ)) →
-        (earlier ++ calls_answered only (turns_of only world stand xs)) ++ calls_answered only (turns_of only mid next ys) ≡ earlier ++ calls_answered only (turns_of only world stand (xs ++ ys))
+        (earlier ++ calls_answered only (steps_of only world position xs)) ++ calls_answered only (steps_of only mid next ys) ≡ earlier ++ calls_answered only (steps_of only world position (xs ++ ys))
     answered_more earlier =
-        answered-append earlier (turns_of only world stand xs) (turns_of only mid next ys) ∙ ap (λ turns. earlier ++ calls_answered only turns) turns_more
+        answered-append earlier (steps_of only world position xs) (steps_of only mid next ys) ∙ ap (λ steps. earlier ++ calls_answered only steps) more_steps
 
   module _ (tells : List (List ℕ) → ℕ → List ℕ → List ℕ) where
     -- what is told of both
@@ -127,18 +127,18 @@ module _ (only : Option (List ℕ)) where
         ∙ sym (append_assoc told (text_of_steps tells only next xs) (text_of_steps tells only (next ++ calls_answered only xs) ys))
         ∙ ap (λ c. text_of_steps tells only earlier (x ∷ xs) ++ text_of_steps tells only c ys) calls
 
-    pub told_more : (world mid : World) (stand next : RunPosition) (earlier xs ys : List (List ℕ)) → mid ≡ after_all only world (calls_of_steps (turns_of only world stand xs)) →
-        next ≡ stand_behind only world stand xs →
-        text_of_steps tells only earlier (turns_of only world stand xs) ++ text_of_steps tells only (earlier ++ calls_answered only (turns_of only world stand xs)) (turns_of only mid next ys)
-        ≡ text_of_steps tells only earlier (turns_of only world stand (xs ++ ys))
-    told_more world mid stand next earlier xs ys left stands =
-        sym (text_of_steps-append earlier (turns_of only world stand xs) (turns_of only mid next ys))
-        ∙ ap (text_of_steps tells only earlier) (turns_more world mid stand next xs ys left stands)
+    pub told_more : (world mid : World) (position next : RunPosition) (earlier xs ys : List (List ℕ)) → mid ≡ after_all only world (calls_of_steps (steps_of only world position xs)) →
+        next ≡ position_behind only world position xs →
+        text_of_steps tells only earlier (steps_of only world position xs) ++ text_of_steps tells only (earlier ++ calls_answered only (steps_of only world position xs)) (steps_of only mid next ys)
+        ≡ text_of_steps tells only earlier (steps_of only world position (xs ++ ys))
+    told_more world mid position next earlier xs ys left stands =
+        sym (text_of_steps-append earlier (steps_of only world position xs) (steps_of only mid next ys))
+        ∙ ap (text_of_steps tells only earlier) (more_steps world mid position next xs ys left stands)
 
     -- of one
-    pub text_of_steps-one : (earlier : List (List ℕ)) (turn : LineStep) →
-        text_of_calls tells earlier turn.number (said_by only (calls_in turn.resolved)) ≡ text_of_steps tells only earlier (turn ∷ [])
-    text_of_steps-one earlier turn = sym (append-nil (text_of_calls tells earlier turn.number (said_by only (calls_in turn.resolved))))
+    pub text_of_steps-one : (earlier : List (List ℕ)) (step : LineStep) →
+        text_of_calls tells earlier step.number (said_by only (calls_in step.resolved)) ≡ text_of_steps tells only earlier (step ∷ [])
+    text_of_steps-one earlier step = sym (append-nil (text_of_calls tells earlier step.number (said_by only (calls_in step.resolved))))
 
 -- ---- the engine's transcript
 
@@ -152,20 +152,20 @@ told_calls_as_engine start earlier number (call ∷ calls) =
     ∙ sym (running_transcript-append (world_running start earlier) (call ∷ []) calls)
 
 -- is what is told of all turns' calls
-told_turns_as_engine : (only : Option (List ℕ)) (start : World) (earlier : List (List ℕ)) (turns : List LineStep) →
-    text_of_steps (engine_text start) only earlier turns ≡ output_of_lines None (world_running start earlier) (calls_answered only turns)
-told_turns_as_engine only start earlier [] = sym (ap (output_of_lines None (world_running start earlier)) (said_none only))
-told_turns_as_engine only start earlier (turn ∷ turns) =
-    let here = said_by only (calls_in turn.resolved) in
+steps_told_as_engine : (only : Option (List ℕ)) (start : World) (earlier : List (List ℕ)) (steps : List LineStep) →
+    text_of_steps (engine_text start) only earlier steps ≡ output_of_lines None (world_running start earlier) (calls_answered only steps)
+steps_told_as_engine only start earlier [] = sym (ap (output_of_lines None (world_running start earlier)) (said_none only))
+steps_told_as_engine only start earlier (step ∷ steps) =
+    let here = said_by only (calls_in step.resolved) in
     let world = world_running start earlier in
-    ap (λ text. text ++ text_of_steps (engine_text start) only (earlier ++ here) turns) (told_calls_as_engine start earlier turn.number here)
-    ∙ ap (λ text. output_of_lines None world here ++ text) (told_turns_as_engine only start (earlier ++ here) turns)
-    ∙ ap (λ w. output_of_lines None world here ++ output_of_lines None w (calls_answered only turns)) (sym (world_running-append start earlier here))
-    ∙ sym (running_transcript-append world here (calls_answered only turns))
-    ∙ ap (output_of_lines None world) (sym (said_by-append only (calls_in turn.resolved) (calls_of_steps turns)))
+    ap (λ text. text ++ text_of_steps (engine_text start) only (earlier ++ here) steps) (told_calls_as_engine start earlier step.number here)
+    ∙ ap (λ text. output_of_lines None world here ++ text) (steps_told_as_engine only start (earlier ++ here) steps)
+    ∙ ap (λ w. output_of_lines None world here ++ output_of_lines None w (calls_answered only steps)) (sym (world_running-append start earlier here))
+    ∙ sym (running_transcript-append world here (calls_answered only steps))
+    ∙ ap (output_of_lines None world) (sym (said_by-append only (calls_in step.resolved) (calls_of_steps steps)))
 
 -- which is the transcript of the calls
-pub told_as_engine : (only : Option (List ℕ)) (start : World) (turns : List LineStep) → text_of_steps (engine_text start) only [] turns ≡ transcript_of only start turns
-told_as_engine only start turns =
-    told_turns_as_engine only start [] turns
-    ∙ sym (transcript_after-running start.entries start.states start.states [] (calls_answered only turns) (Tracks-none start.entries start.states))
+pub told_as_engine : (only : Option (List ℕ)) (start : World) (steps : List LineStep) → text_of_steps (engine_text start) only [] steps ≡ transcript_of only start steps
+told_as_engine only start steps =
+    steps_told_as_engine only start [] steps
+    ∙ sym (transcript_after-running start.entries start.states start.states [] (calls_answered only steps) (Tracks-none start.entries start.states))

@@ -1,6 +1,5 @@
 -- What is written for a line, case by case.
-use Rattle.std.proofs.Common.{◌≡◌, ℕ, Bool, true, false, List, [], ◌∷◌, Option, Some, None, is_some, refl}
-use Rattle.std.proofs.lemmas.Bool.{or_parts}
+use Rattle.std.proofs.Common.{◌≡◌, ℕ, true, false, List, [], ◌∷◌, is_some, refl}
 use Rattle.std.specs.Prelude.{codes}
 use Rattle.std.specs.Str.{bytes_eq}
 use Rattle.own_model.specs.Listed.{Listed}
@@ -13,10 +12,8 @@ use Rattle.view_diagnostics.specs.declared.diagnostics.Severity.TheVariants.{Err
 use Rattle.view_diagnostics.specs.declared.place.FilePlace.{FilePlace}
 use Rattle.view_diagnostics.specs.declared.place.FilePlace.TheVariants.{Byte}
 use Rattle.run_scenario.specs.Complaints.{log_lines_pieces, reply_pieces, unknown_pieces}
-use Rattle.line_names.specs.NameTable.{NameTable}
-use Rattle.run_scenario.specs.Judging.{AnswerText, Awaited, is_other, is_unknown_call, is_unknown_in, text_in}
-use Rattle.run_scenario.specs.Reports.{CheckedLine, answer_report, call_report, checked_plain, near_name, silent_report, without_last}
-use Rattle.run_scenario.specs.declared.source_line.SourceLine.{SourceLine}
+use Rattle.run_scenario.specs.Judging.{Awaited, is_unknown_call}
+use Rattle.run_scenario.specs.Reports.{CheckedLine, answer_report, near_name, silent_report, without_last}
 
 module _ (subject : SubjectAt) (place : FilePlace) (answer : LineAnswer) (reply : List ℕ) (awaited : Awaited) where
   pub other_reply : meets answer.reply.now reply ≡ false → answer_report subject place answer reply awaited ≡ diagnostic subject place Error (reply_pieces answer.outcome answer.reply.now reply)
@@ -47,18 +44,3 @@ module _ (subject : SubjectAt) (list : Listed) (asked : CheckedLine) (answer : L
   pub no_silent : is_some awaited.first ≡ false → is_unknown_call (is_passed asked.line) answer.reply.now ≡ false → silent_report subject list asked answer awaited ≡ []
   unfolding silent_report
   no_silent none is = rw (none, is) refl
-
--- ---- a plain call
-
--- no log lines are expected, and the name is known
-pub no_other_plain : (passed : Bool) (o : Option AnswerText) (awaited : Awaited) → is_some awaited.first ≡ false → is_unknown_in o ≡ false → is_other passed None o awaited ≡ false
-no_other_plain passed None awaited none known = refl
-no_other_plain passed (Some answer) awaited none known = rw (none, known) refl
-
--- nothing is written of an answer that doesn't differ
-pub silent_plain : (subject : SubjectAt) (list : Listed) (known : NameTable) (given : SourceLine) (o : Option LineAnswer) (awaited : Awaited) → is_other (is_passed given.line.now) None (text_in o) awaited ≡ false →
-    call_report subject list known (checked_plain given) o awaited ≡ []
-silent_plain subject list known given None awaited same = refl
-silent_plain subject list known given (Some answer) awaited same =
-    let parts = or_parts (is_some awaited.first) (is_unknown_call (is_passed given.line.now) answer.reply.now) same in
-    no_silent subject list (checked_plain given) answer awaited parts.0 parts.1

@@ -35,27 +35,27 @@ module _ (only : Option (List ℕ)) where
       omega (arith, errors_in-append left next xs ys, ap (λ w. errors_in only w (awaited_behind next xs) ys) both)
 
   -- a line has one error at most
-  pub few_errors : (world : World) (awaited : Awaited) (turns : List LineStep) → errors_in only world awaited turns ≤ length turns
+  pub few_errors : (world : World) (awaited : Awaited) (steps : List LineStep) → errors_in only world awaited steps ≤ length steps
   few_errors world awaited [] = omega arith
-  few_errors world awaited (turn ∷ turns) =
+  few_errors world awaited (step ∷ steps) =
       omega (
         arith,
-        one_at_most (has_error only world turn.resolved awaited),
-        few_errors (after_all only world (calls_in turn.resolved)) (awaited_after turn.number turn.resolved awaited) turns,
+        one_at_most (has_error only world step.resolved awaited),
+        few_errors (after_all only world (calls_in step.resolved)) (awaited_after step.number step.resolved awaited) steps,
       )
 
   -- one step more
-  pub tallies_more : (start mid : World) (old now next : Tally) (turns : List LineStep) (turn : LineStep) (error : Bool) → mid ≡ after_all only start (calls_of_steps turns) →
-      Tallies only start old now turns → error ≡ has_error only mid turn.resolved now.awaited → next.awaited ≡ awaited_after turn.number turn.resolved now.awaited →
-      CountsOne error now.errors next.errors → Tallies only start old next (turns ++ turn ∷ [])
-  tallies_more start mid old now next turns turn error left led judged awaits counts = record {
-    awaits = awaits ∙ ap (awaited_after turn.number turn.resolved) led.awaits ∙ sym (awaited_behind-append old.awaited turns (turn ∷ []));
+  pub tallies_more : (start mid : World) (old now next : Tally) (steps : List LineStep) (step : LineStep) (error : Bool) → mid ≡ after_all only start (calls_of_steps steps) →
+      Tallies only start old now steps → error ≡ has_error only mid step.resolved now.awaited → next.awaited ≡ awaited_after step.number step.resolved now.awaited →
+      CountsOne error now.errors next.errors → Tallies only start old next (steps ++ step ∷ [])
+  tallies_more start mid old now next steps step error left led judged awaits counts = record {
+    awaits = awaits ∙ ap (awaited_after step.number step.resolved) led.awaits ∙ sym (awaited_behind-append old.awaited steps (step ∷ []));
     counts = λ fits.
-        let one : from_bool error ≡ from_bool (has_error only (after_all only start (calls_of_steps turns)) turn.resolved (awaited_behind old.awaited turns)) =
-        ap from_bool (judged ∙ (λ i. has_error only (left i) turn.resolved (led.awaits i))) in
-        let more : errors_in only start old.awaited (turns ++ turn ∷ []) ≡ errors_in only start old.awaited turns + from_bool error =
-        omega (arith, errors_in-append start old.awaited turns (turn ∷ []), one) in
-        let before : now.errors ≡ old.errors + errors_in only start old.awaited turns = led.counts (omega (arith, more, fits)) in
+        let one : from_bool error ≡ from_bool (has_error only (after_all only start (calls_of_steps steps)) step.resolved (awaited_behind old.awaited steps)) =
+        ap from_bool (judged ∙ (λ i. has_error only (left i) step.resolved (led.awaits i))) in
+        let more : errors_in only start old.awaited (steps ++ step ∷ []) ≡ errors_in only start old.awaited steps + from_bool error =
+        omega (arith, errors_in-append start old.awaited steps (step ∷ []), one) in
+        let before : now.errors ≡ old.errors + errors_in only start old.awaited steps = led.counts (omega (arith, more, fits)) in
         omega (arith, more, before, counts (omega (arith, more, before, fits)));
   }
 
@@ -64,17 +64,17 @@ module _ (only : Option (List ℕ)) where
   tallies_none start old = record { awaits = refl; counts = λ fits. omega arith }
 
   -- behind the last line one may be left over
-  pub errors_counted : (start : World) (old now : Tally) (turns : List LineStep) (errors : ℕ) → Tallies only start old now turns → CountsOne (is_some now.awaited.first) now.errors errors →
-      CountsErrors only start old errors turns
-  errors_counted start old now turns errors led counts = λ fits.
-      let last : from_bool (is_some now.awaited.first) ≡ from_bool (is_some (awaited_behind old.awaited turns).first) = ap (λ (a : Awaited). from_bool (is_some a.first)) led.awaits in
-      let before : now.errors ≡ old.errors + errors_in only start old.awaited turns = led.counts (omega (arith, fits)) in
+  pub errors_counted : (start : World) (old now : Tally) (steps : List LineStep) (errors : ℕ) → Tallies only start old now steps → CountsOne (is_some now.awaited.first) now.errors errors →
+      CountsErrors only start old errors steps
+  errors_counted start old now steps errors led counts = λ fits.
+      let last : from_bool (is_some now.awaited.first) ≡ from_bool (is_some (awaited_behind old.awaited steps).first) = ap (λ (a : Awaited). from_bool (is_some a.first)) led.awaits in
+      let before : now.errors ≡ old.errors + errors_in only start old.awaited steps = led.counts (omega (arith, fits)) in
       omega (arith, last, before, counts (omega (arith, last, before, fits)))
 
   -- and no count stops at its bound
-  pub errors_exact : (start : World) (awaited : Awaited) (turns : List LineStep) (errors : ℕ) → length turns ≤ most_lines → CountsErrors only start (tally 0 awaited) errors turns →
-      errors ≡ errors_of only start awaited turns
-  errors_exact start awaited turns errors few counts =
-      let some : errors_in only start awaited turns ≤ length turns = few_errors start awaited turns in
-      let last : from_bool (is_some (awaited_behind awaited turns).first) ≤ 1 = one_at_most (is_some (awaited_behind awaited turns).first) in
+  pub errors_exact : (start : World) (awaited : Awaited) (steps : List LineStep) (errors : ℕ) → length steps ≤ most_lines → CountsErrors only start (tally 0 awaited) errors steps →
+      errors ≡ errors_of only start awaited steps
+  errors_exact start awaited steps errors few counts =
+      let some : errors_in only start awaited steps ≤ length steps = few_errors start awaited steps in
+      let last : from_bool (is_some (awaited_behind awaited steps).first) ≤ 1 = one_at_most (is_some (awaited_behind awaited steps).first) in
       omega (arith, counts (omega (arith, few, some, last)))

@@ -14,7 +14,7 @@ use Rattle.run_lines.proofs.GatheredLemmas.{Appends-more, Tells-gathered}
 use Rattle.run_lines.proofs.ToldLemmas.{left_none}
 use Rattle.run_lines.proofs.PlayLemmas.{none_readable}
 use Rattle.run_scenario.proofs.PlayLemmas.{cut_behind}
-use Rattle.run_scenario.proofs.PlayedLemmas.{turns_length}
+use Rattle.run_scenario.proofs.PlayedLemmas.{steps_length}
 use Rattle.run_scenario.proofs.TallyLemmas.{errors_exact}
 use Rattle.run_scenario.specs.Faults.{fault_before, unplayed}
 use Rattle.run_lines.specs.Faults.{is_write_fault}
@@ -24,7 +24,7 @@ use Rattle.run_scenario.specs.RunReports.{ReportScope, WritesAllReports, scope_o
 use Rattle.view_diagnostics.specs.Diagnostics.{SubjectAt}
 use Rattle.run_scenario.specs.ScenarioRuns.{CountsErrors, RunsAll, TakesMemoryFor, most_lines, tally}
 use Rattle.run_lines.specs.LineRuns.{EndsFor, WritesOutput}
-use Rattle.run_scenario.specs.LineSteps.{LineStep, calls_in, turns_of}
+use Rattle.run_scenario.specs.LineSteps.{LineStep, calls_in, steps_of}
 use Rattle.run_scenario.specs.Writes.{AreAll, Closes, IsRunFrom, IsWrittenBy, RunStart, WritesAfter, WritesBoth, start_at, start_on}
 use Rattle.run_scenario.specs.declared.scenario_end.ScenarioEnd.{ScenarioEnd}
 use Rattle.run_lines.specs.declared.line_run_fault.LineRunFault.{LineRunFault}
@@ -146,10 +146,10 @@ ends_both None None input rest lines failed w w' behind few ends after = ends
 ends_both None (Some fault) input rest lines failed w w' behind few ends after = rw after.0 (cut_behind input rest lines failed few ends)
 ends_both (Some fault) f' input rest lines failed w w' behind few ends after = rw after.0 ends
 
-takes_both : (calls : Bool) (f f' : Option LineRunFault) (turns : List LineStep) (w w' : Option (List ℕ)) (behind : List ℕ) → TakesMemoryFor calls f turns → WritesAfter f f' w w' behind → TakesMemoryFor calls f' turns
-takes_both calls None None turns w w' behind takes after = tt
-takes_both calls None (Some fault) turns w w' behind takes after = rw after.0 tt
-takes_both calls (Some fault) f' turns w w' behind takes after = rw after.0 takes
+takes_both : (calls : Bool) (f f' : Option LineRunFault) (steps : List LineStep) (w w' : Option (List ℕ)) (behind : List ℕ) → TakesMemoryFor calls f steps → WritesAfter f f' w w' behind → TakesMemoryFor calls f' steps
+takes_both calls None None steps w w' behind takes after = tt
+takes_both calls None (Some fault) steps w w' behind takes after = rw after.0 tt
+takes_both calls (Some fault) f' steps w w' behind takes after = rw after.0 takes
 
 -- how many lines there were
 counted_still : (f f' : Option LineRunFault) (count count' : ℕ) (w w' : Option (List ℕ)) (behind : List ℕ) (n : ℕ) →
@@ -166,10 +166,10 @@ reported_still (Some fault) f' w w' behind A reported after = rw after.0 tt
 
 -- how many errors there were
 errors_are : (only : Option (List ℕ)) (start : World) (first : RunPosition) (awaited : Awaited) (lines : List (List ℕ)) (errors : ℕ) → length lines ≤ most_lines →
-    (f : Option LineRunFault) → IfNone f (CountsErrors only start (tally 0 awaited) errors (turns_of only start first lines)) →
-    IfNone f (errors ≡ errors_of only start awaited (turns_of only start first lines))
+    (f : Option LineRunFault) → IfNone f (CountsErrors only start (tally 0 awaited) errors (steps_of only start first lines)) →
+    IfNone f (errors ≡ errors_of only start awaited (steps_of only start first lines))
 errors_are only start first awaited lines errors few None counts =
-    errors_exact only start awaited (turns_of only start first lines) errors (omega (arith, few, turns_length only start first lines)) counts
+    errors_exact only start awaited (steps_of only start first lines) errors (omega (arith, few, steps_length only start first lines)) counts
 errors_are only start first awaited lines errors few (Some fault) counts = tt
 
 -- what a play wrote and what was written behind it
@@ -177,22 +177,22 @@ pub played_from : {told behind : List LineStep → List ℕ} {calls : Bool} {tel
     {awaited : Awaited}
     {front : List ℕ} {input rest w w' w'' : Option (List ℕ)} {failed : Bool} (played ended : ScenarioEnd)
     (plays : RunsAll tells calls seen (CountsErrors only start (tally 0 awaited) played.complaints) reports only first played.fault played.lines start last front input rest failed w w') →
-    front ++ text_of_steps tells only [] (turns_of only start first plays.given) ≡ told (turns_of only start first plays.given) →
-    Closes played ended w' w'' (behind (turns_of only start first plays.given)) → IsRunFrom (start_at only start first awaited) told behind calls reports ended input rest failed w w''
+    front ++ text_of_steps tells only [] (steps_of only start first plays.given) ≡ told (steps_of only start first plays.given) →
+    Closes played ended w' w'' (behind (steps_of only start first plays.given)) → IsRunFrom (start_at only start first awaited) told behind calls reports ended input rest failed w w''
 played_from {told = told} {behind = behind} {calls = calls} {reports = reports} {only = only} {first = first} {start = start} {awaited = awaited} {input = input} {rest = rest} {w = w} {w' = w'} {w'' = w''} {failed = failed} played ended plays same closes =
-    let turns = turns_of only start first plays.given in
+    let steps = steps_of only start first plays.given in
     record {
       given = plays.given;
       readable = plays.readable;
-      ends = ends_both played.fault ended.fault input rest plays.given failed w' w'' (behind turns) plays.few plays.ends closes.writes;
-      takes = takes_both calls played.fault ended.fault turns w' w'' (behind turns) plays.takes closes.writes;
-      counted = counted_still played.fault ended.fault played.lines ended.lines w' w'' (behind turns) (length plays.given) plays.counted closes.lines closes.writes;
+      ends = ends_both played.fault ended.fault input rest plays.given failed w' w'' (behind steps) plays.few plays.ends closes.writes;
+      takes = takes_both calls played.fault ended.fault steps w' w'' (behind steps) plays.takes closes.writes;
+      counted = counted_still played.fault ended.fault played.lines ended.lines w' w'' (behind steps) (length plays.given) plays.counted closes.lines closes.writes;
       complained =
-          counted_still played.fault ended.fault played.complaints ended.complaints w' w'' (behind turns) (errors_of only start awaited turns)
+          counted_still played.fault ended.fault played.complaints ended.complaints w' w'' (behind steps) (errors_of only start awaited steps)
           (errors_are only start first awaited plays.given played.complaints plays.few played.fault plays.complained) closes.complaints closes.writes;
-      reported = reported_still played.fault ended.fault w' w'' (behind turns) (reports plays.given) plays.reported closes.writes;
+      reported = reported_still played.fault ended.fault w' w'' (behind steps) (reports plays.given) plays.reported closes.writes;
       writes =
-          writes_both played.fault ended.fault input rest plays.given failed w w' w'' (told turns) (behind turns) plays.ends
+          writes_both played.fault ended.fault input rest plays.given failed w w' w'' (told steps) (behind steps) plays.ends
           (subst (WritesOutput played.fault w w') same plays.told) closes.writes;
     }
 
@@ -205,7 +205,7 @@ pub played_on : (listed : Listed) {calls : Bool} (only : Option (List ℕ)) (fir
 played_on listed {calls = calls} only first told behind ending {start = start} {begun = begun} {awaited = awaited} {subject = subject} {noted = noted} {list = list} e e' input rest failed w w' starts begins none about played =
     subst (λ s. IsRunFrom (start_on only first listed) (told (world_of listed)) (behind (world_of listed)) calls (WritesAllReports (scope_of s list) (start_on only first listed) e e') ending input rest failed w w') about
     (subst (λ world. IsRunFrom (start_at only world first nothing_awaited) (told world) (behind world) calls (WritesAllReports (scope_of noted list) (start_at only world first nothing_awaited) e e') ending input rest failed w w') starts
-    (subst (λ stand. IsRunFrom (start_at only start stand nothing_awaited) (told start) (behind start) calls (WritesAllReports (scope_of noted list) (start_at only start stand nothing_awaited) e e') ending input rest failed w w') begins
+    (subst (λ position. IsRunFrom (start_at only start position nothing_awaited) (told start) (behind start) calls (WritesAllReports (scope_of noted list) (start_at only start position nothing_awaited) e e') ending input rest failed w w') begins
     (subst (λ expected. IsRunFrom (start_at only start begun expected) (told start) (behind start) calls (WritesAllReports (scope_of noted list) (start_at only start begun expected) e e') ending input rest failed w w') none played)))
 
 -- what the errors hold is what they hold at the end
@@ -271,8 +271,8 @@ silent_calls : (earlier : List (List ℕ)) (number : ℕ) (calls : List (List �
 silent_calls earlier number [] = refl
 silent_calls earlier number (call ∷ calls) = silent_calls (earlier ++ call ∷ []) number calls
 
-pub silent_turns : (only : Option (List ℕ)) (earlier : List (List ℕ)) (turns : List LineStep) → text_of_steps (λ _ _ _. []) only earlier turns ≡ []
-silent_turns only earlier [] = refl
-silent_turns only earlier (turn ∷ turns) =
-    ap (λ text. text ++ text_of_steps (λ _ _ _. []) only (earlier ++ said_by only (calls_in turn.resolved)) turns) (silent_calls earlier turn.number (said_by only (calls_in turn.resolved)))
-    ∙ silent_turns only (earlier ++ said_by only (calls_in turn.resolved)) turns
+pub silent_steps : (only : Option (List ℕ)) (earlier : List (List ℕ)) (steps : List LineStep) → text_of_steps (λ _ _ _. []) only earlier steps ≡ []
+silent_steps only earlier [] = refl
+silent_steps only earlier (step ∷ steps) =
+    ap (λ text. text ++ text_of_steps (λ _ _ _. []) only (earlier ++ said_by only (calls_in step.resolved)) steps) (silent_calls earlier step.number (said_by only (calls_in step.resolved)))
+    ∙ silent_steps only (earlier ++ said_by only (calls_in step.resolved)) steps

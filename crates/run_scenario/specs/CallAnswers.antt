@@ -40,11 +40,11 @@ abbrev pub answer_of : Option ObservedCall → Option LineAnswer
 answer_of o = option_map (λ it. it.answer) o
 
 -- a line of this number had its step: what it is after substitution, the world after its call, and the answer, if there is one
-pub record TakesStep (only : Option (List ℕ)) (number : ℕ) (resolved : ResolvedLine) (old new : World) (turn : LineStep) : Type 0 where
-  pub resolved_is : resolved_view turn.resolved ≡ resolved
+pub record TakesStep (only : Option (List ℕ)) (number : ℕ) (resolved : ResolvedLine) (old new : World) (step : LineStep) : Type 0 where
+  pub resolved_is : resolved_view step.resolved ≡ resolved
   pub world : new ≡ after_all only old (calls_in resolved)
-  pub heard : IsAnsweredCall only old number (calls_in resolved) turn.answered
-  pub read : IfSome turn.answered (λ it. IsReadAs it.line.now it.call)
+  pub heard : IsAnsweredCall only old number (calls_in resolved) step.answered
+  pub read : IfSome step.answered (λ it. IsReadAs it.line.now it.call)
 
 -- the calls of a line of this number led from one world to the next, all or those of one name; after earlier calls that were
 -- observed they are written, and are observed too, unless there is a fault

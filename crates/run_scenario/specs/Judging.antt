@@ -57,11 +57,6 @@ is_unknown reply = bytes_eq reply (refusal_name UnknownComponent)
 abbrev pub is_unknown_call : Bool → List ℕ → Bool
 is_unknown_call passed reply = is_unknown reply && not passed
 
--- the name of an answered call is unknown
-abbrev pub is_unknown_in : Option AnswerText → Bool
-is_unknown_in None = false
-is_unknown_in (Some answer) = is_unknown answer.reply
-
 -- an answer differs from its expectation: its reply doesn't match, or it has other log lines. Without an expected reply, it
 -- differs if log lines are expected or the call's name is unknown. A skipped call never differs
 abbrev pub is_other : Bool → Option (List ℕ) → Option AnswerText → Awaited → Bool
@@ -104,17 +99,17 @@ has_error only world resolved awaited = is_complained resolved (answer_to world 
 -- how many lines have an error, by their steps from this world and this expectation on
 abbrev pub errors_in : Option (List ℕ) → World → Awaited → List LineStep → ℕ
 errors_in only world awaited [] = 0
-errors_in only world awaited (turn ∷ turns) =
-    from_bool (has_error only world turn.resolved awaited)
-    + errors_in only (after_all only world (calls_in turn.resolved)) (awaited_after turn.number turn.resolved awaited) turns
+errors_in only world awaited (step ∷ steps) =
+    from_bool (has_error only world step.resolved awaited)
+    + errors_in only (after_all only world (calls_in step.resolved)) (awaited_after step.number step.resolved awaited) steps
 
 -- the expectation after these steps
 abbrev pub awaited_behind : Awaited → List LineStep → Awaited
 awaited_behind awaited [] = awaited
-awaited_behind awaited (turn ∷ turns) = awaited_behind (awaited_after turn.number turn.resolved awaited) turns
+awaited_behind awaited (step ∷ steps) = awaited_behind (awaited_after step.number step.resolved awaited) steps
 
 -- the number of errors of a scenario by the steps of its lines: one for each line that has an error, and one more if a log line is
 -- expected and no call follows it
 abbrev pub errors_of : Option (List ℕ) → World → Awaited → List LineStep → ℕ
-errors_of only world awaited turns =
-    errors_in only world awaited turns + from_bool (is_some (awaited_behind awaited turns).first)
+errors_of only world awaited steps =
+    errors_in only world awaited steps + from_bool (is_some (awaited_behind awaited steps).first)

@@ -35,14 +35,14 @@ plain_line line = Call (whole line) line None
 
 -- what a line is at a position of the run
 abbrev pub resolved_at : Option (List ℕ) → RunPosition → List ℕ → ResolvedLine
-resolved_at only stand line = resolved_line only stand.known line
+resolved_at only position line = resolved_line only position.known line
 
-abbrev pub turn_of : Option (List ℕ) → RunPosition → List ℕ → LineStep
-turn_of only stand line = record { number = stand.number; resolved = resolved_at only stand line; crosses = crosses stand }
+abbrev pub step_of : Option (List ℕ) → RunPosition → List ℕ → LineStep
+step_of only position line = record { number = position.number; resolved = resolved_at only position line; crosses = crosses position }
 
 -- the engine's line that a line says then, if it says a call
 abbrev pub call_of : Option (List ℕ) → RunPosition → List ℕ → List (List ℕ)
-call_of only stand line = calls_in (resolved_at only stand line)
+call_of only position line = calls_in (resolved_at only position line)
 
 -- a line has names that its reply binds
 abbrev pub binds_names : FilledLine → Bool
@@ -63,40 +63,40 @@ learnt_from world known filled [] = known
 learnt_from world known filled (call ∷ calls) = learnt known filled (reply_in world call)
 
 -- the position after a line was run in this world: its number was passed, and rounds may begin or end after it
-abbrev pub stand_after : Option (List ℕ) → World → RunPosition → ResolvedLine → RunPosition
-stand_after only world stand (Follow directive) = position_following stand directive
-stand_after only world stand (Call filled line reply) =
-    record stand { known = learnt_from world stand.known filled (said_by only (line ∷ [])) }
-stand_after only world stand resolved = stand
+abbrev pub position_after : Option (List ℕ) → World → RunPosition → ResolvedLine → RunPosition
+position_after only world position (Follow directive) = position_following position directive
+position_after only world position (Call filled line reply) =
+    record position { known = learnt_from world position.known filled (said_by only (line ∷ [])) }
+position_after only world position resolved = position
 
 -- the same by how its call was answered
-abbrev pub stand_with : RunPosition → ResolvedLine → Option LineAnswer → RunPosition
-stand_with stand (Follow directive) answer = position_following stand directive
-stand_with stand (Call filled line reply) answer = record stand { known = learnt_by stand.known filled answer }
-stand_with stand resolved answer = stand
+abbrev pub position_with : RunPosition → ResolvedLine → Option LineAnswer → RunPosition
+position_with position (Follow directive) answer = position_following position directive
+position_with position (Call filled line reply) answer = record position { known = learnt_by position.known filled answer }
+position_with position resolved answer = position
 
 -- the position after a line, by the answer to its call: its number was passed, and rounds may begin or end
-pub record Arrives (stand : RunPosition) (resolved : ResolvedLine) (answer : Option LineAnswer) (next : RunPosition) : Type 0 where
-  pub is : next ≡ arrived (stand_with (passed stand) resolved answer)
+pub record Arrives (position : RunPosition) (resolved : ResolvedLine) (answer : Option LineAnswer) (next : RunPosition) : Type 0 where
+  pub is : next ≡ arrived (position_with (passed position) resolved answer)
 
-abbrev pub next_stand : Option (List ℕ) → World → RunPosition → List ℕ → RunPosition
-next_stand only world stand line = arrived (stand_after only world (passed stand) (resolved_at only stand line))
+abbrev pub next_position : Option (List ℕ) → World → RunPosition → List ℕ → RunPosition
+next_position only world position line = arrived (position_after only world (passed position) (resolved_at only position line))
 
 -- and the world that it leaves
 abbrev pub left_behind : Option (List ℕ) → World → RunPosition → List ℕ → World
-left_behind only world stand line = after_all only world (call_of only stand line)
+left_behind only world position line = after_all only world (call_of only position line)
 
 -- the steps of lines from a position on, in this world: all calls are answered, or those of one name
-abbrev pub turns_of : Option (List ℕ) → World → RunPosition → List (List ℕ) → List LineStep
-turns_of only world stand [] = []
-turns_of only world stand (line ∷ lines) =
-    turn_of only stand line ∷ turns_of only (left_behind only world stand line) (next_stand only world stand line) lines
+abbrev pub steps_of : Option (List ℕ) → World → RunPosition → List (List ℕ) → List LineStep
+steps_of only world position [] = []
+steps_of only world position (line ∷ lines) =
+    step_of only position line ∷ steps_of only (left_behind only world position line) (next_position only world position line) lines
 
 -- the position after them
-abbrev pub stand_behind : Option (List ℕ) → World → RunPosition → List (List ℕ) → RunPosition
-stand_behind only world stand [] = stand
-stand_behind only world stand (line ∷ lines) =
-    stand_behind only (left_behind only world stand line) (next_stand only world stand line) lines
+abbrev pub position_behind : Option (List ℕ) → World → RunPosition → List (List ℕ) → RunPosition
+position_behind only world position [] = position
+position_behind only world position (line ∷ lines) =
+    position_behind only (left_behind only world position line) (next_position only world position line) lines
 
 -- ---- a scenario without names and directives
 
@@ -119,13 +119,13 @@ bare_line only line =
     else TooLong
 
 -- the steps of unchanged lines, from one of this number on
-abbrev pub turns_from : Option (List ℕ) → ℕ → List (List ℕ) → List LineStep
-turns_from only number [] = []
-turns_from only number (line ∷ lines) =
-    record { number = number; resolved = bare_line only line; crosses = false } ∷ turns_from only (number_after number) lines
+abbrev pub steps_from_line : Option (List ℕ) → ℕ → List (List ℕ) → List LineStep
+steps_from_line only number [] = []
+steps_from_line only number (line ∷ lines) =
+    record { number = number; resolved = bare_line only line; crosses = false } ∷ steps_from_line only (number_after number) lines
 
 -- bare lines of a scenario without rounds are run unchanged, one after another, for any values of names and any answers
 abbrev pub BareLinesStay : Type 0
 BareLinesStay =
-    (only : Option (List ℕ)) (world : World) (stand : RunPosition) (lines : List (List ℕ)) → stand.ahead ≡ [] → AreBare lines →
-    turns_of only world stand lines ≡ turns_from only stand.number lines
+    (only : Option (List ℕ)) (world : World) (position : RunPosition) (lines : List (List ℕ)) → position.ahead ≡ [] → AreBare lines →
+    steps_of only world position lines ≡ steps_from_line only position.number lines

@@ -53,10 +53,6 @@ checked_call given call = record {
   reply = option_copied call.reply;
 }
 
--- and of a plain call, which isn't filled and has no expected reply
-abbrev pub checked_plain : SourceLine → CheckedLine
-checked_plain given = record { number = given.number; given = given.line.now; line = given.line.now; reply = None }
-
 -- ---- places
 
 -- the column at which the reply at the end of a line begins

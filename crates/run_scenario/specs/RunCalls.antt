@@ -8,11 +8,11 @@ use Rattle.run_scenario.specs.LineSteps.{LineStep, calls_in}
 
 -- the engine's lines of a scenario's lines, by their steps
 abbrev pub calls_of_steps : List LineStep → List (List ℕ)
-calls_of_steps turns = flat_map (λ turn. calls_in turn.resolved) turns
+calls_of_steps steps = flat_map (λ step. calls_in step.resolved) steps
 
 -- those that are answered: all, or a name's alone
 abbrev pub calls_answered : Option (List ℕ) → List LineStep → List (List ℕ)
-calls_answered only turns = said_by only (calls_of_steps turns)
+calls_answered only steps = said_by only (calls_of_steps steps)
 
 -- the text for calls in one line of a scenario, by the text for each: by the calls that were answered before it, the line's
 -- number, and the engine's line
@@ -24,9 +24,9 @@ text_of_calls tells earlier number (call ∷ calls) =
 -- the text for the lines of a scenario by their steps, for all or for those of one name
 abbrev pub text_of_steps : (List (List ℕ) → ℕ → List ℕ → List ℕ) → Option (List ℕ) → List (List ℕ) → List LineStep → List ℕ
 text_of_steps tells only earlier [] = []
-text_of_steps tells only earlier (turn ∷ turns) =
-    text_of_calls tells earlier turn.number (said_by only (calls_in turn.resolved))
-    ++ text_of_steps tells only (earlier ++ said_by only (calls_in turn.resolved)) turns
+text_of_steps tells only earlier (step ∷ steps) =
+    text_of_calls tells earlier step.number (said_by only (calls_in step.resolved))
+    ++ text_of_steps tells only (earlier ++ said_by only (calls_in step.resolved)) steps
 
 -- the text that the engine writes for a call after others from a start
 abbrev pub engine_text : World → List (List ℕ) → ℕ → List ℕ → List ℕ

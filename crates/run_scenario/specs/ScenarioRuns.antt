@@ -14,7 +14,7 @@ use Rattle.run_scenario.specs.Faults.{takes_memory}
 use Rattle.run_scenario.specs.CallAnswers.{ReportsCalls}
 use Rattle.run_scenario.specs.Judging.{Awaited, awaited_after, awaited_behind, errors_in, errors_of, has_error}
 use Rattle.run_scenario.specs.RunCalls.{calls_answered, calls_of_steps, text_of_steps}
-use Rattle.run_scenario.specs.LineSteps.{LineStep, calls_in, stand_after, stand_behind, turns_of}
+use Rattle.run_scenario.specs.LineSteps.{LineStep, calls_in, position_after, position_behind, steps_of}
 
 -- a line handler is the one that began: its sink of errors, its run, the subject of its diagnostics, the text that it writes and what
 -- it was made with
@@ -35,34 +35,34 @@ abbrev pub tally : ℕ → Awaited → Tally
 tally errors awaited = record { errors = errors; awaited = awaited }
 
 -- lines in their steps lead from one tally to another; the number of errors stops at `u64::MAX`
-pub record Tallies (only : Option (List ℕ)) (start : World) (old new : Tally) (turns : List LineStep) : Type 0 where
-  pub awaits : new.awaited ≡ awaited_behind old.awaited turns
-  pub counts : old.errors + errors_in only start old.awaited turns < 2 ^ 64 →
-      new.errors ≡ old.errors + errors_in only start old.awaited turns
+pub record Tallies (only : Option (List ℕ)) (start : World) (old new : Tally) (steps : List LineStep) : Type 0 where
+  pub awaits : new.awaited ≡ awaited_behind old.awaited steps
+  pub counts : old.errors + errors_in only start old.awaited steps < 2 ^ 64 →
+      new.errors ≡ old.errors + errors_in only start old.awaited steps
 
 -- lines lead from one world to another, from a first position to this one, their calls were observed, and their errors counted and
 -- reported
-pub record LeadsSteps (only : Option (List ℕ)) (start world : World) (first stand : RunPosition) (tally now_tally : Tally)
+pub record LeadsSteps (only : Option (List ℕ)) (start world : World) (first position : RunPosition) (tally now_tally : Tally)
     (reports : List (List ℕ) → Type 0) (seen : List (List ℕ) → Type 0) (lines : List (List ℕ)) : Type 0 where
-  pub world_is : world ≡ after_all only start (calls_of_steps (turns_of only start first lines))
-  pub stands : stand ≡ stand_behind only start first lines
-  pub tallies : Tallies only start tally now_tally (turns_of only start first lines)
+  pub world_is : world ≡ after_all only start (calls_of_steps (steps_of only start first lines))
+  pub stands : position ≡ position_behind only start first lines
+  pub tallies : Tallies only start tally now_tally (steps_of only start first lines)
   pub reported : reports lines
-  pub sees : seen (calls_answered only (turns_of only start first lines))
+  pub sees : seen (calls_answered only (steps_of only start first lines))
 
 -- if the host was out of memory, the last of these lines took some
 abbrev pub TakesMemory : Bool → LineRunFault → List LineStep → Type 0
-TakesMemory calls ReadFault turns = ⊤
-TakesMemory calls WriteFault turns = ⊤
-TakesMemory calls TooManyLines turns = ⊤
-TakesMemory calls NoMemory turns =
-    (front : List LineStep) × (last : LineStep) × (turns ≡ front ++ last ∷ []) × ((takes_memory calls last.resolved || last.crosses) ≡ true)
+TakesMemory calls ReadFault steps = ⊤
+TakesMemory calls WriteFault steps = ⊤
+TakesMemory calls TooManyLines steps = ⊤
+TakesMemory calls NoMemory steps =
+    (front : List LineStep) × (last : LineStep) × (steps ≡ front ++ last ∷ []) × ((takes_memory calls last.resolved || last.crosses) ≡ true)
 
 -- lines lead from one world to another, and the last of them had a fault
 pub record StopsSteps (calls : Bool) (only : Option (List ℕ)) (start world : World) (first : RunPosition) (fault : LineRunFault)
     (lines : List (List ℕ)) : Type 0 where
-  pub world_is : world ≡ after_all only start (calls_of_steps (turns_of only start first lines))
-  pub takes : TakesMemory calls fault (turns_of only start first lines)
+  pub world_is : world ≡ after_all only start (calls_of_steps (steps_of only start first lines))
+  pub takes : TakesMemory calls fault (steps_of only start first lines)
 
 -- an error of a line is counted, unless there is a fault
 abbrev pub counted : Result Bool LineRunFault → Result (Unit {0}) LineRunFault
@@ -84,26 +84,26 @@ ClosesAs (Some fault) ended failed now_failed = (ended ≡ Some fault) × (now_f
 -- a run at a line: its world and its position, the log lines that are expected, and the text that was written
 pub record Point : Type 0 where
   pub world : World
-  pub stand : RunPosition
+  pub position : RunPosition
   pub awaited : Awaited
   pub written : Option (List ℕ)
   pub gathered : List ℕ
 
 abbrev pub point : World → RunPosition → Awaited → Option (List ℕ) → List ℕ → Point
-point world stand awaited written gathered =
-    record { world = world; stand = stand; awaited = awaited; written = written; gathered = gathered }
+point world position awaited written gathered =
+    record { world = world; position = position; awaited = awaited; written = written; gathered = gathered }
 
 -- a line is run by what it is: its call is answered and reported, the position moves on, and the line is checked, unless there is
 -- a fault, which it may have
 pub record RunsLine (only : Option (List ℕ)) (tells : World → List (List ℕ) → ℕ → List ℕ → List ℕ) (calls : Bool)
     (seen now_seen : World → List (List ℕ) → Type 0) (resolved : ResolvedLine) (failed : Bool) (result : Result Bool LineRunFault)
     (old new : Point) : Type 0 where
-  pub hears : ReportsCalls only tells seen now_seen old.stand.number (calls_in resolved) old.world new.world result old.written old.gathered
+  pub hears : ReportsCalls only tells seen now_seen old.position.number (calls_in resolved) old.world new.world result old.written old.gathered
       new.written new.gathered
-  pub stands : OnOk result (new.stand ≡ arrived (stand_after only old.world (passed old.stand) resolved))
+  pub stands : OnOk result (new.position ≡ arrived (position_after only old.world (passed old.position) resolved))
   pub judged : IfOk result (λ complained. complained ≡ has_error only old.world resolved old.awaited)
-  pub expects : OnOk result (new.awaited ≡ awaited_after old.stand.number resolved old.awaited)
-  pub failing : Fails result failed (takes_memory calls resolved || crosses old.stand)
+  pub expects : OnOk result (new.awaited ≡ awaited_after old.position.number resolved old.awaited)
+  pub failing : Fails result failed (takes_memory calls resolved || crosses old.position)
 
 -- ---- the whole run
 
@@ -113,12 +113,12 @@ most_lines = 1000000
 
 -- if the host was out of memory, the last line took some
 abbrev pub TakesMemoryFor : Bool → Option LineRunFault → List LineStep → Type 0
-TakesMemoryFor calls fault turns = IfSome fault (λ f. TakesMemory calls f turns)
+TakesMemoryFor calls fault steps = IfSome fault (λ f. TakesMemory calls f steps)
 
 -- the errors of a scenario's lines in their steps are counted, after so many others and with this expectation at first
 abbrev pub CountsErrors : Option (List ℕ) → World → Tally → ℕ → List LineStep → Type 0
-CountsErrors only start tally errors turns =
-    tally.errors + errors_of only start tally.awaited turns < 2 ^ 64 → errors ≡ tally.errors + errors_of only start tally.awaited turns
+CountsErrors only start tally errors steps =
+    tally.errors + errors_of only start tally.awaited steps < 2 ^ 64 → errors ≡ tally.errors + errors_of only start tally.awaited steps
 
 -- a scenario is run from its first position to its end or to a fault, after a text
 pub record RunsAll (tells : List (List ℕ) → ℕ → List ℕ → List ℕ) (calls : Bool) (seen : List (List ℕ) → Type 0)
@@ -127,12 +127,12 @@ pub record RunsAll (tells : List (List ℕ) → ℕ → List ℕ → List ℕ) (
     : Type 0 where
   pub given : List (List ℕ)
   pub readable : AreReadable given
-  pub world : new ≡ after_all only old (calls_of_steps (turns_of only old first given))
-  pub told : WritesOutput fault written now_written (front ++ text_of_steps tells only [] (turns_of only old first given))
+  pub world : new ≡ after_all only old (calls_of_steps (steps_of only old first given))
+  pub told : WritesOutput fault written now_written (front ++ text_of_steps tells only [] (steps_of only old first given))
   pub ends : EndsFor most_lines fault given input rest failed
-  pub takes : TakesMemoryFor calls fault (turns_of only old first given)
+  pub takes : TakesMemoryFor calls fault (steps_of only old first given)
   pub counted : IfNone fault (count ≡ length given)
-  pub complained : IfNone fault (counts (turns_of only old first given))
+  pub complained : IfNone fault (counts (steps_of only old first given))
   pub reported : IfNone fault (reports given)
   pub few : length given ≤ most_lines
-  pub sees : IfNone fault (seen (calls_answered only (turns_of only old first given)))
+  pub sees : IfNone fault (seen (calls_answered only (steps_of only old first given)))

@@ -14,7 +14,7 @@ use Rattle.run_scenario.specs.Judging.{Awaited, errors_of, nothing_awaited}
 use Rattle.run_scenario.specs.RunCalls.{calls_answered}
 use Rattle.run_scenario.specs.ScenarioRuns.{TakesMemoryFor, most_lines}
 use Rattle.run_lines.specs.LineRuns.{EndsFor}
-use Rattle.run_scenario.specs.LineSteps.{LineStep, turns_of}
+use Rattle.run_scenario.specs.LineSteps.{LineStep, steps_of}
 use Rattle.run_scenario.specs.declared.scenario_end.ScenarioEnd.{ScenarioEnd}
 use Rattle.run_lines.specs.declared.line_run_fault.LineRunFault.{LineRunFault}
 use Rattle.run_lines.specs.declared.line_run_fault.LineRunFault.TheVariants.{ReadFault, WriteFault, TooManyLines, NoMemory}
@@ -39,15 +39,15 @@ WritesBoth (Some NoMemory) input lines old new told behind = AppendsPart old new
 pub record RunStart : Type 0 where
   pub only : Option (List ℕ)
   pub world : World
-  pub stand : RunPosition
+  pub position : RunPosition
   pub awaited : Awaited
 
 abbrev pub start_at : Option (List ℕ) → World → RunPosition → Awaited → RunStart
-start_at only world stand awaited = record { only = only; world = world; stand = stand; awaited = awaited }
+start_at only world position awaited = record { only = only; world = world; position = position; awaited = awaited }
 
 -- the steps of a scenario's lines from there on
 abbrev pub steps_from : RunStart → List (List ℕ) → List LineStep
-steps_from start lines = turns_of start.only start.world start.stand lines
+steps_from start lines = steps_of start.only start.world start.position lines
 
 -- a scenario was run, from its first line on, to its end or to a fault that has a cause, and this was written: the text for its
 -- lines, and the text after it, by the steps of the lines. If there is no fault, its lines and its errors are counted, and the errors
@@ -81,8 +81,8 @@ IsWrittenBy (Ok done) old new text = Appends old new text
 IsWrittenBy (Err fault) old new text = (fault ≡ WriteFault) × AppendsPart old new text
 
 -- the steps of a scenario's lines on the machine of a list, from its first position on
-abbrev pub turns_on : Option (List ℕ) → RunPosition → Listed → List (List ℕ) → List LineStep
-turns_on only first listed lines = turns_of only (world_of listed) first lines
+abbrev pub steps_on : Option (List ℕ) → RunPosition → Listed → List (List ℕ) → List LineStep
+steps_on only first listed lines = steps_of only (world_of listed) first lines
 
 -- a run begins there, and no log line is expected
 abbrev pub start_on : Option (List ℕ) → RunPosition → Listed → RunStart
@@ -90,8 +90,8 @@ start_on only first listed = start_at only (world_of listed) first nothing_await
 
 -- nothing is written
 abbrev pub nothing_told : List LineStep → List ℕ
-nothing_told turns = []
+nothing_told steps = []
 
 -- the transcript of the calls of lines in their steps, of all or of those of one name
 abbrev pub transcript_of : Option (List ℕ) → World → List LineStep → List ℕ
-transcript_of only world turns = transcript_after world.entries world.states [] (calls_answered only turns)
+transcript_of only world steps = transcript_after world.entries world.states [] (calls_answered only steps)

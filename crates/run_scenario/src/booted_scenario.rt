@@ -13,7 +13,7 @@ pub struct BootedScenario<'l, 's, R: Router + Drop> {
     /// The machine.
     pub core: Core<R>,
     /// The state of the run between two lines.
-    pub notes: ScenarioState<'s>,
+    pub state: ScenarioState<'s>,
     /// Buffers for a line and a reply.
-    pub rooms: CallBuffers,
+    pub buffers: CallBuffers,
 }

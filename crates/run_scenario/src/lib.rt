@@ -1,7 +1,7 @@
 //! Runs a scenario in the friendly form: each line is resolved, its call is answered and shown to an observer, and the reply is
 //! compared with the expected one.
 //!
-//! `view_runs` and `view_accounts` have the observers. For example `play(&mut bench, &mut core, b"", reader, writer)` runs the lines
+//! `view_runs` and `view_accounts` have the observers. For example `play(&mut runner, &mut core, b"", reader, writer)` runs the lines
 //! from a reader, and returns how the run ended.
 #![tactic(auto)]
 

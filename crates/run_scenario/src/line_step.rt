@@ -49,26 +49,28 @@ impl CallBuffers {
 pub fn take_step<'a, 'b, R: Router + Drop>(
     run: &LineDispatcher<'a>,
     core: &mut Core<R>,
-    stand: &RunPosition<'_>,
+    position: &RunPosition<'_>,
     line: &'b [u8],
     buffers: &'b mut CallBuffers,
 ) -> LineStep<'b>
 where
     'a: 'b,
     requires listed { core.old.entries ≡ entries_of (start_list_of run.now.list.now) }
-    ensures { TakesStep (option_copied run.now.only) stand.now.number
-        (resolved_at (option_copied run.now.only) stand.now line.now) core.old core.new result }
+    ensures { TakesStep (option_copied run.now.only) position.now.number
+        (resolved_at (option_copied run.now.only) position.now line.now) core.old core.new result }
 {
-    let resolved = resolve(run.only, stand.known(), line, &mut buffers.line);
-    let answered = answer_resolved(run, core, stand, &resolved, &mut buffers.reply);
+    let resolved = resolve(run.only, position.known(), line, &mut buffers.line);
+    let answered = answer_resolved(run, core, position, &resolved, &mut buffers.reply);
     LineStep { resolved, answered }
 }
 
-// Answers the call of a resolved line at a position of the run, if it has one that isn't skipped.
+// Answers the call of a resolved line at a position of the run, if it has one that isn't skipped. The function isn't inlined, so that
+// its result is written in its place once.
+#[inline(never)]
 fn answer_resolved<'a, 'b, R: Router + Drop>(
     run: &LineDispatcher<'a>,
     core: &mut Core<R>,
-    stand: &RunPosition<'_>,
+    position: &RunPosition<'_>,
     resolved: &ResolvedLine<'b>,
     reply: &'b mut Reply,
 ) -> Option<ObservedCall<'b>>
@@ -78,23 +80,22 @@ where
     requires read { HasParsedCall resolved.now }
     ensures world { core.new ≡ after_all (option_copied run.now.only) core.old
         (calls_in (resolved_view resolved.now)) }
-    ensures heard { IsAnsweredCall (option_copied run.now.only) core.old stand.now.number
+    ensures heard { IsAnsweredCall (option_copied run.now.only) core.old position.now.number
         (calls_in (resolved_view resolved.now)) result }
     ensures read { IfSome result (λ it. IsReadAs it.line.now it.call) }
 {
     match resolved {
-        ResolvedLine::Call(call) => answer(run, core, stand, call.line, call.call, reply),
+        ResolvedLine::Call(call) => answer(run, core, position, call.line, call.call, reply),
         _ => None,
     }
 }
 
-/// Answers a call in a plain line at a position of the run, or nothing if the call is skipped. The function isn't inlined, so that
-/// its result is written in its place once.
-#[inline(never)]
+/// Answers a call in a plain line at a position of the run, or nothing if the call is skipped.
+#[inline(always)]
 pub fn answer_plain<'a, 'b, R: Router + Drop>(
     run: &LineDispatcher<'a>,
     core: &mut Core<R>,
-    stand: &RunPosition<'_>,
+    position: &RunPosition<'_>,
     line: &'b [u8],
     call: NamedCall<'b>,
     buffers: &'b mut CallBuffers,
@@ -104,11 +105,11 @@ where
     requires listed { core.old.entries ≡ entries_of (start_list_of run.now.list.now) }
     requires read { Reads line.now call }
     ensures world { core.new ≡ after_all (option_copied run.now.only) core.old (line.now ∷ []) }
-    ensures heard { IsAnsweredCall (option_copied run.now.only) core.old stand.now.number
+    ensures heard { IsAnsweredCall (option_copied run.now.only) core.old position.now.number
         (line.now ∷ []) result }
     ensures read { IfSome result (λ it. IsReadAs it.line.now it.call) }
 {
-    answer(run, core, stand, line, Some(call), &mut buffers.reply)
+    answer(run, core, position, line, Some(call), &mut buffers.reply)
 }
 
 // Answers the engine's line of a line at a position of the run. `call` is what was parsed of it.
@@ -116,7 +117,7 @@ where
 fn answer<'a, 'b, R: Router + Drop>(
     run: &LineDispatcher<'a>,
     core: &mut Core<R>,
-    stand: &RunPosition<'_>,
+    position: &RunPosition<'_>,
     line: &'b [u8],
     call: Option<NamedCall<'b>>,
     reply: &'b mut Reply,
@@ -126,11 +127,11 @@ where
     requires listed { core.old.entries ≡ entries_of (start_list_of run.now.list.now) }
     requires read { IsReadAs line.now call }
     ensures world { core.new ≡ after_all (option_copied run.now.only) core.old (line.now ∷ []) }
-    ensures heard { IsAnsweredCall (option_copied run.now.only) core.old stand.now.number
+    ensures heard { IsAnsweredCall (option_copied run.now.only) core.old position.now.number
         (line.now ∷ []) result }
     ensures read { IfSome result (λ it. IsReadAs it.line.now it.call) }
 {
-    let number = stand.number();
+    let number = position.number();
     match run.answer_read(core, line, call, reply) {
         Some(answer) => Some(ObservedCall {
             number,
@@ -152,19 +153,10 @@ pub fn answer_in<'a>(heard: &Option<ObservedCall<'a>>) -> Option<LineAnswer<'a>>
     }
 }
 
-/// Borrows the answer to a call, if the call was answered.
-pub fn answer_of<'x, 'a>(heard: &'x Option<ObservedCall<'a>>) -> Option<&'x LineAnswer<'a>>
-    ensures { option_copied result ≡ answer_of heard.now }
-{
-    match heard {
-        Some(heard) => Some(&heard.answer),
-        None => None,
-    }
-}
-
 /// Reports a call to an observer, if the call was answered. The error is the observer's.
+#[inline(always)]
 pub fn report_call<R: Router + Drop, W: CallObserver, K: Sink>(
-    watch: &mut W,
+    observer: &mut W,
     core: &Core<R>,
     list: &StartList,
     heard: &Option<ObservedCall<'_>>,
@@ -176,15 +168,15 @@ pub fn report_call<R: Router + Drop, W: CallObserver, K: Sink>(
     requires writes { K.has_failed writer.old ≡ false }
     ensures hears { (only : Option (List ℕ)) (number : ℕ) (old : World) (calls : List (List ℕ)) →
         core.now ≡ after_all only old calls → IsAnsweredCall only old number calls heard.now →
-        ReportsCalls only (W.tells watch.old) (W.sees watch.old list.now) (W.sees watch.new list.now)
+        ReportsCalls only (W.tells observer.old) (W.sees observer.old list.now) (W.sees observer.new list.now)
         number calls old core.now result
         (K.contents writer.old) gathered.old (K.contents writer.new) gathered.new }
-    ensures same { W.tells watch.new ≡ W.tells watch.old }
-    ensures held { W.holds watch.new ≡ W.holds watch.old }
+    ensures same { W.tells observer.new ≡ W.tells observer.old }
+    ensures held { W.holds observer.new ≡ W.holds observer.old }
     ensures failing { Fails result (K.has_failed writer.new) (is_some heard.now && W.takes) }
 {
     match heard {
-        Some(heard) => watch.tell(core, list, heard, gathered, writer),
+        Some(heard) => observer.tell(core, list, heard, gathered, writer),
         None => Ok(()),
     }
 }

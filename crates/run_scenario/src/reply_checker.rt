@@ -1,5 +1,5 @@
 //! Compares answers with expectations.
-ghost use Rattle.std.specs.Prelude.{◌≡◌, ◌||◌, ◌∷◌, [], ℕ, Bool, List, codes, false, true, not, is_some, IfErr, IfOk, None, OnOk};
+ghost use Rattle.std.specs.Prelude.{◌≡◌, ◌||◌, ◌∷◌, [], ℕ, List, codes, false, true, not, is_some, IfErr, IfOk, OnOk};
 ghost use Rattle.std.specs.Option.{option_copied};
 ghost use Rattle.std.specs.Str.{bytes_eq};
 ghost use Rattle.trade_base.specs.Refusal.{refusal_name};
@@ -10,8 +10,8 @@ ghost use Rattle.view_diagnostics.specs.Diagnostics.{diagnostic, subject_at};
 ghost use Rattle.view_diagnostics.specs.declared.diagnostics.Severity.TheVariants.{Error as AnError};
 ghost use Rattle.view_diagnostics.specs.declared.place.FilePlace.TheVariants.{Byte as AByte};
 ghost use Rattle.run_scenario.specs.Complaints.{WritesUnless};
-ghost use Rattle.run_scenario.specs.Judging.{awaited_more, is_other, is_unknown_call, is_unknown_in, nothing_awaited, text_in};
-ghost use Rattle.run_scenario.specs.Reports.{answer_report, bad_line_report, bad_name_report, call_report, checked, checked_plain, left_over_report, misplaced_report, reply_column, silent_report, too_long_report, without_last};
+ghost use Rattle.run_scenario.specs.Judging.{awaited_more, is_other, is_unknown_call, nothing_awaited, text_in};
+ghost use Rattle.run_scenario.specs.Reports.{answer_report, bad_line_report, bad_name_report, call_report, checked, left_over_report, misplaced_report, reply_column, silent_report, too_long_report, without_last};
 ghost use Rattle.run_lines.specs.declared.line_run_fault.LineRunFault.TheVariants.{NoMemory as NoRoom};
 
 use crate::complaint::{report, report_log_lines, report_reply, report_unknown};
@@ -63,6 +63,7 @@ impl<'a> ReplyChecker<'a> {
     /// Checks the answer of a line's call on the machine of a list, and writes an error if it differs. With an expected reply,
     /// the reply and the log lines are compared. Without one, the name must be known and no log lines expected. A skipped call
     /// has no error. The line is given as filled with `known`. The error returned is a failed write.
+    #[inline(always)]
     pub fn judge<E: Sink>(
         &mut self,
         list: &StartList,
@@ -88,49 +89,8 @@ impl<'a> ReplyChecker<'a> {
         judged
     }
 
-    /// Checks the answer to a plain call as `judge` does. Most answers have no error, and nothing is made for a report of them.
-    #[inline]
-    pub fn judge_plain<E: Sink>(
-        &mut self,
-        list: &StartList,
-        given: SourceLine<'_>,
-        known: &NameTable,
-        answer: Option<&LineAnswer<'_>>,
-        sink: &mut E,
-    ) -> Result<bool, LineRunFault>
-        requires { E.has_failed sink.old ≡ false }
-        ensures judged { IfOk result (λ complained. complained
-            ≡ is_other (is_passed given.entry.line.now) None
-            (text_in (option_copied answer.entry)) self.old.expected) }
-        ensures writes { WritesUnless result (E.contents sink.old) (E.contents sink.new)
-            (call_report (subject_at self.old.scenario) list.now known.now
-            (checked_plain given.entry) (option_copied answer.entry) self.old.expected) }
-        ensures forgets { self.new.expected ≡ nothing_awaited }
-        ensures same { subject_at self.new.scenario ≡ subject_at self.old.scenario }
-        ensures works { OnOk result (E.has_failed sink.new ≡ false) }
-        ensures failing { Fails result (E.has_failed sink.new) false }
-    {
-        if !self.may_differ(answer) {
-            self.expected.clear();
-            return Ok(false);
-        }
-        let asked = JudgedLine {
-            given,
-            line: given.line,
-            reply: None,
-        };
-        self.judge(list, asked, known, answer.copied(), sink)
-    }
-
-    // Returns whether an answer to a call without an expected reply may have an error. If not, it has none.
-    fn may_differ(&self, answer: Option<&LineAnswer<'_>>) -> bool
-        ensures { (passed : Bool) → result ≡ false → is_other passed None
-            (text_in (option_copied answer.entry)) self.now.expected ≡ false }
-    {
-        self.expected.first().is_some() || is_unknown(answer)
-    }
-
     // Checks the answer of a line's call in the same way.
+    #[inline(always)]
     fn check<E: Sink>(
         &self,
         list: &StartList,
@@ -160,6 +120,7 @@ impl<'a> ReplyChecker<'a> {
     }
 
     // Writes an error if log lines are expected of a call without an expected reply, or if the call's name is unknown.
+    #[inline(always)]
     fn judge_silent<E: Sink>(
         &self,
         list: &StartList,
@@ -346,16 +307,6 @@ fn is_unknown_call(line: &[u8], answer: LineAnswer<'_>) -> bool
     ensures { result ≡ is_unknown_call (is_passed line.now) answer.entry.reply.now }
 {
     is_refused(answer, Refusal::UnknownComponent) && !is_passed(line)
-}
-
-// Returns whether an answer says that no component has the name of its call.
-fn is_unknown(answer: Option<&LineAnswer<'_>>) -> bool
-    ensures { result ≡ is_unknown_in (text_in (option_copied answer.entry)) }
-{
-    match answer {
-        Some(answer) => is_refused(*answer, Refusal::UnknownComponent),
-        None => false,
-    }
 }
 
 // Returns whether a reply is this refusal.

@@ -23,43 +23,43 @@ use run_lines::{Buffers, DeviceFault, LineRunFault, MAX_LINES, Sink, Source};
 /// compares it with its expectation. All output is written before each read, and at the end. A device that has failed isn't used
 /// again. If one had failed before, the fault of the outputs is returned first, then that of the reader.
 pub fn play<R: Router + Drop, W: CallObserver, S: Source, K: Sink, E: Sink>(
-    bench: &mut ScenarioRunner<'_, '_, '_, '_, '_, '_, '_, W, E>,
+    runner: &mut ScenarioRunner<'_, '_, '_, '_, '_, '_, '_, W, E>,
     core: &mut Core<R>,
     front: &[u8],
     reader: &mut S,
     writer: &mut K,
 ) -> ScenarioEnd
-    requires listed { core.old.entries ≡ entries_of (start_list_of bench.old.run.now.list.now) }
-    requires sees { W.sees bench.old.watch.now bench.old.run.now.list.now core.old [] }
+    requires listed { core.old.entries ≡ entries_of (start_list_of runner.old.run.now.list.now) }
+    requires sees { W.sees runner.old.observer.now runner.old.run.now.list.now core.old [] }
     ensures plays { fault_before (S.has_failed reader.old)
-        (K.has_failed writer.old || E.has_failed bench.old.complaints.now) ≡ None →
-        RunsAll (W.tells bench.old.watch.now core.old) W.takes
-        (W.sees bench.new.watch.now bench.old.run.now.list.now core.old)
-        (CountsErrors (option_copied bench.old.run.now.only) core.old
-        (tally bench.old.complained bench.old.notes.now.critic.expected) result.complaints)
+        (K.has_failed writer.old || E.has_failed runner.old.complaints.now) ≡ None →
+        RunsAll (W.tells runner.old.observer.now core.old) W.takes
+        (W.sees runner.new.observer.now runner.old.run.now.list.now core.old)
+        (CountsErrors (option_copied runner.old.run.now.only) core.old
+        (tally runner.old.complained runner.old.state.now.checker.expected) result.complaints)
         (WritesAllReports
-        (scope_of (subject_at bench.old.notes.now.critic.scenario) bench.old.run.now.list.now)
-        (start_at (option_copied bench.old.run.now.only) core.old bench.old.notes.now.stand
-        bench.old.notes.now.critic.expected)
-        (E.contents bench.old.complaints.now) (E.contents bench.new.complaints.now))
-        (option_copied bench.old.run.now.only) bench.old.notes.now.stand result.fault result.lines core.old
+        (scope_of (subject_at runner.old.state.now.checker.scenario) runner.old.run.now.list.now)
+        (start_at (option_copied runner.old.run.now.only) core.old runner.old.state.now.position
+        runner.old.state.now.checker.expected)
+        (E.contents runner.old.complaints.now) (E.contents runner.new.complaints.now))
+        (option_copied runner.old.run.now.only) runner.old.state.now.position result.fault result.lines core.old
         core.new front.now
         (S.remaining reader.old) (S.remaining reader.new) (S.has_failed reader.new)
         (K.contents writer.old) (K.contents writer.new) }
-    ensures same_reference { bench.new.complaints.ghost_name ≡ bench.old.complaints.ghost_name }
-    ensures held { W.holds bench.new.watch.now ≡ W.holds bench.old.watch.now }
+    ensures same_reference { runner.new.complaints.ghost_name ≡ runner.old.complaints.ghost_name }
+    ensures held { W.holds runner.new.observer.now ≡ W.holds runner.old.observer.now }
     ensures few { result.lines ≤ MAX_LINES }
     ensures listed { core.new.entries ≡ core.old.entries }
-    ensures writing { (K.has_failed writer.new || E.has_failed bench.new.complaints.now)
+    ensures writing { (K.has_failed writer.new || E.has_failed runner.new.complaints.now)
         ≡ is_write_fault result.fault }
     ensures reading { IfNone result.fault (S.has_failed reader.new ≡ false) }
     ensures before { IfSome (fault_before (S.has_failed reader.old)
-        (K.has_failed writer.old || E.has_failed bench.old.complaints.now))
+        (K.has_failed writer.old || E.has_failed runner.old.complaints.now))
         (λ fault. (result ≡ unplayed fault)
         × (reader.new ≡ reader.old) × (writer.new ≡ writer.old)
-        × (bench.new.complaints.now ≡ bench.old.complaints.now)) }
+        × (runner.new.complaints.now ≡ runner.old.complaints.now)) }
 {
-    if let Some(fault) = failed_before(reader, writer, &*bench.complaints) {
+    if let Some(fault) = failed_before(reader, writer, &*runner.complaints) {
         return ScenarioEnd::before_all(fault);
     }
     let mut buffers = Buffers::new();
@@ -73,17 +73,17 @@ pub fn play<R: Router + Drop, W: CallObserver, S: Source, K: Sink, E: Sink>(
             };
         }
     }
-    let played = run_lines::play(bench, core, &mut buffers, reader, writer, MAX_LINES);
-    let critic = &mut bench.notes.critic;
+    let played = run_lines::play(runner, core, &mut buffers, reader, writer, MAX_LINES);
+    let checker = &mut runner.state.checker;
     let fault = close(
-        critic,
+        checker,
         played.fault,
-        &mut bench.complained,
-        bench.complaints,
+        &mut runner.complained,
+        runner.complaints,
     );
     ScenarioEnd {
         lines: played.lines,
-        complaints: bench.complained,
+        complaints: runner.complained,
         fault,
     }
 }
@@ -108,7 +108,7 @@ fn failed_before<S: Source, K: Sink, E: Sink>(
 
 // Writes an error for an expected log line without a call after it, if the run ended without a fault.
 fn close<E: Sink>(
-    critic: &mut ReplyChecker<'_>,
+    checker: &mut ReplyChecker<'_>,
     fault: Option<LineRunFault>,
     complained: &mut u64,
     complaints: &mut E,
@@ -116,12 +116,12 @@ fn close<E: Sink>(
     requires works { IfNone fault (E.has_failed complaints.old ≡ false) }
     ensures closes { ClosesAs fault result (E.has_failed complaints.old) (E.has_failed complaints.new) }
     ensures counts { IfNone result
-        (CountsOne (is_some critic.old.expected.first) complained.old complained.new) }
+        (CountsOne (is_some checker.old.expected.first) complained.old complained.new) }
     ensures reports { IfNone result (Appends (E.contents complaints.old) (E.contents complaints.new)
-        (left_over_report (subject_at critic.old.scenario) critic.old.expected)) }
+        (left_over_report (subject_at checker.old.scenario) checker.old.expected)) }
 {
     match fault {
         Some(fault) => Some(fault),
-        None => count(complained, critic.report_left_over(complaints)).err(),
+        None => count(complained, checker.report_left_over(complaints)).err(),
     }
 }

@@ -8,14 +8,14 @@ ghost use Rattle.line_friendly.specs.Theorems.{IsBare, IsPlain};
 ghost use Rattle.run_lines.specs.Next.{OutputsWork};
 ghost use Rattle.run_scenario.specs.RunCalls.{text_of_steps};
 ghost use Rattle.run_scenario.specs.ScenarioRuns.{CountsOne, LeadsSteps, RunsLine, Remains, StopsSteps, counted, point, tally};
-ghost use Rattle.run_scenario.specs.LineSteps.{resolved_at, turns_of};
+ghost use Rattle.run_scenario.specs.LineSteps.{resolved_at, steps_of};
 ghost use Rattle.run_scenario.specs.RunReports.{ReportsLine, WritesReports, scope_of};
 ghost use Rattle.run_scenario.specs.Writes.{start_at};
 ghost use Rattle.view_diagnostics.specs.Diagnostics.{subject_at};
 ghost use Rattle.line_steps.specs.ResolvedLines.{is_skipped};
 
 use crate::call_observer::CallObserver;
-use crate::line_step::{CallBuffers, LineStep, answer_of, answer_plain, report_call, take_step};
+use crate::line_step::{CallBuffers, LineStep, answer_plain, report_call, take_step};
 use crate::scenario_state::ScenarioState;
 use line_friendly::plain_call;
 use line_steps::{ResolvedLine, is_skipped};
@@ -31,11 +31,11 @@ pub struct ScenarioRunner<'e, 'r, 'l, 'n, 's, 'w, 'o, W: CallObserver, E: Sink> 
     /// The start list, and the name whose lines are answered, if not all are.
     pub run: &'r LineDispatcher<'l>,
     /// The state of the run between two lines.
-    pub notes: &'n mut ScenarioState<'s>,
+    pub state: &'n mut ScenarioState<'s>,
     /// The observer of each call.
-    pub watch: &'w mut W,
+    pub observer: &'w mut W,
     /// Buffers for a line and a reply.
-    pub rooms: &'o mut CallBuffers,
+    pub buffers: &'o mut CallBuffers,
     /// The number of errors of lines so far.
     pub complained: u64,
 }
@@ -48,9 +48,9 @@ impl<W: CallObserver, E: Sink> Drop for ScenarioRunner<'_, '_, '_, '_, '_, '_, '
         let ScenarioRunner {
             complaints: _complaints,
             run: _run,
-            notes: _notes,
-            watch: _watch,
-            rooms: _rooms,
+            state: _notes,
+            observer: _watch,
+            buffers: _rooms,
             complained: _complained,
         } = self;
     }
@@ -71,36 +71,37 @@ impl<W: CallObserver, E: Sink> ScenarioRunner<'_, '_, '_, '_, '_, '_, '_, W, E> 
             (E.has_failed self.old.complaints.now) }
         ensures remains { Remains self.old.complaints.ghost_name self.new.complaints.ghost_name
             self.old.run.now self.new.run.now
-            (subject_at self.old.notes.now.critic.scenario)
-            (subject_at self.new.notes.now.critic.scenario)
-            (W.tells self.old.watch.now) (W.tells self.new.watch.now)
-            (W.holds self.old.watch.now) (W.holds self.new.watch.now) }
-        ensures plays { RunsLine (option_copied self.old.run.now.only) (W.tells self.old.watch.now)
-            W.takes (W.sees self.old.watch.now self.old.run.now.list.now)
-            (W.sees self.new.watch.now self.old.run.now.list.now)
-            (resolved_at (option_copied self.old.run.now.only) self.old.notes.now.stand
+            (subject_at self.old.state.now.checker.scenario)
+            (subject_at self.new.state.now.checker.scenario)
+            (W.tells self.old.observer.now) (W.tells self.new.observer.now)
+            (W.holds self.old.observer.now) (W.holds self.new.observer.now) }
+        ensures plays { RunsLine (option_copied self.old.run.now.only) (W.tells self.old.observer.now)
+            W.takes (W.sees self.old.observer.now self.old.run.now.list.now)
+            (W.sees self.new.observer.now self.old.run.now.list.now)
+            (resolved_at (option_copied self.old.run.now.only) self.old.state.now.position
             line.now)
             (K.has_failed writer.new || E.has_failed self.new.complaints.now) result
-            (point core.old self.old.notes.now.stand self.old.notes.now.critic.expected
+            (point core.old self.old.state.now.position self.old.state.now.checker.expected
             (K.contents writer.old) gathered.old)
-            (point core.new self.new.notes.now.stand self.new.notes.now.critic.expected
+            (point core.new self.new.state.now.position self.new.state.now.checker.expected
             (K.contents writer.new) gathered.new) }
         ensures uncounted { self.new.complained ≡ self.old.complained }
         ensures reports { OnOk result (ReportsLine
-            (scope_of (subject_at self.old.notes.now.critic.scenario) self.old.run.now.list.now)
-            (option_copied self.old.run.now.only) core.old self.old.notes.now.stand line.now
-            self.old.notes.now.critic.expected (E.contents self.old.complaints.now)
+            (scope_of (subject_at self.old.state.now.checker.scenario) self.old.run.now.list.now)
+            (option_copied self.old.run.now.only) core.old self.old.state.now.position line.now
+            self.old.state.now.checker.expected (E.contents self.old.complaints.now)
             (E.contents self.new.complaints.now)) }
     {
         match plain_call(line) {
-            Some(call) if !skips(self.run.only, line) => {
+            Some(call) if !is_skipped(self.run.only, line) => {
                 self.run_plain_line(core, line, call, gathered, writer)
             }
             _ => self.run_any_line(core, line, gathered, writer),
         }
     }
 
-    // Runs a plain call: answers it, reports the answer, and checks it.
+    // Runs a plain call: answers it, reports the answer, and checks it. Each step is inlined, so that the call and its answer aren't
+    // copied from one to the next.
     fn run_plain_line<R: Router + Drop, K: Sink>(
         &mut self,
         core: &mut Core<R>,
@@ -119,34 +120,38 @@ impl<W: CallObserver, E: Sink> ScenarioRunner<'_, '_, '_, '_, '_, '_, '_, W, E> 
             (E.has_failed self.old.complaints.now) }
         ensures remains { Remains self.old.complaints.ghost_name self.new.complaints.ghost_name
             self.old.run.now self.new.run.now
-            (subject_at self.old.notes.now.critic.scenario)
-            (subject_at self.new.notes.now.critic.scenario)
-            (W.tells self.old.watch.now) (W.tells self.new.watch.now)
-            (W.holds self.old.watch.now) (W.holds self.new.watch.now) }
-        ensures plays { RunsLine (option_copied self.old.run.now.only) (W.tells self.old.watch.now)
-            W.takes (W.sees self.old.watch.now self.old.run.now.list.now)
-            (W.sees self.new.watch.now self.old.run.now.list.now)
-            (resolved_at (option_copied self.old.run.now.only) self.old.notes.now.stand
+            (subject_at self.old.state.now.checker.scenario)
+            (subject_at self.new.state.now.checker.scenario)
+            (W.tells self.old.observer.now) (W.tells self.new.observer.now)
+            (W.holds self.old.observer.now) (W.holds self.new.observer.now) }
+        ensures plays { RunsLine (option_copied self.old.run.now.only) (W.tells self.old.observer.now)
+            W.takes (W.sees self.old.observer.now self.old.run.now.list.now)
+            (W.sees self.new.observer.now self.old.run.now.list.now)
+            (resolved_at (option_copied self.old.run.now.only) self.old.state.now.position
             line.now)
             (K.has_failed writer.new || E.has_failed self.new.complaints.now) result
-            (point core.old self.old.notes.now.stand self.old.notes.now.critic.expected
+            (point core.old self.old.state.now.position self.old.state.now.checker.expected
             (K.contents writer.old) gathered.old)
-            (point core.new self.new.notes.now.stand self.new.notes.now.critic.expected
+            (point core.new self.new.state.now.position self.new.state.now.checker.expected
             (K.contents writer.new) gathered.new) }
         ensures uncounted { self.new.complained ≡ self.old.complained }
         ensures reports { OnOk result (ReportsLine
-            (scope_of (subject_at self.old.notes.now.critic.scenario) self.old.run.now.list.now)
-            (option_copied self.old.run.now.only) core.old self.old.notes.now.stand line.now
-            self.old.notes.now.critic.expected (E.contents self.old.complaints.now)
+            (scope_of (subject_at self.old.state.now.checker.scenario) self.old.run.now.list.now)
+            (option_copied self.old.run.now.only) core.old self.old.state.now.position line.now
+            self.old.state.now.checker.expected (E.contents self.old.complaints.now)
             (E.contents self.new.complaints.now)) }
     {
         let list = self.run.list;
-        let heard = answer_plain(self.run, core, &self.notes.stand, line, call, self.rooms);
-        match report_call(self.watch, core, list, &heard, gathered, writer) {
-            Ok(()) => {
-                self.notes
-                    .take_plain(list, line, answer_of(&heard), self.complaints)
-            }
+        let heard = answer_plain(
+            self.run,
+            core,
+            &self.state.position,
+            line,
+            call,
+            self.buffers,
+        );
+        match report_call(self.observer, core, list, &heard, gathered, writer) {
+            Ok(()) => self.state.take_plain(list, line, &heard, self.complaints),
             Err(fault) => Err(fault),
         }
     }
@@ -165,66 +170,66 @@ impl<W: CallObserver, E: Sink> ScenarioRunner<'_, '_, '_, '_, '_, '_, '_, W, E> 
             (E.has_failed self.old.complaints.now) }
         ensures remains { Remains self.old.complaints.ghost_name self.new.complaints.ghost_name
             self.old.run.now self.new.run.now
-            (subject_at self.old.notes.now.critic.scenario)
-            (subject_at self.new.notes.now.critic.scenario)
-            (W.tells self.old.watch.now) (W.tells self.new.watch.now)
-            (W.holds self.old.watch.now) (W.holds self.new.watch.now) }
-        ensures plays { RunsLine (option_copied self.old.run.now.only) (W.tells self.old.watch.now)
-            W.takes (W.sees self.old.watch.now self.old.run.now.list.now)
-            (W.sees self.new.watch.now self.old.run.now.list.now)
-            (resolved_at (option_copied self.old.run.now.only) self.old.notes.now.stand
+            (subject_at self.old.state.now.checker.scenario)
+            (subject_at self.new.state.now.checker.scenario)
+            (W.tells self.old.observer.now) (W.tells self.new.observer.now)
+            (W.holds self.old.observer.now) (W.holds self.new.observer.now) }
+        ensures plays { RunsLine (option_copied self.old.run.now.only) (W.tells self.old.observer.now)
+            W.takes (W.sees self.old.observer.now self.old.run.now.list.now)
+            (W.sees self.new.observer.now self.old.run.now.list.now)
+            (resolved_at (option_copied self.old.run.now.only) self.old.state.now.position
             line.now)
             (K.has_failed writer.new || E.has_failed self.new.complaints.now) result
-            (point core.old self.old.notes.now.stand self.old.notes.now.critic.expected
+            (point core.old self.old.state.now.position self.old.state.now.checker.expected
             (K.contents writer.old) gathered.old)
-            (point core.new self.new.notes.now.stand self.new.notes.now.critic.expected
+            (point core.new self.new.state.now.position self.new.state.now.checker.expected
             (K.contents writer.new) gathered.new) }
         ensures uncounted { self.new.complained ≡ self.old.complained }
         ensures reports { OnOk result (ReportsLine
-            (scope_of (subject_at self.old.notes.now.critic.scenario) self.old.run.now.list.now)
-            (option_copied self.old.run.now.only) core.old self.old.notes.now.stand line.now
-            self.old.notes.now.critic.expected (E.contents self.old.complaints.now)
+            (scope_of (subject_at self.old.state.now.checker.scenario) self.old.run.now.list.now)
+            (option_copied self.old.run.now.only) core.old self.old.state.now.position line.now
+            self.old.state.now.checker.expected (E.contents self.old.complaints.now)
             (E.contents self.new.complaints.now)) }
     {
         let list = self.run.list;
-        let turn = take_step(self.run, core, &self.notes.stand, line, self.rooms);
-        match report_call(self.watch, core, list, &turn.answered, gathered, writer) {
-            Ok(()) => self.notes.take_in(list, line, &turn, self.complaints),
+        let step = take_step(self.run, core, &self.state.position, line, self.buffers);
+        match report_call(self.observer, core, list, &step.answered, gathered, writer) {
+            Ok(()) => self.state.take_in(list, line, &step, self.complaints),
             Err(fault) => Err(fault),
         }
     }
 }
 
 impl<W: CallObserver, E: Sink> LineHandler for ScenarioRunner<'_, '_, '_, '_, '_, '_, '_, W, E> {
-    ghost told = { λ bench start lines. text_of_steps (W.tells bench.watch.now start)
-        (option_copied bench.run.now.only) []
-        (turns_of (option_copied bench.run.now.only) start bench.notes.now.stand lines) };
+    ghost told = { λ runner start lines. text_of_steps (W.tells runner.observer.now start)
+        (option_copied runner.run.now.only) []
+        (steps_of (option_copied runner.run.now.only) start runner.state.now.position lines) };
 
-    ghost leads = { λ first start bench world lines.
-        Remains first.complaints.ghost_name bench.complaints.ghost_name first.run.now bench.run.now
-        (subject_at first.notes.now.critic.scenario) (subject_at bench.notes.now.critic.scenario)
-        (W.tells first.watch.now) (W.tells bench.watch.now) (W.holds first.watch.now) (W.holds bench.watch.now)
-        × LeadsSteps (option_copied first.run.now.only) start world first.notes.now.stand
-        bench.notes.now.stand
-        (tally first.complained first.notes.now.critic.expected)
-        (tally bench.complained bench.notes.now.critic.expected)
-        (WritesReports (scope_of (subject_at first.notes.now.critic.scenario) first.run.now.list.now)
-        (start_at (option_copied first.run.now.only) start first.notes.now.stand
-        first.notes.now.critic.expected)
-        (E.contents first.complaints.now) (E.contents bench.complaints.now))
-        (W.sees bench.watch.now first.run.now.list.now start) lines };
+    ghost leads = { λ first start runner world lines.
+        Remains first.complaints.ghost_name runner.complaints.ghost_name first.run.now runner.run.now
+        (subject_at first.state.now.checker.scenario) (subject_at runner.state.now.checker.scenario)
+        (W.tells first.observer.now) (W.tells runner.observer.now) (W.holds first.observer.now) (W.holds runner.observer.now)
+        × LeadsSteps (option_copied first.run.now.only) start world first.state.now.position
+        runner.state.now.position
+        (tally first.complained first.state.now.checker.expected)
+        (tally runner.complained runner.state.now.checker.expected)
+        (WritesReports (scope_of (subject_at first.state.now.checker.scenario) first.run.now.list.now)
+        (start_at (option_copied first.run.now.only) start first.state.now.position
+        first.state.now.checker.expected)
+        (E.contents first.complaints.now) (E.contents runner.complaints.now))
+        (W.sees runner.observer.now first.run.now.list.now start) lines };
 
-    ghost stops = { λ first start bench world fault lines.
-        Remains first.complaints.ghost_name bench.complaints.ghost_name first.run.now bench.run.now
-        (subject_at first.notes.now.critic.scenario) (subject_at bench.notes.now.critic.scenario)
-        (W.tells first.watch.now) (W.tells bench.watch.now) (W.holds first.watch.now) (W.holds bench.watch.now)
-        × StopsSteps W.takes (option_copied first.run.now.only) start world first.notes.now.stand
+    ghost stops = { λ first start runner world fault lines.
+        Remains first.complaints.ghost_name runner.complaints.ghost_name first.run.now runner.run.now
+        (subject_at first.state.now.checker.scenario) (subject_at runner.state.now.checker.scenario)
+        (W.tells first.observer.now) (W.tells runner.observer.now) (W.holds first.observer.now) (W.holds runner.observer.now)
+        × StopsSteps W.takes (option_copied first.run.now.only) start world first.state.now.position
         fault lines };
 
-    ghost is_ready = { λ bench world _.
-        world.entries ≡ entries_of (start_list_of bench.run.now.list.now) };
+    ghost is_ready = { λ runner world _.
+        world.entries ≡ entries_of (start_list_of runner.run.now.list.now) };
 
-    ghost has_failed = { λ bench. E.has_failed bench.complaints.now };
+    ghost has_failed = { λ runner. E.has_failed runner.complaints.now };
 
     fn play<R: Router + Drop, K: Sink>(
         &mut self,
@@ -243,24 +248,14 @@ impl<W: CallObserver, E: Sink> LineHandler for ScenarioRunner<'_, '_, '_, '_, '_
         _gathered: &mut WriteBuffer,
         _writer: &mut K,
     ) -> Result<(), LineRunFault> {
-        let turn = LineStep {
+        let step = LineStep {
             resolved: ResolvedLine::TooLong,
             answered: None,
         };
         let judged = self
-            .notes
-            .take_in(self.run.list, b"", &turn, self.complaints);
+            .state
+            .take_in(self.run.list, b"", &step, self.complaints);
         count(&mut self.complained, judged)
-    }
-}
-
-// Returns whether a line is skipped if the lines of the component `only` alone are run. If all lines are run, none is read.
-fn skips(only: Option<&[u8]>, line: &[u8]) -> bool
-    ensures { result ≡ is_skipped (option_copied only.entry) line.now }
-{
-    match only {
-        Some(_) => is_skipped(only, line),
-        None => false,
     }
 }
 

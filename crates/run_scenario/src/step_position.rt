@@ -3,7 +3,7 @@ ghost use Rattle.std.specs.Prelude.{◌≡◌, ℕ, List, OnOk, Option};
 ghost use Rattle.line_steps.specs.ResolvedViews.{resolved_view};
 ghost use Rattle.own_model.specs.World.{World};
 ghost use Rattle.run_scenario.specs.CallAnswers.{TakesStep, answer_of};
-ghost use Rattle.run_scenario.specs.LineSteps.{next_stand, resolved_at, stand_with};
+ghost use Rattle.run_scenario.specs.LineSteps.{next_position, resolved_at, position_with};
 
 use crate::line_step::{LineStep, answer_in};
 use line_steps::{ResolvedLine, RunPosition};
@@ -11,25 +11,25 @@ use std::alloc::AllocError;
 
 /// Moves a position past a line by the line's step, whose answer isn't checked: follows its directive, binds the names that its
 /// reply binds, and enters and leaves the rounds after it. The error is that the host is out of memory.
-pub fn move_past(stand: &mut RunPosition<'_>, turn: &LineStep<'_>) -> Result<(), AllocError>
+pub fn move_past(position: &mut RunPosition<'_>, step: &LineStep<'_>) -> Result<(), AllocError>
     ensures { (only : Option (List ℕ)) (line : List ℕ) (old new : World) →
-        TakesStep only stand.old.number (resolved_at only stand.old line) old new turn.now →
-        OnOk result (stand.new ≡ next_stand only old stand.old line) }
+        TakesStep only position.old.number (resolved_at only position.old line) old new step.now →
+        OnOk result (position.new ≡ next_position only old position.old line) }
 {
-    let _ = stand.pass();
-    bind(stand, turn)?;
-    stand.arrive()
+    let _ = position.pass();
+    bind(position, step)?;
+    position.arrive()
 }
 
 // Follows the directive of a line, or binds the names that its reply binds, if its call was answered.
-fn bind(stand: &mut RunPosition<'_>, turn: &LineStep<'_>) -> Result<(), AllocError>
-    ensures { OnOk result (stand.new ≡ stand_with stand.old (resolved_view turn.now.resolved)
-        (answer_of turn.now.answered)) }
+fn bind(position: &mut RunPosition<'_>, step: &LineStep<'_>) -> Result<(), AllocError>
+    ensures { OnOk result (position.new ≡ position_with position.old (resolved_view step.now.resolved)
+        (answer_of step.now.answered)) }
 {
-    match &turn.resolved {
-        ResolvedLine::Directive(directive) => stand.follow(*directive),
-        ResolvedLine::Call(call) => match answer_in(&turn.answered) {
-            Some(answer) => stand.learn(&call.filled, answer.reply),
+    match &step.resolved {
+        ResolvedLine::Directive(directive) => position.follow(*directive),
+        ResolvedLine::Call(call) => match answer_in(&step.answered) {
+            Some(answer) => position.learn(&call.filled, answer.reply),
             None => Ok(()),
         },
         _ => Ok(()),

@@ -36,6 +36,7 @@ pub mod NodeFreeLemmas
 pub mod EndLemmas
 pub mod BufferLemmas
 pub mod SourceLemmas
+pub mod ReadyLemmas
 pub mod SearchLemmas
 pub mod TailNodeLemmas
 pub mod AppendLemmas

@@ -1,6 +1,7 @@
 -- What is so of calls that may be refused.
 use Rattle.std.proofs.Common.{rules, ◌≡◌, ℕ, List, cond, is_some, IsSome, Some, refl, sym, ap, subst, true≢false, ◌∙◌}
-use Rattle.std.specs.Prelude.{Option, None, Result, Ok, Err, MatchResult, IsErrAnd, is_ok, IfOk, OnErr}
+use Rattle.std.specs.Prelude.{Option, None, SomeIff, Result, Ok, Err, MatchResult, IsErrAnd, is_ok, IfOk, OnErr}
+use Rattle.std.specs.Result.{result_ok}
 use Rattle.std.specs.FinMap.{get}
 use Rattle.trade_base.specs.declared.refusal.Refusal.{Refusal}
 use Rattle.trade_base.specs.declared.refusal.Refusal.TheVariants.{PageFault}
@@ -44,3 +45,7 @@ err_and r d P is so = subst (λ q. IsErrAnd q P) is so
 pub was_ok : {T E D : Type 0} (self : Result T E) (mapped : Result T D) (x : T) (Q : E → Type 0) → MatchResult self (λ y. mapped ≡ Ok y) Q → is_ok mapped ≡ is_ok self → mapped ≡ Ok x → self ≡ Ok x
 was_ok (Ok y) mapped x Q cases variant is = let e : y ≡ x = cc in ap Ok e
 was_ok (Err e) mapped x Q cases variant is = absurd (true≢false (ap is_ok (sym is) ∙ variant))
+
+-- a sum or a product that is returned is it
+pub sum_is : {E : Type 0} (o : Option ℕ) (r : Result ℕ E) (P : Type 0) (n sum : ℕ) → SomeIff o P sum → o ≡ result_ok r → r ≡ Ok n → n ≡ sum
+sum_is o r P n sum iff ok is = let told = subst (λ (x : Option ℕ). SomeIff x P sum) (ok ∙ ap result_ok is) iff in told.1

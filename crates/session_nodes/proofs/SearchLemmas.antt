@@ -1,5 +1,5 @@
 -- A node that is found by its name, and how many bytes its content has.
-use Rattle.std.proofs.Common.{rules, ◌≡◌, ◌≢◌, ℕ, ◌+◌, ◌-◌, ◌<◌, ◌≤◌, true, false, eqb, List, ◌∷◌, ◌++◌, length, take, refl, sym, ap, ◌∙◌, arith}
+use Rattle.std.proofs.Common.{rules, ◌≡◌, ◌≢◌, ℕ, ◌+◌, ◌-◌, ◌<◌, ◌≤◌, true, false, eqb, List, ◌∷◌, ◌++◌, length, map, take, refl, sym, ap, ◌∙◌, arith}
 use Rattle.std.proofs.lemmas.Bool.Decides.{nat_tests}
 use Rattle.std.proofs.lemmas.List.{length-take}
 use Rattle.trade_base.proofs.PageLemmas.{IsLeastPageSize-page_of}
@@ -8,10 +8,11 @@ use Rattle.own_model.specs.OwnHeap.{OwnHeap}
 use Rattle.own_model.specs.Sliced.{sliced_size}
 use Rattle.sliced_heap.specs.Chain.{is_listed}
 use Rattle.session_nodes.specs.Calls.{payload_in, HasBytes}
-use Rattle.session_nodes.specs.Order.{node_at, link_in, bytes_at, HasContent, HoldsNode}
+use Rattle.session_nodes.specs.Order.{node_at, nodes_from, link_in, bytes_at, HasContent, HoldsNode}
 use Rattle.session_nodes.specs.Node.{StoredNode}
 use Rattle.session_nodes.specs.NodeList.{IsFound}
-use Rattle.session_nodes.proofs.LinkLemmas.{listed_append}
+use Rattle.session_nodes.proofs.KeptLemmas.{blocks_are}
+use Rattle.session_nodes.proofs.LinkLemmas.{listed_append, map_kept, once_apart, once_later, unlisted}
 
 -- a content is as long as its node says, or longer
 pub content_long : (size : ℕ) → size ≤ sliced_size size - 32
@@ -48,6 +49,23 @@ module _ (first last : ℕ) (nodes : OwnHeap) (contents : NatMap (List ℕ)) (na
   -- the node's bytes are the front of it
   pub found_bytes : bytes_at contents (node_at nodes address) ≡ take node.size (payload_in contents node.content)
   found_bytes = ap (bytes_at contents) (sym found.node_is)
+
+  -- what each other node keeps, those before it and those behind it keep
+  module _ {X : Type 0} (f g : ℕ → X) (keeps : (b : ℕ) → is_listed (nodes_from first nodes) b ≡ true → b ≢ address → g b ≡ f b) where
+    kept_around : (b : ℕ) → is_listed (found.before ++ found.behind) b ≡ true → g b ≡ f b
+    kept_around b t =
+        let l = listed_append found.before (address ∷ found.behind) b in
+        let w = listed_append found.before found.behind b in
+        let fresh = once_apart found.before found.behind address (once_later 0 (found.before ++ address ∷ found.behind) found.stand.line.once) in
+        let blocks = blocks_are first last nodes contents (found.before ++ address ∷ found.behind) found.stand in
+        let listed : is_listed (nodes_from first nodes) b ≡ true = ap (λ xs. is_listed xs b) blocks ∙ grind (arith, nat_tests) in
+        keeps b listed (unlisted (found.before ++ found.behind) address b fresh t)
+
+    pub before_kept : map g found.before ≡ map f found.before
+    before_kept = map_kept f g found.before (λ b t. kept_around b (let w = listed_append found.before found.behind b in grind (arith, nat_tests)))
+
+    pub behind_kept : map g found.behind ≡ map f found.behind
+    behind_kept = map_kept f g found.behind (λ b t. kept_around b (let w = listed_append found.before found.behind b in grind (arith, nat_tests)))
 
 -- the link that a node holds
 pub link_some : (first : ℕ) (nodes : OwnHeap) (a : ℕ) → a ≢ 0 → link_in first nodes a ≡ (node_at nodes a).next

@@ -6,6 +6,7 @@ use Rattle.own_model.specs.NatMap.{NatMap}
 use Rattle.own_model.specs.Region.{Region}
 use Rattle.own_model.proofs.NatMapLemmas.{get-insert_same}
 use Rattle.region_map.specs.Regions.{Regions}
+use Rattle.dataspace_core.specs.Share.{Share}
 use Rattle.dataspace_core.specs.Store.{Store, Exists, space_at}
 use Rattle.dataspace_core.proofs.PartLaws.{paid_in_part}
 use Rattle.heap_core.specs.declared.heap.Heap.{Heap}
@@ -85,3 +86,8 @@ buffer_exists f (Some lent) stands = lent_exists f lent stands
 pub has_buffer : (b : Option SessionBuffer) (sliced : SlicedHeap) (store : Store) (regions : Regions) → IsSessionHeap sliced store regions → KeepsBuffer b (holding_of sliced store regions) → HasBuffer b (holding_of sliced store regions)
 has_buffer None sliced store regions session kept = kept (session_share sliced store regions session)
 has_buffer (Some lent) sliced store regions session kept = kept
+
+-- a buffer that is there is kept between requests
+pub keeps_buffer : (b : Option SessionBuffer) (share : Share) → HasBuffer b share → KeepsBuffer b share
+keeps_buffer None share none = λ _. none
+keeps_buffer (Some lent) share stands = stands

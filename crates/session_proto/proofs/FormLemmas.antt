@@ -19,7 +19,7 @@ use Rattle.session_proto.specs.declared.form.FileForm.TheVariants.{Create, Write
 abbrev made_by : List ℕ → Option (List ℕ) → Option SessionRequest
 made_by word arguments = option_or (option_map OfFiles (request_of word arguments)) (option_map OfBuffer (buffer_request_of word arguments))
 
-or_none : {X : Type 0} (o : Option X) → o ≡ option_or o None
+pub or_none : {X : Type 0} (o : Option X) → o ≡ option_or o None
 or_none None = refl
 or_none (Some x) = refl
 

@@ -15,6 +15,7 @@ use Rattle.own_model.specs.ObjectSession.{HoldingRequest, of_buffer_alone, holdi
 use Rattle.own_model.specs.ObjectSession.HoldingRequest.{OfObjects, OfBuffer}
 use Rattle.own_model.specs.ObjectText.{object_request_of}
 use Rattle.own_model.specs.Text.{first_word}
+use Rattle.session_proto.proofs.FormLemmas.{or_none}
 use Rattle.session_proto.specs.ObjectForms.{form_named, forms, made_of, word_of}
 use Rattle.session_proto.specs.declared.object_form.ObjectForm.{ObjectForm}
 use Rattle.session_proto.specs.declared.object_form.ObjectForm.TheVariants.{Make, Resize, Drop, Count, Name, Stat, Buffer, Unbuffer}
@@ -22,10 +23,6 @@ use Rattle.session_proto.specs.declared.object_form.ObjectForm.TheVariants.{Make
 -- the request of a word, of the objects or of the buffer
 abbrev made_by : List ℕ → Option (List ℕ) → Option HoldingRequest
 made_by word arguments = option_or (option_map OfObjects (object_request_of word arguments)) (option_map OfBuffer (option_and_then of_buffer_alone (buffer_request_of word arguments)))
-
-or_none : {X : Type 0} (o : Option X) → o ≡ option_or o None
-or_none None = refl
-or_none (Some x) = refl
 
 -- a buffer of so many bytes is of the buffer alone
 makes_alone : (o : Option ℕ) → option_map OfBuffer (option_map MakeBuffer o) ≡ option_map OfBuffer (option_and_then of_buffer_alone (option_map MakeBuffer o))

@@ -14,25 +14,25 @@ use Rattle.view_accounts.specs.Accounting.{SeesAccounts, accounts_text, sessions
 use Rattle.run_scenario.specs.Judging.{Awaited}
 use Rattle.run_scenario.specs.RunCalls.{calls_answered, text_of_calls, text_of_steps}
 use Rattle.run_scenario.specs.ScenarioRuns.{CountsErrors, RunsAll, tally}
-use Rattle.run_scenario.specs.LineSteps.{LineStep, calls_in, turns_of}
+use Rattle.run_scenario.specs.LineSteps.{LineStep, calls_in, steps_of}
 use Rattle.run_scenario.specs.Writes.{Closes, IsRunFrom, start_at}
 use Rattle.view_accounts.specs.declared.accounting.Accounting.{Accounting}
 use Rattle.run_scenario.specs.declared.scenario_end.ScenarioEnd.{ScenarioEnd}
 use Rattle.run_lines.specs.declared.line_run_fault.LineRunFault.{LineRunFault}
 use Rattle.line_steps.specs.RunPosition.{RunPosition}
 use Rattle.view_accounts.proofs.ListLemmas.{text_is}
-use Rattle.run_scenario.proofs.WriteLemmas.{closes_as, played_from, silent_turns}
+use Rattle.run_scenario.proofs.WriteLemmas.{closes_as, played_from, silent_steps}
 
-pub accounts_played : (watch : Accounting) (listed : Listed) {reports : List (List ℕ) → Type 0} {first : RunPosition} {start last : World} {awaited : Awaited} {input rest w w' w'' : Option (List ℕ)} {failed : Bool} (played ended : ScenarioEnd) → start.entries ≡ entries_of (start_list_of listed) →
-    RunsAll (λ _ _ _. []) true (SeesAccounts watch listed start) (CountsErrors None start (tally 0 awaited) played.complaints) reports None first played.fault played.lines start last [] input rest failed w w' → Closes played ended w' w'' (text_kept watch listed last) →
-    IsRunFrom (start_at None start first awaited) (λ _. []) (λ turns. accounts_text (sessions_kept watch) listed start (calls_answered None turns)) true reports ended input rest failed w w''
-accounts_played watch listed {first = first} {start = start} {last = last} {w' = w'} {w'' = w''} played ended entries plays closes =
-    played_from played ended plays (silent_turns None [] turns) (closes_as played ended w' w'' _ _ (same played.fault plays.sees) closes)
+pub accounts_played : (observer : Accounting) (listed : Listed) {reports : List (List ℕ) → Type 0} {first : RunPosition} {start last : World} {awaited : Awaited} {input rest w w' w'' : Option (List ℕ)} {failed : Bool} (played ended : ScenarioEnd) → start.entries ≡ entries_of (start_list_of listed) →
+    RunsAll (λ _ _ _. []) true (SeesAccounts observer listed start) (CountsErrors None start (tally 0 awaited) played.complaints) reports None first played.fault played.lines start last [] input rest failed w w' → Closes played ended w' w'' (text_kept observer listed last) →
+    IsRunFrom (start_at None start first awaited) (λ _. []) (λ steps. accounts_text (sessions_kept observer) listed start (calls_answered None steps)) true reports ended input rest failed w w''
+accounts_played observer listed {first = first} {start = start} {last = last} {w' = w'} {w'' = w''} played ended entries plays closes =
+    played_from played ended plays (silent_steps None [] steps) (closes_as played ended w' w'' _ _ (same played.fault plays.sees) closes)
   where
-    turns : List LineStep
-    turns = turns_of None start first plays.given
+    steps : List LineStep
+    steps = steps_of None start first plays.given
 
-    same : (f : Option LineRunFault) → IfNone f (SeesAccounts watch listed start (calls_answered None turns)) →
-        IfNone f (text_kept watch listed last ≡ accounts_text (sessions_kept watch) listed start (calls_answered None turns))
-    same None sees = text_is watch listed sees entries plays.world
+    same : (f : Option LineRunFault) → IfNone f (SeesAccounts observer listed start (calls_answered None steps)) →
+        IfNone f (text_kept observer listed last ≡ accounts_text (sessions_kept observer) listed start (calls_answered None steps))
+    same None sees = text_is observer listed sees entries plays.world
     same (Some fault) sees = tt

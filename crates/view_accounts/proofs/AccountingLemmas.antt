@@ -7,8 +7,8 @@ use Rattle.view_accounts.specs.Kept.{SeesPeaks, peaked}
 use Rattle.view_accounts.specs.Meters.{SeesNeeds}
 use Rattle.view_accounts.specs.declared.accounting.Accounting.{Accounting}
 
-pub sees_both : {T E : Type 0} (watch : Accounting) (listed : Listed) {start : World} {calls : List (List ℕ)} (r : Result T E) →
-    OnOk r (SeesPeaks (peaked watch.peaks.init) watch.peaks.components.items watch.peaks.sessions listed start calls) → SeesNeeds watch.needs.meters.items start calls →
-    OnOk r (SeesAccounts watch listed start calls)
-sees_both watch listed (Ok done) peaks needs = record { peaks = peaks; needs = needs }
-sees_both watch listed (Err fault) peaks needs = tt
+pub sees_both : {T E : Type 0} (observer : Accounting) (listed : Listed) {start : World} {calls : List (List ℕ)} (r : Result T E) →
+    OnOk r (SeesPeaks (peaked observer.peaks.init) observer.peaks.components.items observer.peaks.sessions listed start calls) → SeesNeeds observer.needs.meters.items start calls →
+    OnOk r (SeesAccounts observer listed start calls)
+sees_both observer listed (Ok done) peaks needs = record { peaks = peaks; needs = needs }
+sees_both observer listed (Err fault) peaks needs = tt

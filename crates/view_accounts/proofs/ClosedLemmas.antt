@@ -40,11 +40,6 @@ part_of_first ys part = record {
   grows = part.grows;
 }
 
--- a part that is known is one of what failed
-pub on_err : {T E : Type 0} {P : Type 0} (r : Result T E) → P → OnErr r P
-on_err (Ok done) part = tt
-on_err (Err fault) part = part
-
 pub part_of_both : {T E : Type 0} (w w' w'' : Option (List ℕ)) (xs ys : List ℕ) (r : Result T E) → Appends w w' xs → OnErr r (AppendsPart w' w'' ys) → OnErr r (AppendsPart w w'' (xs ++ ys))
 part_of_both w w' w'' xs ys (Ok done) first then = tt
 part_of_both w w' w'' xs ys (Err fault) first then = record {

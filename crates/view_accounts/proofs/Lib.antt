@@ -1,7 +1,6 @@
 pub mod AccountViewLemmas
 pub mod AccountingLemmas
 pub mod ClosedLemmas
-pub mod DocumentLemmas
 pub mod HearLemmas
 pub mod KeptLemmas
 pub mod ListLemmas

@@ -15,9 +15,9 @@ use Rattle.view_accounts.specs.Peaks.{noted_of}
 use Rattle.view_accounts.specs.declared.accounting.Accounting.{Accounting}
 use Rattle.view_accounts.proofs.NeedLemmas.{below_is, running_is}
 
-module _ (watch : Accounting) (listed : Listed) {start : World} {calls : List (List ℕ)} (sees : SeesAccounts watch listed start calls) (entries : start.entries ≡ entries_of (start_list_of listed)) where
+module _ (observer : Accounting) (listed : Listed) {start : World} {calls : List (List ℕ)} (sees : SeesAccounts observer listed start calls) (entries : start.entries ≡ entries_of (start_list_of listed)) where
   abbrev told : Beside
-  told = with_needs (needs_after (sessions_kept watch).needs listed start calls) (beside_after listed start calls)
+  told = with_needs (needs_after (sessions_kept observer).needs listed start calls) (beside_after listed start calls)
 
   inside : {place : ℕ} → place < length listed.entries → place < length start.entries
   inside {place} within = subst (λ n. place < n) (sym (entries_listed listed start entries)) within
@@ -25,16 +25,16 @@ module _ (watch : Accounting) (listed : Listed) {start : World} {calls : List (L
   both : {one other : Needed} {behind behind' : List ℕ} → one ≡ other → behind ≡ behind' → needed_text one ++ behind ≡ needed_text other ++ behind'
   both needs peaks = λ i. needed_text (needs i) ++ peaks i
 
-  list_is : list_with listed (world_running start calls) (beside_kept watch listed) ≡ list_with listed (world_running start calls) told
+  list_is : list_with listed (world_running start calls) (beside_kept observer listed) ≡ list_with listed (world_running start calls) told
   list_is =
-      list_alike listed (world_running start calls) (beside_kept watch listed) told
+      list_alike listed (world_running start calls) (beside_kept observer listed) told
       (both (below_is listed sees.needs entries None) (ap peak_text sees.peaks.of_init))
       (λ place within. both (running_is listed sees.needs entries place within) (ap peak_text (sees.peaks.of_components place (inside within))))
       (λ place q session within is.
-      ap (λ noted. needed_text (needs_after (sessions_kept watch).needs listed start calls (owner.Session place q)) ++ text_of_noted (entries_of (start_list_of listed)) noted)
+      ap (λ noted. needed_text (needs_after (sessions_kept observer).needs listed start calls (owner.Session place q)) ++ text_of_noted (entries_of (start_list_of listed)) noted)
       (sees.peaks.of_sessions place q (inside within) ∙ ap (λ o. cond (is_some (session_named o)) (Some (noted_of listed start calls place q)) None) is))
 
-  pub text_is : {last : World} → last ≡ world_running start calls → text_kept watch listed last ≡ accounts_text (sessions_kept watch) listed start calls
+  pub text_is : {last : World} → last ≡ world_running start calls → text_kept observer listed last ≡ accounts_text (sessions_kept observer) listed start calls
   text_is leads =
-      ap (text_kept watch listed) leads
-      ∙ ap (λ text. text ++ closed_lines (entries_of (start_list_of listed)) watch.needs.sessions.closed.items) list_is
+      ap (text_kept observer listed) leads
+      ∙ ap (λ text. text ++ closed_lines (entries_of (start_list_of listed)) observer.needs.sessions.closed.items) list_is

@@ -1,6 +1,5 @@
 -- The rows of an account list, one after another.
-use Rattle.std.proofs.Common.{◌≡◌, ◌⊎◌, ℕ, zero, suc, ◌+◌, ◌-◌, ◌<◌, ◌≤◌, Bool, true, false, List, [], ◌∷◌, ◌++◌, map, append-nil, Option, Some, None, refl, sym, ◌∙◌, ap, arith}
-use Rattle.std.proofs.lemmas.Bool.Decides.{nat_tests}
+use Rattle.std.proofs.Common.{◌≡◌, ℕ, zero, suc, ◌+◌, ◌-◌, ◌<◌, ◌≤◌, Bool, true, false, List, [], ◌∷◌, ◌++◌, map, append-nil, Option, Some, None, refl, sym, ◌∙◌, ap, arith}
 use Rattle.std.proofs.lemmas.List.{map_push}
 use Rattle.std.specs.Prelude.{◌||◌, is_some, nat_lt, if◌then◌else◌}
 use Rattle.own_model.specs.Account.{Account}
@@ -12,6 +11,7 @@ use Rattle.own_model.specs.Session.{Session}
 use Rattle.own_model.specs.StartList.{Entry}
 use Rattle.own_model.specs.Transcript.{state_at}
 use Rattle.own_model.specs.World.{World}
+use Rattle.run_lines.proofs.ComponentLines.{IsPrinted, IsUnprinted, printed_if_any, unprinted_if_none}
 use Rattle.run_lines.specs.declared.columns.AccountOwner.TheVariants as owner
 use Rattle.std.specs.FinMap.{get}
 use Rattle.std.specs.Option.{option_map}
@@ -63,25 +63,18 @@ added_rows shown f n rows rows' were is = is ∙ ap (λ l. l ++ f n) were ∙ sy
 
 -- ---- reserves
 
-told_if_any : (given : Bool) (ram caps : ℕ) → (given ≡ true) ⊎ ((given ≡ false × 0 < ram) ⊎ (given ≡ false × ram ≤ 0 × 0 < caps)) →
-    (given || nat_lt 0 ram || nat_lt 0 caps) ≡ true
-told_if_any given ram caps some = grind (arith, nat_tests)
-
-untold_if_none : (given : Bool) (ram caps : ℕ) → given ≡ false × ram ≤ 0 × caps ≤ 0 → (given || nat_lt 0 ram || nat_lt 0 caps) ≡ false
-untold_if_none given ram caps none = grind (arith, nat_tests)
-
 module _ (listed : Option Amounts) (kept : Amounts) {given : Bool} (reserve : Amounts) (given_is : given ≡ is_some listed) (reserve_is : reserve ≡ kept) where
   told_is : is_told listed kept ≡ (given || nat_lt 0 reserve.ram || nat_lt 0 reserve.caps)
   told_is = λ j. sym given_is j || nat_lt 0 (sym reserve_is j).ram || nat_lt 0 (sym reserve_is j).caps
 
   -- a reserve is shown if it is given, or has RAM or capabilities
-  pub reserve_is_shown : (given ≡ true) ⊎ ((given ≡ false × 0 < reserve.ram) ⊎ (given ≡ false × reserve.ram ≤ 0 × 0 < reserve.caps)) → Some reserve ≡ reserve_row listed kept
+  pub reserve_is_shown : IsPrinted given reserve → Some reserve ≡ reserve_row listed kept
   reserve_is_shown some =
-      ap Some reserve_is ∙ sym (ap (λ b. if b then Some kept else None) (told_is ∙ told_if_any given reserve.ram reserve.caps some))
+      ap Some reserve_is ∙ sym (ap (λ b. if b then Some kept else None) (told_is ∙ printed_if_any given reserve some))
 
   -- and not if there is nothing of it
-  pub reserve_is_hidden : given ≡ false × reserve.ram ≤ 0 × reserve.caps ≤ 0 → None ≡ reserve_row listed kept
-  reserve_is_hidden none = sym (ap (λ b. if b then Some kept else None) (told_is ∙ untold_if_none given reserve.ram reserve.caps none))
+  pub reserve_is_hidden : IsUnprinted given reserve → None ≡ reserve_row listed kept
+  reserve_is_hidden none = sym (ap (λ b. if b then Some kept else None) (told_is ∙ unprinted_if_none given reserve none))
 
 -- ---- sessions
 

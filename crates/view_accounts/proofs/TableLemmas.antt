@@ -4,7 +4,8 @@ use Rattle.std.specs.List.{enumerate_from, flat_map}
 use Rattle.std.specs.Prelude.{Vec, vec_items}
 use Rattle.std.proofs.lemmas.Bool.{cases_lt, eqb-false}
 use Rattle.std.proofs.lemmas.Grind.{flat_map-append}
-use Rattle.std.proofs.lemmas.List.{drop_more, get_or_append_left, get_or_past, get_or_push, length-map, length-take-le, map_more, map_push}
+use Rattle.std.proofs.lemmas.List.{drop_more, get_or_append_left, get_or_past, get_or_push, length-map, length-take-le, map_push}
+use Rattle.view_json.proofs.ListingLemmas.{map_next}
 use Rattle.view_accounts.specs.Table.{Row, cell_text, row_line, row_of, rows_of, width_at, width_in}
 
 -- a piece more of what a text has from its start on
@@ -16,10 +17,6 @@ pub assembled : {A : Type 0} (header first last : A) (middle r0 r1 r2 r3 r4 : Li
     r4 ≡ header ∷ first ∷ middle ++ last ∷ []
 assembled header first last middle r0 r1 r2 r3 r4 a b c d e =
     e ∙ ap (λ l. l ++ last ∷ []) (d ∙ ap (λ l. l ++ middle) (c ∙ ap (λ l. l ++ first ∷ []) (b ∙ ap (λ l. l ++ header ∷ []) a)))
-
--- an image of one element more
-map_next : {X Y : Type 0} (f : X → Y) (xs : List X) (i : ℕ) (item : X) → i < length xs → item ≡ get_or xs i item → map f (take (i + 1) xs) ≡ map f (take i xs) ++ f item ∷ []
-map_next f xs i item within is = map_more f xs i item within ∙ ap (λ x. map f (take i xs) ++ f x ∷ []) (sym is)
 
 -- what the images of one element more give
 pub flat_next : {X Y A : Type 0} (f : Y → List A) (v : X → Y) (xs : List X) (i : ℕ) (item : X) → i < length xs → item ≡ get_or xs i item →

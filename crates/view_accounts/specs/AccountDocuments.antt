@@ -1,20 +1,12 @@
 -- The rows of an account list as JSON.
-use Rattle.std.specs.Prelude.{◌≡◌, ℕ, ◌++◌, ◌^◌, Bool, List, [], ◌∷◌, codes, map, nat_lt, if◌then◌else◌, Option, Some, None}
+use Rattle.std.specs.Prelude.{ℕ, ◌++◌, ◌^◌, Bool, List, [], ◌∷◌, codes, map, nat_lt, if◌then◌else◌, Option, Some, None}
 use Rattle.std.specs.List.{flat_map}
 use Rattle.own_model.specs.Account.{Account}
 use Rattle.own_model.specs.Amounts.{Amounts}
-use Rattle.serde_json.specs.Data.{Data, null, number, unsigned}
-use Rattle.view_json.specs.Documents.{list_text, objects_text, text_data}
-use Rattle.view_json.specs.declared.listing.Listing.{Listing}
+use Rattle.serde_json.specs.Data.{Data, null}
+use Rattle.view_json.specs.Documents.{Member, list_text, number_data, text_data}
 use Rattle.view_accounts.specs.Needs.{Needed}
 use Rattle.view_accounts.specs.Rows.{AccountView, AccountsView, ComponentView, SessionView}
-
--- a member: its name and its value
-abbrev pub Member : Type 0
-Member = List ℕ × Data
-
-abbrev pub number_data : ℕ → Data
-number_data n = number (unsigned n)
 
 abbrev pub quota_members : Account → List Member
 quota_members account =
@@ -87,9 +79,3 @@ accounts_documents shown =
 
 abbrev pub accounts_json : AccountsView → List ℕ
 accounts_json shown = list_text (accounts_documents shown)
-
--- ---- as the program has them
-
--- a listing has these documents
-abbrev pub Lists : Listing → List (List Member) → Type 0
-Lists listing documents = listing.text.items ≡ objects_text documents

@@ -53,29 +53,29 @@ accounts_text sessions listed start calls =
     ++ closed_lines (entries_of (start_list_of listed)) sessions.closed
 
 abbrev pub accounts_behind : OfSessions → Listed → List LineStep → List ℕ
-accounts_behind sessions listed turns = accounts_text sessions listed (world_of listed) (calls_answered None turns)
+accounts_behind sessions listed steps = accounts_text sessions listed (world_of listed) (calls_answered None steps)
 
 -- ---- as it is kept
 
-pub record SeesAccounts (watch : Accounting) (listed : Listed) (start : World) (earlier : List (List ℕ)) : Type 0 where
+pub record SeesAccounts (observer : Accounting) (listed : Listed) (start : World) (earlier : List (List ℕ)) : Type 0 where
   pub peaks :
-      SeesPeaks (peaked watch.peaks.init) watch.peaks.components.items watch.peaks.sessions listed start earlier
-  pub needs : SeesNeeds watch.needs.meters.items start earlier
+      SeesPeaks (peaked observer.peaks.init) observer.peaks.components.items observer.peaks.sessions listed start earlier
+  pub needs : SeesNeeds observer.needs.meters.items start earlier
 
 abbrev pub beside_kept : Accounting → Listed → Beside
-beside_kept watch listed =
+beside_kept observer listed =
     with_needs
-    (needs_by (needed_of watch.needs.meters.items) (needs_of_sessions watch.needs.sessions.opened) listed)
-    (peaks_beside (entries_of (start_list_of listed)) (peaked watch.peaks.init) (peak_at watch.peaks.components.items)
-    (found watch.peaks.sessions))
+    (needs_by (needed_of observer.needs.meters.items) (needs_of_sessions observer.needs.sessions.opened) listed)
+    (peaks_beside (entries_of (start_list_of listed)) (peaked observer.peaks.init) (peak_at observer.peaks.components.items)
+    (found observer.peaks.sessions))
 
 abbrev pub sessions_kept : Accounting → OfSessions
-sessions_kept watch = record {
-  needs = needs_of_sessions watch.needs.sessions.opened;
-  closed = watch.needs.sessions.closed.items;
+sessions_kept observer = record {
+  needs = needs_of_sessions observer.needs.sessions.opened;
+  closed = observer.needs.sessions.closed.items;
 }
 
 abbrev pub text_kept : Accounting → Listed → World → List ℕ
-text_kept watch listed world =
-    list_with listed world (beside_kept watch listed)
-    ++ closed_lines (entries_of (start_list_of listed)) watch.needs.sessions.closed.items
+text_kept observer listed world =
+    list_with listed world (beside_kept observer listed)
+    ++ closed_lines (entries_of (start_list_of listed)) observer.needs.sessions.closed.items

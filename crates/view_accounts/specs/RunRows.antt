@@ -115,11 +115,11 @@ rows_in listed measures closed world = record {
 -- ---- as they are kept
 
 abbrev pub measures_kept : Accounting → Listed → Measures
-measures_kept watch listed = record {
-  needs = needs_by (needed_of watch.needs.meters.items) (needs_of_sessions watch.needs.sessions.opened) listed;
-  init = peaked watch.peaks.init;
-  peak = peak_at watch.peaks.components.items;
-  noted = found watch.peaks.sessions;
+measures_kept observer listed = record {
+  needs = needs_by (needed_of observer.needs.meters.items) (needs_of_sessions observer.needs.sessions.opened) listed;
+  init = peaked observer.peaks.init;
+  peak = peak_at observer.peaks.components.items;
+  noted = found observer.peaks.sessions;
 }
 
 -- a closed session
@@ -132,8 +132,8 @@ abbrev pub closed_kept : Listed → List ClosedSession → List SessionView
 closed_kept listed closed = map (closed_row (entries_in listed)) closed
 
 abbrev pub rows_kept : Accounting → Listed → World → AccountsView
-rows_kept watch listed world =
-    rows_in listed (measures_kept watch listed) (closed_kept listed watch.needs.sessions.closed.items) world
+rows_kept observer listed world =
+    rows_in listed (measures_kept observer listed) (closed_kept listed observer.needs.sessions.closed.items) world
 
 -- ---- after calls
 
@@ -153,6 +153,6 @@ rows_after sessions listed start calls =
 -- if a run reached its end, these are the rows after all lines of its input, if that is known
 abbrev pub ShowsRows : OfSessions → Listed → World → (List (List ℕ) → List LineStep) → Option LineRunFault → Option (List ℕ) →
     Result AccountRows AllocError → Type 0
-ShowsRows sessions listed start turns fault input rows =
+ShowsRows sessions listed start steps fault input rows =
     IfNone fault (IfSome input (λ text. IfOk rows (λ shown.
-    accounts_view shown ≡ rows_after sessions listed start (calls_answered None (turns (lines_of text))))))
+    accounts_view shown ≡ rows_after sessions listed start (calls_answered None (steps (lines_of text))))))

@@ -14,9 +14,9 @@ ghost use Rattle.view_accounts.specs.RunRows.{ShowsRows, rows_kept};
 ghost use Rattle.run_lines.specs.Machine.{world_of};
 ghost use Rattle.run_scenario.specs.Faults.{fault_before, unplayed};
 ghost use Rattle.run_scenario.specs.RunCalls.{calls_answered};
-ghost use Rattle.run_scenario.specs.LineSteps.{turns_of};
+ghost use Rattle.run_scenario.specs.LineSteps.{steps_of};
 ghost use Rattle.run_scenario.specs.RunReports.{WritesAllReports, scope_of};
-ghost use Rattle.run_scenario.specs.Writes.{Closes, IsRunFrom, nothing_told, start_at, start_on, turns_on};
+ghost use Rattle.run_scenario.specs.Writes.{Closes, IsRunFrom, nothing_told, start_at, start_on, steps_on};
 ghost use Rattle.run_lines.specs.declared.line_run_fault.LineRunFault.TheVariants.{NoMemory as NoRoom};
 ghost use Rattle.view_diagnostics.specs.Diagnostics.{subject_at};
 
@@ -69,7 +69,7 @@ pub fn accounts<S: Source, K: Sink, E: Sink>(
         (S.remaining reader.old) (S.remaining reader.new)
         (S.has_failed reader.new) (K.contents writer.old) (K.contents writer.new)
         × ShowsRows sessions play.entry.list.now (world_of play.entry.list.now)
-        (turns_on None play.entry.start play.entry.list.now) accounts.ending.fault
+        (steps_on None play.entry.start play.entry.list.now) accounts.ending.fault
         (S.remaining reader.old) accounts.rows)) }
     ensures few { IfOk result (λ accounts. accounts.ending.lines ≤ MAX_LINES) }
     ensures writing { IfOk result (λ accounts. (K.has_failed writer.new
@@ -91,10 +91,10 @@ pub fn accounts<S: Source, K: Sink, E: Sink>(
         ((reader.new ≡ reader.old) × (writer.new ≡ writer.old)
         × (complaints.new ≡ complaints.old)) }
 {
-    let rooms = CallBuffers::new(alloc)?;
+    let buffers = CallBuffers::new(alloc)?;
     let core = boot(alloc, play.list)?;
-    let mut watch = Accounting::new(alloc, &core)?;
-    let notes = ScenarioState::new(alloc, play.scenario, play.start);
+    let mut observer = Accounting::new(alloc, &core)?;
+    let state = ScenarioState::new(alloc, play.scenario, play.start);
     let run = LineDispatcher {
         list: play.list,
         only: None,
@@ -102,41 +102,41 @@ pub fn accounts<S: Source, K: Sink, E: Sink>(
     let stage = BootedScenario {
         run,
         core,
-        notes,
-        rooms,
+        state,
+        buffers,
     };
-    Ok(run_accounting(alloc, stage, &mut watch, reader, writer, complaints))
+    Ok(run_accounting(alloc, stage, &mut observer, reader, writer, complaints))
 }
 
 // Does the same on a machine that has booted, with the peaks and needs of its accounts.
 fn run_accounting<R: Router + Drop, S: Source, K: Sink, E: Sink>(
     alloc: Global,
     stage: BootedScenario<'_, '_, R>,
-    watch: &mut Accounting,
+    observer: &mut Accounting,
     reader: &mut S,
     writer: &mut K,
     complaints: &mut E,
 ) -> AccountList
     requires listed { stage.core.entries ≡ entries_of (start_list_of stage.run.list.now) }
     requires all { stage.run.only ≡ None }
-    requires sees { SeesAccounts watch.old stage.run.list.now stage.core [] }
+    requires sees { SeesAccounts observer.old stage.run.list.now stage.core [] }
     ensures played { fault_before (S.has_failed reader.old)
         (K.has_failed writer.old || E.has_failed complaints.old) ≡ None →
         (sessions : OfSessions)
-        × (IsRunFrom (start_at None stage.entry.core stage.entry.notes.stand
-        stage.entry.notes.critic.expected) (λ _. [])
-        (λ turns. accounts_text sessions stage.entry.run.list.now stage.entry.core
-        (calls_answered None turns))
+        × (IsRunFrom (start_at None stage.entry.core stage.entry.state.position
+        stage.entry.state.checker.expected) (λ _. [])
+        (λ steps. accounts_text sessions stage.entry.run.list.now stage.entry.core
+        (calls_answered None steps))
         true
         (WritesAllReports
-        (scope_of (subject_at stage.entry.notes.critic.scenario) stage.entry.run.list.now)
-        (start_at None stage.entry.core stage.entry.notes.stand
-        stage.entry.notes.critic.expected)
+        (scope_of (subject_at stage.entry.state.checker.scenario) stage.entry.run.list.now)
+        (start_at None stage.entry.core stage.entry.state.position
+        stage.entry.state.checker.expected)
         (E.contents complaints.old) (E.contents complaints.new))
         result.ending (S.remaining reader.old) (S.remaining reader.new)
         (S.has_failed reader.new) (K.contents writer.old) (K.contents writer.new)
         × ShowsRows sessions stage.entry.run.list.now stage.entry.core
-        (turns_of None stage.entry.core stage.entry.notes.stand) result.ending.fault
+        (steps_of None stage.entry.core stage.entry.state.position) result.ending.fault
         (S.remaining reader.old) result.rows) }
     ensures few { result.ending.lines ≤ MAX_LINES }
     ensures writing { (K.has_failed writer.new || E.has_failed complaints.new)
@@ -151,20 +151,20 @@ fn run_accounting<R: Router + Drop, S: Source, K: Sink, E: Sink>(
     let BootedScenario {
         run,
         mut core,
-        mut notes,
-        mut rooms,
+        mut state,
+        mut buffers,
     } = stage;
-    let mut bench = ScenarioRunner {
+    let mut runner = ScenarioRunner {
         complaints,
         run: &run,
-        notes: &mut notes,
-        watch,
-        rooms: &mut rooms,
+        state: &mut state,
+        observer,
+        buffers: &mut buffers,
         complained: 0,
     };
-    let ending = play_lines(&mut bench, &mut core, b"", reader, writer);
-    let rows = rows_after(alloc, &core, run.list, &bench);
-    let ending = close_accounting(ending, &core, run.list, &bench, writer);
+    let ending = play_lines(&mut runner, &mut core, b"", reader, writer);
+    let rows = rows_after(alloc, &core, run.list, &runner);
+    let ending = close_accounting(ending, &core, run.list, &runner, writer);
     AccountList { ending, rows }
 }
 
@@ -173,12 +173,12 @@ fn rows_after<R: Router + Drop, E: Sink>(
     alloc: Global,
     core: &Core<R>,
     list: &StartList,
-    bench: &ScenarioRunner<'_, '_, '_, '_, '_, '_, '_, Accounting, E>,
+    runner: &ScenarioRunner<'_, '_, '_, '_, '_, '_, '_, Accounting, E>,
 ) -> Result<AccountRows, AllocError>
     requires listed { core.now.entries ≡ entries_of (start_list_of list.now) }
-    ensures { IfOk result (λ rows. accounts_view rows ≡ rows_kept bench.now.watch.now list.now core.now) }
+    ensures { IfOk result (λ rows. accounts_view rows ≡ rows_kept runner.now.observer.now list.now core.now) }
 {
-    AccountRows::of(alloc, core, list, bench.watch)
+    AccountRows::of(alloc, core, list, runner.observer)
 }
 
 // Writes the list after a run that ended without a fault.
@@ -186,19 +186,19 @@ fn close_accounting<R: Router + Drop, K: Sink, E: Sink>(
     ending: ScenarioEnd,
     core: &Core<R>,
     list: &StartList,
-    bench: &ScenarioRunner<'_, '_, '_, '_, '_, '_, '_, Accounting, E>,
+    runner: &ScenarioRunner<'_, '_, '_, '_, '_, '_, '_, Accounting, E>,
     writer: &mut K,
 ) -> ScenarioEnd
     requires listed { core.now.entries ≡ entries_of (start_list_of list.now) }
     ensures closes { Closes ending result (K.contents writer.old) (K.contents writer.new)
-        (text_kept bench.now.watch.now list.now core.now) }
+        (text_kept runner.now.observer.now list.now core.now) }
     ensures failing { IfNone ending.fault (K.has_failed writer.new ≡ is_write_fault result.fault) }
     ensures stopped { IfSome ending.fault (λ _. (result ≡ ending) × (writer.new ≡ writer.old)) }
 {
     if ending.fault.is_some() {
         return ending;
     }
-    match write_accounts(core, list, bench.watch, writer) {
+    match write_accounts(core, list, runner.observer, writer) {
         Ok(()) => ending,
         Err(fault) => ending.stopped_by(LineRunFault::from(fault)),
     }
@@ -208,17 +208,17 @@ fn close_accounting<R: Router + Drop, K: Sink, E: Sink>(
 fn write_accounts<R: Router + Drop, K: Sink>(
     core: &Core<R>,
     list: &StartList,
-    watch: &Accounting,
+    observer: &Accounting,
     writer: &mut K,
 ) -> Result<(), RunFault>
     requires listed { core.now.entries ≡ entries_of (start_list_of list.now) }
     ensures told { OnOk result (Appends (K.contents writer.old) (K.contents writer.new)
-        (text_kept watch.now list.now core.now)) }
+        (text_kept observer.now list.now core.now)) }
     ensures fault { IfErr result (λ fault. fault ≡ WriteFault) }
     ensures part { OnErr result (AppendsPart (K.contents writer.old) (K.contents writer.new)
-        (text_kept watch.now list.now core.now)) }
+        (text_kept observer.now list.now core.now)) }
     ensures writing { K.has_failed writer.new ≡ is_writing result }
 {
-    write_columns(core, list, watch, writer)?;
-    write_closed(list, watch.needs.sessions.closed.as_slice(), writer)
+    write_columns(core, list, observer, writer)?;
+    write_closed(list, observer.needs.sessions.closed.as_slice(), writer)
 }

@@ -71,16 +71,16 @@ impl AccountRows {
         alloc: Global,
         core: &Core<R>,
         list: &StartList,
-        watch: &Accounting,
+        observer: &Accounting,
     ) -> Result<AccountRows, AllocError>
         requires listed { core.now.entries ≡ entries_of (start_list_of list.now) }
-        ensures { IfOk result (λ rows. accounts_view rows ≡ rows_kept watch.now list.now core.now) }
+        ensures { IfOk result (λ rows. accounts_view rows ≡ rows_kept observer.now list.now core.now) }
     {
         // A list has at most 32 components.
         let _components = list.count();
-        let init = init_row(alloc, core, list, watch)?;
-        let components = components_rows(alloc, core, list, watch)?;
-        let closed = closed_rows(alloc, list, watch.needs.sessions.closed.as_slice())?;
+        let init = init_row(alloc, core, list, observer)?;
+        let components = components_rows(alloc, core, list, observer)?;
+        let closed = closed_rows(alloc, list, observer.needs.sessions.closed.as_slice())?;
         Ok(AccountRows {
             init,
             components,
@@ -96,17 +96,17 @@ fn init_row<R: Router + Drop>(
     alloc: Global,
     core: &Core<R>,
     list: &StartList,
-    watch: &Accounting,
+    observer: &Accounting,
 ) -> Result<AccountRow, AllocError>
     ensures { IfOk result (λ row.
-        account_view row ≡ init_row (measures_kept watch.now list.now) core.now) }
+        account_view row ≡ init_row (measures_kept observer.now list.now) core.now) }
 {
     let name = Vec::from_slice(alloc, b"init")?;
     Ok(AccountRow {
         name,
         account: core.init_account(),
-        needed: watch.needs.needed(list, AccountOwner::Init),
-        peak: watch.peaks.init,
+        needed: observer.needs.needed(list, AccountOwner::Init),
+        peak: observer.peaks.init,
     })
 }
 
@@ -115,16 +115,16 @@ fn components_rows<R: Router + Drop>(
     alloc: Global,
     core: &Core<R>,
     list: &StartList,
-    watch: &Accounting,
+    observer: &Accounting,
 ) -> Result<Vec<ComponentRows>, AllocError>
     requires listed { core.now.entries ≡ entries_of (start_list_of list.now) }
     ensures { IfOk result (λ rows. map component_view rows.items ≡ in_turn (λ component.
-        component_row list.now (measures_kept watch.now list.now) core.now component ∷ [])
+        component_row list.now (measures_kept observer.now list.now) core.now component ∷ [])
         (length list.now.entries)) }
 {
     let mut components = Vec::new(alloc);
     for component in 0..list.count() {
-        components.push(component_rows(alloc, core, list, watch, component)?)?;
+        components.push(component_rows(alloc, core, list, observer, component)?)?;
     }
     Ok(components)
 }
@@ -135,16 +135,16 @@ fn component_rows<R: Router + Drop>(
     alloc: Global,
     core: &Core<R>,
     list: &StartList,
-    watch: &Accounting,
+    observer: &Accounting,
     component: usize,
 ) -> Result<ComponentRows, AllocError>
     requires listed { core.now.entries ≡ entries_of (start_list_of list.now) }
     requires component { component < length list.now.entries }
     ensures { IfOk result (λ rows. component_view rows
-        ≡ component_row list.now (measures_kept watch.now list.now) core.now component) }
+        ≡ component_row list.now (measures_kept observer.now list.now) core.now component) }
 {
-    let account = account_row(alloc, core, list, watch, component)?;
-    let sessions = sessions_rows(alloc, core, list, watch, component)?;
+    let account = account_row(alloc, core, list, observer, component)?;
+    let sessions = sessions_rows(alloc, core, list, observer, component)?;
     Ok(ComponentRows {
         account,
         reserve: reserve_shown(core, list, component),
@@ -158,20 +158,22 @@ fn account_row<R: Router + Drop>(
     alloc: Global,
     core: &Core<R>,
     list: &StartList,
-    watch: &Accounting,
+    observer: &Accounting,
     component: usize,
 ) -> Result<AccountRow, AllocError>
     requires listed { core.now.entries ≡ entries_of (start_list_of list.now) }
     requires component { component < length list.now.entries }
     ensures { IfOk result (λ row. account_view row
-        ≡ account_row list.now (measures_kept watch.now list.now) core.now component) }
+        ≡ account_row list.now (measures_kept observer.now list.now) core.now component) }
 {
     let name = Vec::from_slice(alloc, list.name(component))?;
     Ok(AccountRow {
         name,
         account: core.account(component),
-        needed: watch.needs.needed(list, AccountOwner::Component(component)),
-        peak: watch.peaks.component(component),
+        needed: observer
+            .needs
+            .needed(list, AccountOwner::Component(component)),
+        peak: observer.peaks.component(component),
     })
 }
 
@@ -199,13 +201,13 @@ fn sessions_rows<R: Router + Drop>(
     alloc: Global,
     core: &Core<R>,
     list: &StartList,
-    watch: &Accounting,
+    observer: &Accounting,
     component: usize,
 ) -> Result<Vec<SessionRow>, AllocError>
     requires listed { core.now.entries ≡ entries_of (start_list_of list.now) }
     requires component { component < length list.now.entries }
     ensures { IfOk result (λ rows. map session_view rows.items ≡ in_turn (session_rows list.now
-        (measures_kept watch.now list.now) core.now component) selector_count) }
+        (measures_kept observer.now list.now) core.now component) selector_count) }
 {
     let mut rows = Vec::new(alloc);
     for selector in 0..core.last_selector(component) + 1 {
@@ -213,7 +215,7 @@ fn sessions_rows<R: Router + Drop>(
             component,
             selector,
         };
-        add_session(alloc, core, list, watch, named, &mut rows)?;
+        add_session(alloc, core, list, observer, named, &mut rows)?;
     }
     Ok(rows)
 }
@@ -231,14 +233,14 @@ fn add_session<R: Router + Drop>(
     alloc: Global,
     core: &Core<R>,
     list: &StartList,
-    watch: &Accounting,
+    observer: &Accounting,
     named: SessionName,
     rows: &mut Vec<SessionRow>,
 ) -> Result<(), AllocError>
     requires listed { core.now.entries ≡ entries_of (start_list_of list.now) }
     requires component { named.component < length list.now.entries }
     ensures { OnOk result (map session_view rows.new.items ≡ map session_view rows.old.items
-        ++ session_rows list.now (measures_kept watch.now list.now) core.now named.component named.selector) }
+        ++ session_rows list.now (measures_kept observer.now list.now) core.now named.component named.selector) }
 {
     let SessionName {
         component,
@@ -247,14 +249,14 @@ fn add_session<R: Router + Drop>(
     let Some(account) = core.session_account(component, selector) else {
         return Ok(());
     };
-    let Some(session) = watch.peaks.session(component, selector) else {
+    let Some(session) = observer.peaks.session(component, selector) else {
         return Ok(());
     };
     let owner = AccountOwner::Session {
         component,
         selector,
     };
-    let needed = watch.needs.needed(list, owner);
+    let needed = observer.needs.needed(list, owner);
     let row = row_of(alloc, list, named, session, Some(account), needed)?;
     rows.push(row)?;
     Ok(())

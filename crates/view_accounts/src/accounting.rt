@@ -33,7 +33,7 @@ impl Accounting {
         core: &Core<R>,
     ) -> Result<Accounting, AllocError>
         ensures { (listed : Listed) → core.now ≡ world_of listed →
-            IfOk result (λ watch. SeesAccounts watch listed core.now []) }
+            IfOk result (λ observer. SeesAccounts observer listed core.now []) }
     {
         let peaks = Peaks::new(alloc, core)?;
         let needs = Needs::new(alloc, core)?;
@@ -48,7 +48,7 @@ impl CallObserver for Accounting {
 
     ghost takes = { true };
 
-    ghost sees = { λ watch. SeesAccounts watch };
+    ghost sees = { λ observer. SeesAccounts observer };
 
     fn tell<R: Router + Drop, K: Sink>(
         &mut self,
@@ -66,7 +66,7 @@ impl CallObserver for Accounting {
 impl Columns for Accounting {
     ghost use Rattle.view_accounts.specs.Accounting.{beside_kept};
 
-    ghost beside = { λ watch list. beside_kept watch list };
+    ghost beside = { λ observer list. beside_kept observer list };
 
     fn put<K: Sink>(
         &self,

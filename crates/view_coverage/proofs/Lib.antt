@@ -2,3 +2,5 @@ mod ServiceLemmas
 mod CoverLemmas
 mod TableLemmas
 mod PlaceLemmas
+mod DocumentLemmas
+mod LineLemmas

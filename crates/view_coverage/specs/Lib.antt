@@ -1,7 +1,10 @@
 pub mod Forms
 pub mod Requests
+pub mod Lines
+pub mod Names
 pub mod Rules
 pub mod Views
 pub mod Covered
+pub mod Documents
 pub mod Reported
 pub mod TableTheorems

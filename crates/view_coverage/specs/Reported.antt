@@ -4,6 +4,8 @@ use Rattle.std.specs.Global.{Global}
 use Rattle.std.specs.List.{list_any, slice_get}
 use Rattle.std.specs.Option.{option_and_then, option_map, unwrap_or}
 use Rattle.std.specs.Str.{bytes_eq}
+use Rattle.own_model.specs.Listed.{Listed}
+use Rattle.view_coverage.specs.Names.{names_by, names_in}
 use Rattle.view_coverage.specs.declared.event.CoverageEvent.{CoverageEvent}
 use Rattle.view_coverage.specs.declared.event.CoverageEvent.TheVariants.{Refused, Failed, Decided, Requested}
 use Rattle.view_coverage.specs.declared.report.CoverageReport.{CoverageReport}
@@ -14,6 +16,10 @@ use Rattle.view_coverage.specs.declared.row.CoverageRow.{CoverageRow}
 -- the row at a place is met in a scenario
 abbrev pub is_met_in : CoverageSheet → ℕ → Bool
 is_met_in sheet place = unwrap_or (option_map (λ (row : CoverageRow). row.met) (slice_get sheet.rows.items place)) false
+
+-- a scenario is of the start list of a part, and meets its row
+abbrev pub meets_part : CoverageSheet → CoveragePart → Bool
+meets_part sheet part = (sheet.list == part.list) && is_met_in sheet part.place
 
 -- the path of the start list at a place
 abbrev pub list_at : List (String Global) → ℕ → Option (List ℕ)
@@ -41,18 +47,27 @@ abbrev pub is_met_on_table : CoverageSheet → ℕ → Bool
 is_met_on_table sheet place =
     unwrap_or (option_map (λ (row : CoverageRow). row.met && not (is_of_list row)) (slice_get sheet.rows.items place)) false
 
--- a part of a start list by numbers: the place of the start list, and that of the row
-abbrev pub numbers_of : CoveragePart → ℕ × ℕ
-numbers_of part = (part.list, part.place)
+-- a part of a start list: the place of the start list, that of the row, and its names
+abbrev pub Part : Type 0
+Part = ℕ × ℕ × List (List ℕ)
+
+abbrev pub part_of : CoveragePart → Part
+part_of part = (part.list, part.place, names_in part.name)
+
+-- the part of a row with these names, if it has names
+abbrev pub part_named : ℕ → ℕ → Option (List (List ℕ)) → List Part
+part_named list place None = []
+part_named list place (Some names) = (list, place, names) ∷ []
 
 -- the parts of the start list at a place: its rows of rules and of scripts and services, where the first row is at this place
-abbrev pub parts_from : ℕ → ℕ → List CoverageRow → List (ℕ × ℕ)
-parts_from list place [] = []
-parts_from list place (row ∷ rows) = (if is_of_list row then (list, place) ∷ [] else []) ++ parts_from list (place + 1) rows
+abbrev pub parts_from : Listed → ℕ → ℕ → List CoverageRow → List Part
+parts_from start list place [] = []
+parts_from start list place (row ∷ rows) =
+    part_named list place (names_by start row.event) ++ parts_from start list (place + 1) rows
 
 -- a scenario of its start list meets the row of a part
 abbrev pub is_covered : List CoverageSheet → CoveragePart → Bool
-is_covered sheets part = list_any (λ sheet. (sheet.list == part.list) && is_met_in sheet part.place) sheets
+is_covered sheets part = list_any (λ sheet. meets_part sheet part) sheets
 
 -- fewer than so many percent of all are covered
 abbrev pub falls_short : ℕ → ℕ → ℕ → Bool
@@ -72,8 +87,8 @@ if_new None more = more
 abbrev pub paths_in : CoverageReport → List (List ℕ)
 paths_in report = map (λ list. string_bytes list) report.lists.items
 
-abbrev pub parts_in : CoverageReport → List (ℕ × ℕ)
-parts_in report = map numbers_of report.parts.items
+abbrev pub parts_in : CoverageReport → List Part
+parts_in report = map part_of report.parts.items
 
 abbrev pub rows_in : CoverageReport → List (List CoverageRow)
 rows_in report = map (λ sheet. sheet.rows.items) report.sheets.items
@@ -82,6 +97,6 @@ rows_in report = map (λ sheet. sheet.rows.items) report.sheets.items
 abbrev pub paths_with : CoverageReport → List ℕ → List (List ℕ)
 paths_with report path = paths_in report ++ if_new (place_of report.lists.items path) (path ∷ [])
 
-abbrev pub parts_with : CoverageReport → List ℕ → List CoverageRow → List (ℕ × ℕ)
-parts_with report path rows =
-    parts_in report ++ if_new (place_of report.lists.items path) (parts_from (length report.lists.items) 0 rows)
+abbrev pub parts_with : CoverageReport → Listed → List ℕ → List CoverageRow → List Part
+parts_with report list path rows =
+    parts_in report ++ if_new (place_of report.lists.items path) (parts_from list (length report.lists.items) 0 rows)

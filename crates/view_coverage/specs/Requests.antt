@@ -48,6 +48,14 @@ object_errors_of Resize = shared (NotFound ∷ InvalidSize ∷ OutOfRam ∷ OutO
 object_errors_of Count = BadKind ∷ []
 object_errors_of asked = []
 
+-- those of the forms that work on a session's buffer, in the order of tests
+abbrev pub buffer_errors_of : CoverageRequest → List ObjectError
+buffer_errors_of Buffer = shared (InvalidSize ∷ Exists ∷ OutOfRam ∷ OutOfCaps ∷ [])
+buffer_errors_of Unbuffer = shared (NoBuffer ∷ [])
+buffer_errors_of Put = shared (NotFound ∷ Gap ∷ NoBuffer ∷ BadRange ∷ OutOfRam ∷ OutOfCaps ∷ [])
+buffer_errors_of Get = shared (NotFound ∷ Gap ∷ NoBuffer ∷ BadRange ∷ [])
+buffer_errors_of asked = []
+
 -- in the order of tests
 abbrev pub errors_of : CoverageRequest → List ObjectError
 errors_of AnyRequest = shared (BadRequest ∷ [])
@@ -58,10 +66,10 @@ errors_of Size = shared (NotFound ∷ [])
 errors_of Clear = shared (NotFound ∷ [])
 errors_of Drop = shared (NotFound ∷ [])
 errors_of Name = shared (End ∷ [])
-errors_of Buffer = shared (InvalidSize ∷ Exists ∷ OutOfRam ∷ OutOfCaps ∷ [])
-errors_of Unbuffer = shared (NoBuffer ∷ [])
-errors_of Put = shared (NotFound ∷ Gap ∷ NoBuffer ∷ BadRange ∷ OutOfRam ∷ OutOfCaps ∷ [])
-errors_of Get = shared (NotFound ∷ Gap ∷ NoBuffer ∷ BadRange ∷ [])
+errors_of Buffer = buffer_errors_of Buffer
+errors_of Unbuffer = buffer_errors_of Unbuffer
+errors_of Put = buffer_errors_of Put
+errors_of Get = buffer_errors_of Get
 errors_of Make = object_errors_of Make
 errors_of Resize = object_errors_of Resize
 errors_of Count = object_errors_of Count

@@ -48,7 +48,28 @@ pub struct RulePlace {
 
 impl RouteOwner {
     ghost use Rattle.std.specs.Prelude.{◌≡◌};
+    ghost use Rattle.view_coverage.specs.Names.{owner_number, route_word};
     ghost use Rattle.view_coverage.specs.Rules.{is_same};
+
+    /// Returns the member of a start list that has the route.
+    pub(crate) fn word(self) -> &'static str
+        ensures { result.now ≡ route_word self }
+    {
+        match self {
+            RouteOwner::Own(_) => "route",
+            RouteOwner::Inner(_) | RouteOwner::Machine => "default-route",
+        }
+    }
+
+    /// Returns the number of the component whose route it is, unless it is the machine's.
+    pub(crate) fn number(self) -> Option<usize>
+        ensures { result ≡ owner_number self }
+    {
+        match self {
+            RouteOwner::Own(number) | RouteOwner::Inner(number) => Some(number),
+            RouteOwner::Machine => None,
+        }
+    }
 
     // Whether both routes have one owner.
     fn is_same(self, other: RouteOwner) -> bool

@@ -1,12 +1,20 @@
 //! The coverage of all scenarios, as lines for people.
+ghost use Rattle.std.specs.Prelude.{◌≡◌, ◌&&◌, count_by, length, true, OnOk, Some};
+ghost use Rattle.std.specs.Fmt.{WritesOnOk};
+ghost use Rattle.std.specs.List.{enumerate_from, flat_map};
+ghost use Rattle.view_coverage.specs.Lines.{count_line, count_of, covered_of, event_text, is_first_after, is_of, joined, kind_lines, line_if, list_lines, lists_lines, met_among, met_names, name_text, part_line, part_name, report_text, row_line, row_name, rows_lines, separator, sheet_line, tables_lines, times_text, verdict};
+ghost use Rattle.view_coverage.specs.Reported.{is_covered};
+
 use crate::event::CoverageEvent;
-use crate::report::{CoverageReport, CoverageSheet, PartKind, PartName, tables_of};
+use crate::report::{CoveragePart, CoverageReport, CoverageSheet, PartKind, PartName, tables_of};
 use crate::row::CoverageRow;
 use std::fmt;
 
 /// Writes a refusal after the form of its calls, or an error after the form of its requests. A rule and a service have their
 /// numbers.
 impl fmt::Display for CoverageRow {
+    ghost output = { λ row. Some (event_text row.event) };
+
     fn fmt<W: fmt::Write>(&self, f: &mut fmt::Formatter<W>) -> fmt::Result {
         match self.event {
             CoverageEvent::Refused(form, refusal) => write!(
@@ -29,6 +37,8 @@ impl fmt::Display for CoverageRow {
 
 /// Writes the name of a rule, or a script's path and a service.
 impl fmt::Display for PartName {
+    ghost output = { λ name. Some (name_text name) };
+
     fn fmt<W: fmt::Write>(&self, f: &mut fmt::Formatter<W>) -> fmt::Result {
         match self {
             PartName::Rule(name) => f.write_str(name.as_str()),
@@ -37,114 +47,365 @@ impl fmt::Display for PartName {
     }
 }
 
+// A number of scenarios.
+#[derive(Clone, Copy)]
+struct ScenarioCount(usize);
+
+impl fmt::Display for ScenarioCount {
+    ghost output = { λ count. Some (times_text count.0) };
+
+    fn fmt<W: fmt::Write>(&self, f: &mut fmt::Formatter<W>) -> fmt::Result {
+        let count = self.0;
+        if count == 0 {
+            f.write_str("never")
+        } else if count == 1 {
+            f.write_str("in 1 scenario")
+        } else {
+            write!(f, "in {count} scenarios")
+        }
+    }
+}
+
 /// Writes lines of comments: the rules and the session requests of each start list, then both tables if they are reported, and
 /// then each scenario with what it meets of these.
 impl fmt::Display for CoverageReport {
+    ghost output = { λ report. Some (report_text report) };
+
     fn fmt<W: fmt::Write>(&self, f: &mut fmt::Formatter<W>) -> fmt::Result {
-        for list in 0..self.lists.len() {
-            self.show_parts(f, list, PartKind::Rule, "rules decide a session request")?;
-            self.show_parts(f, list, PartKind::Request, "session requests are made")?;
-        }
-        if self.calls {
-            self.show_tables(f)?;
-        }
-        for sheet in self.sheets.as_slice() {
-            self.show_sheet(f, sheet)?;
-        }
-        Ok(())
+        show_lists(f, self, self.lists.len())?;
+        show_tables(f, self)?;
+        show_sheets(f, self, self.sheets.as_slice())
     }
 }
 
-impl CoverageReport {
-    // The parts of a kind of the start list at a place, after the number of those that are covered.
-    fn show_parts<W: fmt::Write>(
-        &self,
-        f: &mut fmt::Formatter<W>,
-        list: usize,
-        kind: PartKind,
-        verdict: &str,
-    ) -> fmt::Result {
-        let Some(path) = self.lists.get(list) else {
-            return Ok(());
-        };
-        let path = path.as_str();
-        let covered = self.count_of(list, kind, true);
-        let all = self.count_of(list, kind, false);
-        writeln!(f, "# coverage: {path}: {covered} of {all} {verdict}")?;
-        for part in self.parts.as_slice() {
-            if part.is_of(list, kind) {
-                write!(f, "# coverage: {path}: {}: ", part.name)?;
-                show_times(f, self.times_in_list(list, part.place))?;
-            }
+impl PartKind {
+    // Returns what is said of the parts of this kind that are covered.
+    fn verdict(self) -> &'static str
+        ensures { result.now ≡ verdict self }
+    {
+        match self {
+            PartKind::Rule => "rules decide a session request",
+            PartKind::Request => "session requests are made",
         }
-        Ok(())
-    }
-
-    // The number of parts of a kind of the start list at a place, or only of those that are covered.
-    fn count_of(&self, list: usize, kind: PartKind, covered: bool) -> usize {
-        let sheets = self.sheets.as_slice();
-        let parts = self.parts.as_slice().iter();
-        parts
-            .filter(|part| part.is_of(list, kind) && (!covered || part.is_covered(sheets)))
-            .count()
-    }
-
-    // The rows of both tables.
-    fn show_tables<W: fmt::Write>(&self, f: &mut fmt::Formatter<W>) -> fmt::Result {
-        let rows = self.tables();
-        let met = self.count_met();
-        writeln!(
-            f,
-            "# coverage: {met} of {} refusals and errors are met",
-            rows.len()
-        )?;
-        for (place, row) in rows.iter().enumerate() {
-            write!(f, "# coverage: {row}: ")?;
-            show_times(f, self.times(place))?;
-        }
-        Ok(())
-    }
-
-    // The number of rows of the tables that are met.
-    fn count_met(&self) -> usize {
-        let mut met = 0usize;
-        for place in 0..self.tables().len() {
-            if self.times(place) > 0 {
-                met = met.saturating_add(1);
-            }
-        }
-        met
-    }
-
-    // What a scenario meets: rows of the tables if they are reported, and parts of its start list.
-    fn show_sheet<W: fmt::Write>(
-        &self,
-        f: &mut fmt::Formatter<W>,
-        sheet: &CoverageSheet,
-    ) -> fmt::Result {
-        write!(f, "# coverage: {}:", sheet.path.as_str())?;
-        let mut parted = " ";
-        for row in tables_of(sheet.rows.as_slice()) {
-            if self.calls && row.met {
-                write!(f, "{parted}{row}")?;
-                parted = ", ";
-            }
-        }
-        for part in self.parts.as_slice() {
-            if part.list == sheet.list && sheet.meets(part.place) {
-                write!(f, "{parted}{}", part.name)?;
-                parted = ", ";
-            }
-        }
-        f.write_str("\n")
     }
 }
 
-// The number of scenarios.
-fn show_times<W: fmt::Write>(f: &mut fmt::Formatter<W>, times: usize) -> fmt::Result {
-    match times {
-        0 => f.write_str("never\n"),
-        1 => f.write_str("in 1 scenario\n"),
-        _ => writeln!(f, "in {times} scenarios"),
+// Writes the rules and the session requests of so many start lists.
+fn show_lists<W: fmt::Write>(
+    f: &mut fmt::Formatter<W>,
+    report: &CoverageReport,
+    count: usize,
+) -> fmt::Result
+    ensures { WritesOnOk W.write_str_gives f.old result (lists_lines report.now count) f.new }
+{
+    for list in 0..count {
+        show_list(f, report, list)?;
     }
+    Ok(())
+}
+
+// Writes the rules and the session requests of a start list.
+fn show_list<W: fmt::Write>(
+    f: &mut fmt::Formatter<W>,
+    report: &CoverageReport,
+    list: usize,
+) -> fmt::Result
+    ensures { WritesOnOk W.write_str_gives f.old result (list_lines report.now list) f.new }
+{
+    show_kind(f, report, list, PartKind::Rule)?;
+    show_kind(f, report, list, PartKind::Request)
+}
+
+// Writes how many parts of a kind a start list has and how many of them are covered, and each of these parts.
+fn show_kind<W: fmt::Write>(
+    f: &mut fmt::Formatter<W>,
+    report: &CoverageReport,
+    list: usize,
+    kind: PartKind,
+) -> fmt::Result
+    ensures { WritesOnOk W.write_str_gives f.old result (kind_lines report.now list kind) f.new }
+{
+    show_count(f, report, list, kind)?;
+    show_parts(f, report, list, kind, report.parts.as_slice())
+}
+
+// Writes how many parts of a kind a start list has, and how many of them are covered.
+fn show_count<W: fmt::Write>(
+    f: &mut fmt::Formatter<W>,
+    report: &CoverageReport,
+    list: usize,
+    kind: PartKind,
+) -> fmt::Result
+    ensures { WritesOnOk W.write_str_gives f.old result (count_line report.now list kind) f.new }
+{
+    let path = report.path_at(list);
+    let covered = covered_of(report, list, kind);
+    let all = count_of(report, list, kind);
+    writeln!(
+        f,
+        "# coverage: {path}: {covered} of {all} {}",
+        kind.verdict()
+    )
+}
+
+// Returns how many parts of a kind a start list has.
+fn count_of(report: &CoverageReport, list: usize, kind: PartKind) -> usize
+    ensures { result ≡ count_of report.now list kind }
+{
+    let parts = report.parts.as_slice();
+    parts.iter().filter(|part| part.is_of(list, kind)).count()
+}
+
+// Returns how many parts of a kind that a start list has are covered.
+fn covered_of(report: &CoverageReport, list: usize, kind: PartKind) -> usize
+    ensures { result ≡ covered_of report.now list kind }
+{
+    let sheets = report.sheets.as_slice();
+    let parts = report.parts.as_slice();
+    parts
+        .iter()
+        .filter(|part| part.is_of(list, kind) && part.is_covered(sheets))
+        .count()
+}
+
+// Writes those of these parts that are of a kind and of a start list.
+fn show_parts<W: fmt::Write>(
+    f: &mut fmt::Formatter<W>,
+    report: &CoverageReport,
+    list: usize,
+    kind: PartKind,
+    parts: &[CoveragePart],
+) -> fmt::Result
+    ensures { WritesOnOk W.write_str_gives f.old result
+        (flat_map (line_if report.now list kind) parts.now) f.new }
+{
+    for part in parts {
+        show_part_if(f, report, list, kind, part)?;
+    }
+    Ok(())
+}
+
+// Writes a part, if it is of a kind and of a start list.
+fn show_part_if<W: fmt::Write>(
+    f: &mut fmt::Formatter<W>,
+    report: &CoverageReport,
+    list: usize,
+    kind: PartKind,
+    part: &CoveragePart,
+) -> fmt::Result
+    ensures { WritesOnOk W.write_str_gives f.old result
+        (line_if report.now list kind part.now) f.new }
+{
+    if part.is_of(list, kind) {
+        return show_part(f, report, part);
+    }
+    Ok(())
+}
+
+// Writes a part, with the number of scenarios that meet it.
+fn show_part<W: fmt::Write>(
+    f: &mut fmt::Formatter<W>,
+    report: &CoverageReport,
+    part: &CoveragePart,
+) -> fmt::Result
+    ensures { WritesOnOk W.write_str_gives f.old result (part_line report.now part.now) f.new }
+{
+    let path = report.path_at(part.list);
+    let times = ScenarioCount(report.times_of(part));
+    writeln!(f, "# coverage: {path}: {}: {times}", part.name)
+}
+
+// Writes the rows of both tables, if they are reported.
+fn show_tables<W: fmt::Write>(f: &mut fmt::Formatter<W>, report: &CoverageReport) -> fmt::Result
+    ensures { WritesOnOk W.write_str_gives f.old result (tables_lines report.now) f.new }
+{
+    if report.calls {
+        return show_rows(f, report, report.tables());
+    }
+    Ok(())
+}
+
+// Writes how many of these rows are met, and each row.
+fn show_rows<W: fmt::Write>(
+    f: &mut fmt::Formatter<W>,
+    report: &CoverageReport,
+    rows: &[CoverageRow],
+) -> fmt::Result
+    ensures { WritesOnOk W.write_str_gives f.old result (rows_lines report.now rows.now) f.new }
+{
+    let all = rows.len();
+    let met = met_among(report, all);
+    writeln!(f, "# coverage: {met} of {all} refusals and errors are met")?;
+    show_each_row(f, report, rows)
+}
+
+// Returns how many of so many rows of the tables some scenario meets.
+#[tactic(auto, using(crate::proofs::LineLemmas::met_within))]
+fn met_among(report: &CoverageReport, count: usize) -> usize
+    ensures { result ≡ met_among report.now count }
+{
+    let mut met = 0usize;
+    for place in 0..count {
+        if report.times(place) > 0 {
+            met += 1;
+        }
+    }
+    met
+}
+
+// Writes these rows of the tables.
+fn show_each_row<W: fmt::Write>(
+    f: &mut fmt::Formatter<W>,
+    report: &CoverageReport,
+    rows: &[CoverageRow],
+) -> fmt::Result
+    ensures { WritesOnOk W.write_str_gives f.old result
+        (flat_map (row_line report.now) (enumerate_from 0 rows.now)) f.new }
+{
+    for place in 0..rows.len() {
+        show_row(f, report, place, &rows[place])?;
+    }
+    Ok(())
+}
+
+// Writes the row at a place of the tables, with the number of scenarios that meet it.
+fn show_row<W: fmt::Write>(
+    f: &mut fmt::Formatter<W>,
+    report: &CoverageReport,
+    place: usize,
+    row: &CoverageRow,
+) -> fmt::Result
+    ensures { WritesOnOk W.write_str_gives f.old result (row_line report.now (place, row.now)) f.new }
+{
+    let times = ScenarioCount(report.times(place));
+    writeln!(f, "# coverage: {row}: {times}")
+}
+
+// Writes what scenarios meet.
+fn show_sheets<W: fmt::Write>(
+    f: &mut fmt::Formatter<W>,
+    report: &CoverageReport,
+    sheets: &[CoverageSheet],
+) -> fmt::Result
+    ensures { WritesOnOk W.write_str_gives f.old result
+        (flat_map (sheet_line report.now) sheets.now) f.new }
+{
+    for sheet in sheets {
+        show_sheet(f, report, sheet)?;
+    }
+    Ok(())
+}
+
+// Writes what a scenario meets: rows of the tables if they are reported, and parts of its start list.
+fn show_sheet<W: fmt::Write>(
+    f: &mut fmt::Formatter<W>,
+    report: &CoverageReport,
+    sheet: &CoverageSheet,
+) -> fmt::Result
+    ensures { WritesOnOk W.write_str_gives f.old result (sheet_line report.now sheet.now) f.new }
+{
+    write!(f, "# coverage: {}:", sheet.path.as_str())?;
+    name_all(f, report, sheet)?;
+    f.write_str("\n")
+}
+
+// Writes the names of rows of the tables that a scenario meets, if rows are reported, and then of parts of its start list.
+fn name_all<W: fmt::Write>(
+    f: &mut fmt::Formatter<W>,
+    report: &CoverageReport,
+    sheet: &CoverageSheet,
+) -> fmt::Result
+    ensures { WritesOnOk W.write_str_gives f.old result
+        (joined true (met_names report.now sheet.now)) f.new }
+{
+    let mut is_first = true;
+    name_rows(
+        f,
+        &mut is_first,
+        report.calls,
+        tables_of(sheet.rows.as_slice()),
+    )?;
+    name_parts(f, &mut is_first, sheet, report.parts.as_slice())
+}
+
+// Writes those of these rows that are met, if they are reported.
+fn name_rows<W: fmt::Write>(
+    f: &mut fmt::Formatter<W>,
+    is_first: &mut bool,
+    calls: bool,
+    rows: &[CoverageRow],
+) -> fmt::Result
+    ensures text { WritesOnOk W.write_str_gives f.old result
+        (joined is_first.old (flat_map (row_name calls) rows.now)) f.new }
+    ensures first { OnOk result (is_first.new
+        ≡ is_first_after is_first.old (flat_map (row_name calls) rows.now)) }
+{
+    for row in rows {
+        name_row(f, is_first, calls, row)?;
+    }
+    Ok(())
+}
+
+// Writes a row, if it is met and rows are reported.
+fn name_row<W: fmt::Write>(
+    f: &mut fmt::Formatter<W>,
+    is_first: &mut bool,
+    calls: bool,
+    row: &CoverageRow,
+) -> fmt::Result
+    ensures text { WritesOnOk W.write_str_gives f.old result
+        (joined is_first.old (row_name calls row.now)) f.new }
+    ensures first { OnOk result (is_first.new ≡ is_first_after is_first.old (row_name calls row.now)) }
+{
+    if !(calls && row.met) {
+        return Ok(());
+    }
+    let before = separator(*is_first);
+    *is_first = false;
+    write!(f, "{before}{row}")
+}
+
+// Writes those of these parts that a scenario meets.
+fn name_parts<W: fmt::Write>(
+    f: &mut fmt::Formatter<W>,
+    is_first: &mut bool,
+    sheet: &CoverageSheet,
+    parts: &[CoveragePart],
+) -> fmt::Result
+    ensures text { WritesOnOk W.write_str_gives f.old result
+        (joined is_first.old (flat_map (part_name sheet.now) parts.now)) f.new }
+    ensures first { OnOk result (is_first.new
+        ≡ is_first_after is_first.old (flat_map (part_name sheet.now) parts.now)) }
+{
+    for part in parts {
+        name_part(f, is_first, sheet, part)?;
+    }
+    Ok(())
+}
+
+// Writes the name of a part, if a scenario meets it.
+fn name_part<W: fmt::Write>(
+    f: &mut fmt::Formatter<W>,
+    is_first: &mut bool,
+    sheet: &CoverageSheet,
+    part: &CoveragePart,
+) -> fmt::Result
+    ensures text { WritesOnOk W.write_str_gives f.old result
+        (joined is_first.old (part_name sheet.now part.now)) f.new }
+    ensures first { OnOk result
+        (is_first.new ≡ is_first_after is_first.old (part_name sheet.now part.now)) }
+{
+    if !sheet.meets_part(part) {
+        return Ok(());
+    }
+    let before = separator(*is_first);
+    *is_first = false;
+    write!(f, "{before}{}", part.name)
+}
+
+// Returns what is before a name.
+fn separator(is_first: bool) -> &'static str
+    ensures { result.now ≡ separator is_first }
+{
+    if is_first { " " } else { ", " }
 }

@@ -1,12 +1,16 @@
 //! The coverage of all scenarios: which rules decide a session request, which script requests which service, and which refusals
 //! and errors are met, in total and by file.
-ghost use Rattle.std.specs.Prelude.{◌≡◌, ◌&&◌, ◌==◌, ◌++◌, ◌∷◌, [], count_by, if◌then◌else◌, is_some, length, map, string_bytes, IfOk, IfSome, OnOk, Some};
-ghost use Rattle.view_coverage.specs.Reported.{if_new, is_covered, is_event_of_list, is_met_in, is_met_on_table, is_of_list, list_at, list_of_scenario, numbers_of, parts_from, parts_in, parts_with, paths_in, paths_with, place_of, rows_in};
+ghost use Rattle.std.specs.Prelude.{◌≡◌, ◌≤◌, ◌&&◌, ◌==◌, ◌++◌, ◌∷◌, [], count_by, if◌then◌else◌, is_some, length, map, string_bytes, IfOk, IfSome, OnOk, Some};
+ghost use Rattle.std.specs.List.{position};
+ghost use Rattle.view_coverage.specs.Documents.{most_rows, path_at, table_rows, times, times_of};
+ghost use Rattle.std.specs.Option.{option_and_then, option_map};
+ghost use Rattle.view_coverage.specs.Names.{names_by, names_in, owner_number, path_of, requested_service, rule_name, rule_text, script_path};
+ghost use Rattle.view_coverage.specs.Reported.{if_new, is_covered, is_met_on_table, is_of_list, list_at, list_of_scenario, meets_part, part_named, part_of, parts_from, parts_in, parts_with, paths_in, paths_with, place_of, rows_in};
 
 use crate::event::{CoverageEvent, RouteOwner, RulePlace, ScriptService};
 use crate::row::CoverageRow;
 use crate::scenario_coverage::Coverage;
-use list_parser::StartList;
+use list_parser::{Path, StartList};
 use list_reach::service_name;
 use std::alloc::{AllocError, Global};
 
@@ -34,7 +38,7 @@ pub(crate) struct CoveragePart {
 }
 
 /// The kind of a part of a start list.
-#[derive(Clone, Copy, PartialEq, Eq)]
+#[derive(Clone, Copy)]
 pub(crate) enum PartKind {
     /// A rule of a route.
     Rule,
@@ -44,24 +48,21 @@ pub(crate) enum PartKind {
 
 impl CoveragePart {
     ghost use Rattle.std.specs.Prelude.{◌≡◌};
+    ghost use Rattle.view_coverage.specs.Lines.{is_of};
     ghost use Rattle.view_coverage.specs.Reported.{is_covered};
 
     /// Returns whether the part is of this kind, and of the start list at this place.
-    pub(crate) fn is_of(&self, list: usize, kind: PartKind) -> bool {
-        let own = match self.name {
-            PartName::Rule(_) => PartKind::Rule,
-            PartName::Request(_, _) => PartKind::Request,
-        };
-        self.list == list && own == kind
+    pub(crate) fn is_of(&self, list: usize, kind: PartKind) -> bool
+        ensures { result ≡ is_of list kind self.now }
+    {
+        self.list == list && self.name.is_of(kind)
     }
 
     /// Returns whether one of these scenarios is of the part's start list and meets the part's row.
     pub(crate) fn is_covered(&self, sheets: &[CoverageSheet]) -> bool
         ensures { result ≡ is_covered sheets.now self.now }
     {
-        sheets
-            .iter()
-            .any(|sheet| sheet.list == self.list && sheet.meets(self.place))
+        sheets.iter().any(|sheet| sheet.meets_part(self))
     }
 }
 
@@ -72,6 +73,21 @@ pub(crate) enum PartName {
     Rule(String),
     /// The session requests of the script with the first path for the service with the second name.
     Request(String, String),
+}
+
+impl PartName {
+    ghost use Rattle.std.specs.Prelude.{◌≡◌};
+    ghost use Rattle.view_coverage.specs.Lines.{is_of_kind};
+
+    // Returns whether the name is of a part of this kind.
+    fn is_of(&self, kind: PartKind) -> bool
+        ensures { result ≡ is_of_kind kind self.now }
+    {
+        match kind {
+            PartKind::Rule => matches!(self, PartName::Rule(_)),
+            PartKind::Request => matches!(self, PartName::Request(_, _)),
+        }
+    }
 }
 
 /// The number of rules and session requests of all start lists, and the number of those that scenarios cover.
@@ -104,7 +120,12 @@ pub(crate) struct CoverageSheet {
 
 impl CoverageReport {
     /// Returns a report without scenarios, to which scenarios are added. It has the refusals and errors if `calls` is set.
-    pub fn new(alloc: Global, calls: bool) -> CoverageReport {
+    pub fn new(alloc: Global, calls: bool) -> CoverageReport
+        ensures calls { result.calls ≡ calls }
+        ensures paths { paths_in result ≡ [] }
+        ensures parts { parts_in result ≡ [] }
+        ensures rows { rows_in result ≡ [] }
+    {
         CoverageReport {
             alloc,
             calls,
@@ -129,7 +150,7 @@ impl CoverageReport {
         ensures rows { OnOk result (rows_in self.new ≡ rows_in self.old ++ coverage.rows.items ∷ []) }
         ensures paths { OnOk result (paths_in self.new ≡ paths_with self.old path.now) }
         ensures parts { OnOk result
-            (parts_in self.new ≡ parts_with self.old path.now coverage.rows.items) }
+            (parts_in self.new ≡ parts_with self.old list.now path.now coverage.rows.items) }
     {
         let place = self.place_of(list, path, coverage.rows.as_slice())?;
         self.sheets.push(CoverageSheet {
@@ -163,7 +184,7 @@ impl CoverageReport {
         ensures sheets { self.new.sheets ≡ self.old.sheets }
         ensures place { IfOk result (λ place. list_at self.new.lists.items place ≡ Some path.now) }
         ensures paths { OnOk result (paths_in self.new ≡ paths_with self.old path.now) }
-        ensures parts { OnOk result (parts_in self.new ≡ parts_with self.old path.now rows.now) }
+        ensures parts { OnOk result (parts_in self.new ≡ parts_with self.old list.now path.now rows.now) }
     {
         if let Some(place) = place_in(self.lists.as_slice(), path) {
             return Ok(place);
@@ -176,36 +197,40 @@ impl CoverageReport {
 
     /// Returns the rows of both tables. Their events are the same for each scenario, except that only the machines with declared
     /// servers have the last ones, which are of requests to these: so the most rows of a scenario are returned.
-    pub(crate) fn tables(&self) -> &[CoverageRow] {
-        let mut most: &[CoverageRow] = &[];
-        for sheet in self.sheets.as_slice() {
-            let rows = tables_of(sheet.rows.as_slice());
-            if rows.len() > most.len() {
-                most = rows;
-            }
-        }
-        most
+    pub(crate) fn tables(&self) -> &[CoverageRow]
+        ensures { result.now ≡ most_rows [] self.now.sheets.items }
+    {
+        tables_in(self.sheets.as_slice())
     }
 
     /// Returns how many scenarios meet the row at a place of the tables.
     pub(crate) fn times(&self, place: usize) -> usize
-        ensures { result ≡ count_by (λ sheet. is_met_on_table sheet place) self.now.sheets.items }
+        ensures { result ≡ times self.now place }
     {
         times_in(self.sheets.as_slice(), place)
     }
 
-    /// Returns how many scenarios of a start list meet the row at a place.
-    pub(crate) fn times_in_list(&self, list: usize, place: usize) -> usize
-        ensures { result ≡ count_by
-            (λ sheet. (sheet.list == list) && is_met_in sheet place) self.now.sheets.items }
+    /// Returns how many scenarios of its start list meet a part.
+    pub(crate) fn times_of(&self, part: &CoveragePart) -> usize
+        ensures { result ≡ times_of self.now part.now }
     {
-        times_of(self.sheets.as_slice(), list, place)
+        meeting(self.sheets.as_slice(), part)
+    }
+
+    /// Returns the path of the start list at a place, which is empty if there is none.
+    pub(crate) fn path_at(&self, list: usize) -> &str
+        ensures { result.now ≡ path_at self.now list }
+    {
+        match self.lists.get(list) {
+            Some(path) => path.as_str(),
+            None => "",
+        }
     }
 }
 
 impl CoverageSheet {
     ghost use Rattle.std.specs.Prelude.{◌≡◌};
-    ghost use Rattle.view_coverage.specs.Reported.{is_met_in, is_met_on_table};
+    ghost use Rattle.view_coverage.specs.Reported.{is_met_in, is_met_on_table, meets_part};
 
     /// Returns whether the scenario meets the row at a place.
     pub(crate) fn meets(&self, place: usize) -> bool
@@ -215,6 +240,13 @@ impl CoverageSheet {
             Some(row) => row.met,
             None => false,
         }
+    }
+
+    /// Returns whether the scenario is of the start list of a part, and meets its row.
+    pub(crate) fn meets_part(&self, part: &CoveragePart) -> bool
+        ensures { result ≡ meets_part self.now part.now }
+    {
+        self.list == part.list && self.meets(part.place)
     }
 
     /// Returns whether the row at a place is of a table, and the scenario meets the row.
@@ -252,23 +284,44 @@ fn times_in(sheets: &[CoverageSheet], place: usize) -> usize
         .count()
 }
 
-// The same for the scenarios of a start list.
-fn times_of(sheets: &[CoverageSheet], list: usize, place: usize) -> usize
-    ensures { result ≡ count_by
-        (λ sheet. (sheet.list == list) && is_met_in sheet place) sheets.now }
+// Returns how many of these scenarios meet a part.
+fn meeting(sheets: &[CoverageSheet], part: &CoveragePart) -> usize
+    ensures { result ≡ count_by (λ sheet. meets_part sheet part.now) sheets.now }
 {
-    sheets
-        .iter()
-        .filter(|sheet| sheet.list == list && sheet.meets(place))
-        .count()
+    sheets.iter().filter(|sheet| sheet.meets_part(part)).count()
+}
+
+// Returns the rows of both tables of the scenario that has most of them.
+fn tables_in(sheets: &[CoverageSheet]) -> &[CoverageRow]
+    ensures { result.now ≡ most_rows [] sheets.now }
+{
+    let mut most: &[CoverageRow] = &[];
+    for sheet in sheets {
+        let rows = tables_of(sheet.rows.as_slice());
+        if rows.len() > most.len() {
+            most = rows;
+        }
+    }
+    most
 }
 
 /// Returns the rows before the first row of a start list: those of both tables.
-pub(crate) fn tables_of(rows: &[CoverageRow]) -> &[CoverageRow] {
-    match rows.iter().position(|row| row.is_of_list()) {
+#[tactic(auto, using(crate::proofs::PlaceLemmas::all_rows, crate::proofs::PlaceLemmas::first_rows))]
+pub(crate) fn tables_of(rows: &[CoverageRow]) -> &[CoverageRow]
+    ensures { result.now ≡ table_rows rows.now }
+{
+    match first_of_list(rows) {
         Some(end) => &rows[..end],
         None => rows,
     }
+}
+
+// Returns the place of the first row of a start list.
+fn first_of_list(rows: &[CoverageRow]) -> Option<usize>
+    ensures place { result ≡ position is_of_list rows.now }
+    ensures within { IfSome result (λ end. end ≤ length rows.now) }
+{
+    rows.iter().position(|row| row.is_of_list())
 }
 
 // Adds the parts of the start list at a place: one for each row of a rule or of a script and a service.
@@ -279,8 +332,8 @@ fn add_parts(
     rows: &[CoverageRow],
     parts: &mut Vec<CoveragePart>,
 ) -> Result<(), AllocError>
-    ensures { OnOk result (map numbers_of parts.new.items
-        ≡ map numbers_of parts.old.items ++ parts_from number 0 rows.now) }
+    ensures { OnOk result (map part_of parts.new.items
+        ≡ map part_of parts.old.items ++ parts_from list.now number 0 rows.now) }
 {
     for place in 0..rows.len() {
         add_part(alloc, list, number, place, &rows[place], parts)?;
@@ -297,8 +350,8 @@ fn add_part(
     row: &CoverageRow,
     parts: &mut Vec<CoveragePart>,
 ) -> Result<(), AllocError>
-    ensures { OnOk result (map numbers_of parts.new.items ≡ map numbers_of parts.old.items
-        ++ (if is_of_list row.now then (number, place) ∷ [] else [])) }
+    ensures { OnOk result (map part_of parts.new.items ≡ map part_of parts.old.items
+        ++ part_named number place (names_by list.now row.now.event)) }
 {
     let Some(name) = part_name(alloc, list, row.event)? else {
         return Ok(());
@@ -317,7 +370,7 @@ fn part_name(
     list: &StartList,
     event: CoverageEvent,
 ) -> Result<Option<PartName>, AllocError>
-    ensures { IfOk result (λ name. is_some name ≡ is_event_of_list event) }
+    ensures { IfOk result (λ name. option_map names_in name ≡ names_by list.now event) }
 {
     match event {
         CoverageEvent::Refused(_, _) | CoverageEvent::Failed(_, _) => Ok(None),
@@ -333,24 +386,33 @@ fn part_name(
     }
 }
 
-// Returns the path of a script.
-fn script_path(
-    alloc: Global,
-    list: &StartList,
-    asked: ScriptService,
-) -> Result<String, AllocError> {
-    match list.entries().get(asked.client) {
-        Some(entry) => format!(in alloc; "{}", entry.to_path()),
+// Returns the path of a script, which is empty if the start list has no component of its number.
+fn script_path(alloc: Global, list: &StartList, asked: ScriptService) -> Result<String, AllocError>
+    ensures { IfOk result (λ path. string_bytes path ≡ script_path list.now asked.client) }
+{
+    match path_of(list, asked.client) {
+        Some(path) => String::from_str(alloc, path.as_str()),
         None => Ok(String::new(alloc)),
     }
 }
 
-// Returns the name of a service.
+// Returns the path of the component of a number, if there is one.
+fn path_of(list: &StartList, number: usize) -> Option<Path>
+    ensures { result ≡ path_of list.now number }
+{
+    let entry = list.entries().get(number)?;
+    Some(entry.to_path())
+}
+
+// Returns the name of a service, which is empty if the start list has no service of its number.
+#[tactic(auto, using(crate::proofs::PlaceLemmas::no_service))]
 fn asked_service(
     alloc: Global,
     list: &StartList,
     asked: ScriptService,
-) -> Result<String, AllocError> {
+) -> Result<String, AllocError>
+    ensures { IfOk result (λ name. string_bytes name ≡ requested_service list.now asked.service) }
+{
     if asked.service < list.service_count() {
         String::from_str(alloc, service_name(list, asked.service))
     } else {
@@ -358,20 +420,32 @@ fn asked_service(
     }
 }
 
-// The name of a rule: its place in its route, and whose route that is, unless it is the machine's.
-fn rule_name(alloc: Global, list: &StartList, rule: RulePlace) -> Result<String, AllocError> {
-    let place = rule.place;
-    let (route, number) = match rule.route {
-        RouteOwner::Own(number) => ("route", Some(number)),
-        RouteOwner::Inner(number) => ("default-route", Some(number)),
-        RouteOwner::Machine => ("default-route", None),
-    };
-    let owner = match number {
-        Some(number) => list.entries().get(number),
-        None => None,
-    };
+// Returns the name of a rule: its place in its route, and whose route that is, unless it is the machine's.
+fn rule_name(alloc: Global, list: &StartList, rule: RulePlace) -> Result<String, AllocError>
+    ensures { IfOk result (λ name. string_bytes name ≡ rule_name list.now rule) }
+{
+    let owner = owner_path(list, rule.route);
+    rule_text(alloc, rule.route.word(), rule.place, owner)
+}
+
+// Returns a rule of a route by its place, and the path of the component whose route it is, if there is one.
+fn rule_text(
+    alloc: Global,
+    route: &str,
+    place: usize,
+    owner: Option<Path>,
+) -> Result<String, AllocError>
+    ensures { IfOk result (λ name. string_bytes name ≡ rule_text route.now place owner) }
+{
     match owner {
-        Some(entry) => format!(in alloc; "{route}[{place}] of {}", entry.to_path()),
+        Some(path) => format!(in alloc; "{route}[{place}] of {}", path.as_str()),
         None => format!(in alloc; "{route}[{place}]"),
     }
+}
+
+// Returns the path of the component whose route this is, unless it is the machine's.
+fn owner_path(list: &StartList, route: RouteOwner) -> Option<Path>
+    ensures { result ≡ option_and_then (path_of list.now) (owner_number route) }
+{
+    path_of(list, route.number()?)
 }

@@ -2,7 +2,7 @@
 ghost use Rattle.std.specs.Prelude.{◌≡◌};
 ghost use Rattle.std.specs.Option.{option_copied};
 ghost use Rattle.core_calls.specs.Call.{model_call};
-ghost use Rattle.view_coverage.specs.Requests.{asked_word, errors_of, is_asked, object_errors_of, request_word};
+ghost use Rattle.view_coverage.specs.Requests.{asked_word, buffer_errors_of, errors_of, is_asked, object_errors_of, request_word};
 
 use core_calls::FileError::{
     BadName, BadRange, BadRequest, End, Exists, Gap, InvalidSize, NoBuffer, NotFound, OutOfCaps,
@@ -59,7 +59,7 @@ pub(crate) const OBJECT_REQUESTS: [CoverageRequest; 3] = [
 impl CoverageRequest {
     ghost use Rattle.std.specs.Prelude.{◌≡◌};
     ghost use Rattle.std.specs.Option.{option_copied};
-    ghost use Rattle.view_coverage.specs.Requests.{asked_word, errors_of, is_any, is_asked, object_errors_of};
+    ghost use Rattle.view_coverage.specs.Requests.{asked_word, buffer_errors_of, errors_of, is_any, is_asked, object_errors_of};
 
     /// Returns the first word of requests of this form, or `any request`.
     pub fn word(self) -> &'static str
@@ -110,6 +110,21 @@ impl CoverageRequest {
                 &[Shared(NotFound)]
             }
             CoverageRequest::Name => &[Shared(End)],
+            CoverageRequest::Buffer
+            | CoverageRequest::Unbuffer
+            | CoverageRequest::Put
+            | CoverageRequest::Get => self.buffer_errors(),
+            CoverageRequest::Make | CoverageRequest::Resize | CoverageRequest::Count => {
+                self.object_errors()
+            }
+        }
+    }
+
+    // Returns the errors of a form that works on a session's buffer; other forms have none of these.
+    fn buffer_errors(self) -> &'static [ObjectError]
+        ensures { result.now ≡ buffer_errors_of self }
+    {
+        match self {
             CoverageRequest::Buffer => {
                 &[
                     Shared(InvalidSize),
@@ -135,9 +150,7 @@ impl CoverageRequest {
                     Shared(BadRange),
                 ]
             }
-            CoverageRequest::Make | CoverageRequest::Resize | CoverageRequest::Count => {
-                self.object_errors()
-            }
+            _ => &[],
         }
     }
 

@@ -155,5 +155,5 @@ answered_alike name {core = core} start earlier call whole alone leads in_whole 
 pub are_alike : (name : List ℕ) → AreAlike name
 are_alike name = record {
   calls = told_alike name;
-  columns = λ start turns. pieces_stand_alone start.entries start.states name (calls_of_steps turns);
+  columns = λ start steps. pieces_stand_alone start.entries start.states name (calls_of_steps steps);
 }

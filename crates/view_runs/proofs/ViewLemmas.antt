@@ -18,13 +18,13 @@ use Rattle.run_scenario.specs.Judging.{Awaited, errors_of, nothing_awaited}
 use Rattle.run_scenario.specs.RunCalls.{calls_answered, calls_of_steps, text_of_steps}
 use Rattle.run_scenario.specs.ScenarioRuns.{CountsErrors, RunsAll, most_lines, tally}
 use Rattle.view_runs.specs.Tracing.{TraceRow, trace_call_text}
-use Rattle.run_scenario.specs.LineSteps.{LineStep, calls_in, turns_of}
+use Rattle.run_scenario.specs.LineSteps.{LineStep, calls_in, steps_of}
 use Rattle.run_scenario.specs.Writes.{AreAll, Closes, IsRunFrom, RunStart, WritesAfter, start_at, start_on}
 use Rattle.view_runs.specs.Transcripts.{list_behind, text_of_run_call, shown_of}
 use Rattle.run_scenario.specs.declared.scenario_end.ScenarioEnd.{ScenarioEnd}
 use Rattle.run_lines.specs.declared.line_run_fault.LineRunFault.{LineRunFault}
 use Rattle.line_steps.specs.RunPosition.{RunPosition}
-use Rattle.run_scenario.proofs.PlayedLemmas.{told_as_engine, turns_length}
+use Rattle.run_scenario.proofs.PlayedLemmas.{told_as_engine, steps_length}
 use Rattle.run_scenario.proofs.TallyLemmas.{errors_exact}
 use Rattle.run_scenario.proofs.WriteLemmas.{closes_alone, closes_as, played_from}
 
@@ -35,15 +35,15 @@ pub run_played : (numbers accounts : Bool) (only : Option (List ℕ)) (listed : 
 run_played true accounts only listed {w' = w'} {w'' = w''} played ended plays closes =
     played_from played ended plays refl (subst (λ world. Closes played ended w' w'' (accounts_for accounts listed world)) plays.world closes)
 run_played false accounts only listed {first = first} {start = start} {w' = w'} {w'' = w''} played ended plays closes =
-    played_from played ended plays (told_as_engine only start (turns_of only start first plays.given))
+    played_from played ended plays (told_as_engine only start (steps_of only start first plays.given))
     (subst (λ world. Closes played ended w' w'' (accounts_for accounts listed world)) plays.world closes)
 
 -- the rows of a trace, after the text before them
 pub trace_played : (front : List ℕ) (row_text : TraceRow → List ℕ) (takes : Bool) {first : RunPosition} {seen reports : List (List ℕ) → Type 0} {start last : World} {awaited : Awaited} {input rest w w' : Option (List ℕ)} {failed : Bool} (ending : ScenarioEnd) {header : List ℕ} → header ≡ front →
     RunsAll (trace_call_text row_text start) takes seen (CountsErrors None start (tally 0 awaited) ending.complaints) reports None first ending.fault ending.lines start last header input rest failed w w' →
-    IsRunFrom (start_at None start first awaited) (λ turns. front ++ text_of_steps (trace_call_text row_text start) None [] turns) (λ _. []) takes reports ending input rest failed w w'
+    IsRunFrom (start_at None start first awaited) (λ steps. front ++ text_of_steps (trace_call_text row_text start) None [] steps) (λ _. []) takes reports ending input rest failed w w'
 trace_played front row_text takes {first = first} {start = start} {w' = w'} ending is plays =
-    played_from ending ending plays (ap (λ text. text ++ text_of_steps (trace_call_text row_text start) None [] (turns_of None start first plays.given)) is) (closes_alone ending w')
+    played_from ending ending plays (ap (λ text. text ++ text_of_steps (trace_call_text row_text start) None [] (steps_of None start first plays.given)) is) (closes_alone ending w')
 
 -- ---- one name alone
 
@@ -65,26 +65,26 @@ one_in (Call filled line reply) = omega arith
 one_in (BadLine fault) = omega arith
 
 -- so there are no more calls than turns, and as many of these as lines
-few_calls : (turns : List LineStep) → length (calls_of_steps turns) ≤ length turns
+few_calls : (steps : List LineStep) → length (calls_of_steps steps) ≤ length steps
 few_calls [] = omega arith
-few_calls (turn ∷ turns) = omega (arith, few_calls turns, one_in turn.resolved, length-append (calls_in turn.resolved) (calls_of_steps turns))
+few_calls (step ∷ steps) = omega (arith, few_calls steps, one_in step.resolved, length-append (calls_in step.resolved) (calls_of_steps steps))
 
-pub few_of_name : (name : List ℕ) (world : World) (stand : RunPosition) (lines : List (List ℕ)) → length (calls_answered (Some name) (turns_of None world stand lines)) ≤ length lines
-few_of_name name world stand lines =
-    omega (arith, filter_few (is_line_of name) (calls_of_steps (turns_of None world stand lines)), few_calls (turns_of None world stand lines), turns_length None world stand lines)
+pub few_of_name : (name : List ℕ) (world : World) (position : RunPosition) (lines : List (List ℕ)) → length (calls_answered (Some name) (steps_of None world position lines)) ≤ length lines
+few_of_name name world position lines =
+    omega (arith, filter_few (is_line_of name) (calls_of_steps (steps_of None world position lines)), few_calls (steps_of None world position lines), steps_length None world position lines)
 
 pub alone_played : (name : List ℕ) {reports : List (List ℕ) → Type 0} {first : RunPosition} {start last core : World} {awaited : Awaited} {count : ℕ} {difference : Option ℕ} {input rest w w' w'' : Option (List ℕ)} {failed : Bool} (played ended : ScenarioEnd) → played.lines ≤ 1000000 →
     RunsAll (alone_call_text name start) false (SeesAlone name core count difference start) (CountsErrors None start (tally 0 awaited) played.complaints) reports None first played.fault played.lines start last [] input rest failed w w' →
     Closes played ended w' w'' (alone_sum name count) →
-    IsRunFrom (start_at None start first awaited) (λ turns. text_of_steps (alone_call_text name start) None [] turns) (λ turns. alone_sum name (length (calls_answered (Some name) turns))) false reports ended input rest failed w w''
+    IsRunFrom (start_at None start first awaited) (λ steps. text_of_steps (alone_call_text name start) None [] steps) (λ steps. alone_sum name (length (calls_answered (Some name) steps))) false reports ended input rest failed w w''
 alone_played name {first = first} {start = start} {core = core} {count = count} {difference = difference} {w' = w'} {w'' = w''} played ended few plays closes =
     played_from played ended plays refl (closes_as played ended w' w'' _ _ (same played.fault plays.counted plays.sees) closes)
   where
-    turns : List LineStep
-    turns = turns_of None start first plays.given
+    steps : List LineStep
+    steps = steps_of None start first plays.given
 
-    same : (f : Option LineRunFault) → IfNone f (played.lines ≡ length plays.given) → IfNone f (SeesAlone name core count difference start (calls_answered None turns)) →
-        IfNone f (alone_sum name count ≡ alone_sum name (length (calls_answered (Some name) turns)))
+    same : (f : Option LineRunFault) → IfNone f (played.lines ≡ length plays.given) → IfNone f (SeesAlone name core count difference start (calls_answered None steps)) →
+        IfNone f (alone_sum name count ≡ alone_sum name (length (calls_answered (Some name) steps)))
     same None counted sees = ap (alone_sum name) (sees.counted (omega (arith, few, counted, few_of_name name start first plays.given)))
     same (Some fault) counted sees = tt
 
@@ -96,20 +96,20 @@ pub alone_counts : (name : List ℕ) {reports : List (List ℕ) → Type 0} {fir
 alone_counts name {first = first} {start = start} {core = core} awaited {count = count} {difference = difference} {input = input} {rest = rest} {w' = w'} {w'' = w''} {failed = failed} played ended few plays closes =
     by played.fault ended.fault plays.ends plays.counted plays.complained plays.sees closes.writes
   where
-    turns : List LineStep
-    turns = turns_of None start first plays.given
+    steps : List LineStep
+    steps = steps_of None start first plays.given
 
     all : (o : Option (List ℕ)) → EndsFor most_lines None plays.given o rest failed → IfSome o (AreAll plays.given)
     all None ends = tt
     all (Some text) ends = ends.1 ∙ ap (λ left. plays.given ++ left) ends.2.0 ∙ append-nil plays.given
 
     by : (f f' : Option LineRunFault) → EndsFor most_lines f plays.given input rest failed → IfNone f (played.lines ≡ length plays.given) →
-        IfNone f (CountsErrors None start (tally 0 awaited) played.complaints turns) → IfNone f (SeesAlone name core count difference start (calls_answered None turns)) →
+        IfNone f (CountsErrors None start (tally 0 awaited) played.complaints steps) → IfNone f (SeesAlone name core count difference start (calls_answered None steps)) →
         WritesAfter f f' w' w'' (alone_sum name count) → IfNone f' (CountsAlone name (start_at None start first awaited) input ended.complaints count)
     by None None ends counted errors sees writes = record {
       given = plays.given;
       all = all input ends;
-      complained = closes.complaints ∙ errors_exact None start awaited turns played.complaints (omega (arith, plays.few, turns_length None start first plays.given)) errors;
+      complained = closes.complaints ∙ errors_exact None start awaited steps played.complaints (omega (arith, plays.few, steps_length None start first plays.given)) errors;
       counted = sees.counted (omega (arith, few, counted, few_of_name name start first plays.given));
     }
     by (Some fault) None ends counted errors sees writes = absurd (none-some fault writes.0)

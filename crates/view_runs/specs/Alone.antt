@@ -45,7 +45,7 @@ alone_sum name lines =
     else decimal lines ++ codes " lines of " ++ name ++ codes ": the same alone as in the whole run" ++ 10 ∷ []
 
 abbrev pub alone_behind : List ℕ → List LineStep → List ℕ
-alone_behind name turns = alone_sum name (length (calls_answered (Some name) turns))
+alone_behind name steps = alone_sum name (length (calls_answered (Some name) steps))
 
 -- lines that are all of the input, if that is known: their errors by their steps, and how many calls of a name they make
 pub record CountsAlone (name : List ℕ) (start : RunStart) (input : Option (List ℕ)) (errors count : ℕ) : Type 0 where
@@ -55,18 +55,18 @@ pub record CountsAlone (name : List ℕ) (start : RunStart) (input : Option (Lis
   pub counted : count ≡ length (calls_answered (Some name) (steps_from start given))
 
 abbrev pub alone_text : List ℕ → Listed → List LineStep → List ℕ
-alone_text name listed turns = text_of_steps (alone_call_text name (world_of listed)) None [] turns
+alone_text name listed steps = text_of_steps (alone_call_text name (world_of listed)) None [] steps
 
 -- the text for a name's calls in the whole run, put together
 abbrev pub whole_column : List ℕ → World → List LineStep → List ℕ
-whole_column name start turns = joined (pieces_for name (pieces start.entries start.states [] (calls_of_steps turns)))
+whole_column name start steps = joined (pieces_for name (pieces start.entries start.states [] (calls_of_steps steps)))
 
 -- and alone
 abbrev pub alone_column : List ℕ → World → List LineStep → List ℕ
-alone_column name start turns = transcript_of (Some name) start turns
+alone_column name start steps = transcript_of (Some name) start steps
 
 -- the text for a name in the whole run is its text alone, call by call and in all
 pub record AreAlike (name : List ℕ) : Type 0 where
   pub calls : (start : World) (earlier : List (List ℕ)) (call : List ℕ) → is_line_of name call ≡ true →
       told_in (world_running start earlier) call ≡ told_in (after_all (Some name) start earlier) call
-  pub columns : (start : World) (turns : List LineStep) → whole_column name start turns ≡ alone_column name start turns
+  pub columns : (start : World) (steps : List LineStep) → whole_column name start steps ≡ alone_column name start steps

@@ -29,9 +29,9 @@ abbrev pub exchanges : World → List (List ℕ) → List Exchange
 exchanges start calls = exchanges_after start [] calls
 
 -- a scenario was run, from its first line on, to its end or to a fault that has a cause, and these are its calls
-pub record IsAnsweredFrom (turns : List (List ℕ) → List LineStep) (start : World) (ending : ScenarioEnd) (found : List Exchange)
+pub record IsAnsweredFrom (steps : List (List ℕ) → List LineStep) (start : World) (ending : ScenarioEnd) (found : List Exchange)
     (input rest : Option (List ℕ)) (failed : Bool) : Type 0 where
   pub given : List (List ℕ)
   pub readable : AreReadable given
   pub ends : EndsFor most_lines ending.fault given input rest failed
-  pub are : IfNone ending.fault (found ≡ exchanges start (calls_answered None (turns given)))
+  pub are : IfNone ending.fault (found ≡ exchanges start (calls_answered None (steps given)))

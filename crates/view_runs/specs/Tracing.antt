@@ -88,4 +88,4 @@ trace_call_text row_text start earlier number call = row_text (trace_row (world_
 
 -- a trace: the text before the rows, and a row for each call
 abbrev pub trace_text : List ℕ → (TraceRow → List ℕ) → Listed → List LineStep → List ℕ
-trace_text front row_text listed turns = front ++ text_of_steps (trace_call_text row_text (world_of listed)) None [] turns
+trace_text front row_text listed steps = front ++ text_of_steps (trace_call_text row_text (world_of listed)) None [] steps

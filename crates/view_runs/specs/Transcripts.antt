@@ -28,15 +28,15 @@ abbrev pub text_of_run_call : Bool → World → List (List ℕ) → ℕ → Lis
 text_of_run_call numbers start earlier number call = number_before numbers number ++ engine_text start earlier number call
 
 abbrev pub shown_of : Bool → Option (List ℕ) → World → List LineStep → List ℕ
-shown_of true only world turns = text_of_steps (text_of_run_call true world) only [] turns
-shown_of false only world turns = transcript_of only world turns
+shown_of true only world steps = text_of_steps (text_of_run_call true world) only [] steps
+shown_of false only world steps = transcript_of only world steps
 
 abbrev pub text_of_run : TranscriptOptions → Listed → List LineStep → List ℕ
-text_of_run showing listed turns = shown_of showing.numbers (option_copied showing.only) (world_of listed) turns
+text_of_run showing listed steps = shown_of showing.numbers (option_copied showing.only) (world_of listed) steps
 
 -- the account list after them, if it is asked for
 abbrev pub list_behind : Bool → Option (List ℕ) → Listed → World → List LineStep → List ℕ
-list_behind accounts only listed world turns = accounts_for accounts listed (after_all only world (calls_of_steps turns))
+list_behind accounts only listed world steps = accounts_for accounts listed (after_all only world (calls_of_steps steps))
 
 abbrev pub run_behind : TranscriptOptions → Listed → List LineStep → List ℕ
-run_behind showing listed turns = list_behind showing.accounts (option_copied showing.only) listed (world_of listed) turns
+run_behind showing listed steps = list_behind showing.accounts (option_copied showing.only) listed (world_of listed) steps

@@ -16,7 +16,7 @@ ghost use Rattle.run_lines.specs.Faults.{is_write_fault};
 ghost use Rattle.view_runs.specs.Alone.{AreAlike, CountsAlone, SeesAlone, alone_behind, alone_sum, alone_call_text, alone_text};
 ghost use Rattle.run_scenario.specs.RunCalls.{calls_answered, text_of_steps};
 ghost use Rattle.run_scenario.specs.Texts.{in_brackets, line_text};
-ghost use Rattle.run_scenario.specs.LineSteps.{turns_of};
+ghost use Rattle.run_scenario.specs.LineSteps.{steps_of};
 ghost use Rattle.run_scenario.specs.RunReports.{WritesAllReports, scope_of};
 ghost use Rattle.run_scenario.specs.Writes.{Closes, IsRunFrom, IsWrittenBy, start_at, start_on};
 ghost use Rattle.run_lines.specs.declared.line_run_fault.LineRunFault.TheVariants.{NoMemory as NoRoom};
@@ -122,7 +122,7 @@ struct Machines<R: Router + Drop, Q: Router + Drop> {
     alone: Core<Q>,
     /// For the second machine's replies.
     reply: Reply,
-    rooms: CallBuffers,
+    buffers: CallBuffers,
 }
 
 /// The run of all lines on the machine of a list, and a name whose lines are answered alone too.
@@ -335,26 +335,26 @@ pub fn alone<S: Source, K: Sink, E: Sink>(
         ((reader.new ≡ reader.old) × (writer.new ≡ writer.old)
         × (complaints.new ≡ complaints.old)) }
 {
-    let rooms = CallBuffers::new(alloc)?;
+    let buffers = CallBuffers::new(alloc)?;
     let reply = Reply::boot(alloc)?;
     let whole = boot(alloc, play.list)?;
     let alone = boot(alloc, play.list)?;
-    let mut notes = ScenarioState::new(alloc, play.scenario, play.start);
+    let mut state = ScenarioState::new(alloc, play.scenario, play.start);
     let machines = Machines {
         whole,
         alone,
         reply,
-        rooms,
+        buffers,
     };
     let named = AloneRun::new(play.list, name);
-    Ok(run_alone(&named, machines, &mut notes, reader, writer, complaints))
+    Ok(run_alone(&named, machines, &mut state, reader, writer, complaints))
 }
 
 // The same on two machines that have booted.
 fn run_alone<'a, R: Router + Drop, Q: Router + Drop, S: Source, K: Sink, E: Sink>(
     named: &AloneRun<'a>,
     machines: Machines<R, Q>,
-    notes: &mut ScenarioState<'_>,
+    state: &mut ScenarioState<'_>,
     reader: &mut S,
     writer: &mut K,
     complaints: &mut E,
@@ -364,31 +364,31 @@ fn run_alone<'a, R: Router + Drop, Q: Router + Drop, S: Source, K: Sink, E: Sink
     requires same { machines.alone ≡ machines.whole }
     ensures played { fault_before (S.has_failed reader.old)
         (K.has_failed writer.old || E.has_failed complaints.old) ≡ None →
-        IsRunFrom (start_at None machines.whole notes.old.stand notes.old.critic.expected)
-        (λ turns. text_of_steps (alone_call_text named.now.name.now machines.whole) None [] turns)
-        (λ turns. alone_sum named.now.name.now
-        (length (calls_answered (Some named.now.name.now) turns)))
+        IsRunFrom (start_at None machines.whole state.old.position state.old.checker.expected)
+        (λ steps. text_of_steps (alone_call_text named.now.name.now machines.whole) None [] steps)
+        (λ steps. alone_sum named.now.name.now
+        (length (calls_answered (Some named.now.name.now) steps)))
         false
-        (WritesAllReports (scope_of (subject_at notes.old.critic.scenario) named.now.run.list.now)
-        (start_at None machines.whole notes.old.stand notes.old.critic.expected)
+        (WritesAllReports (scope_of (subject_at state.old.checker.scenario) named.now.run.list.now)
+        (start_at None machines.whole state.old.position state.old.checker.expected)
         (E.contents complaints.old) (E.contents complaints.new))
         result.ending (S.remaining reader.old) (S.remaining reader.new)
         (S.has_failed reader.new) (K.contents writer.old) (K.contents writer.new) }
     ensures summed { fault_before (S.has_failed reader.old)
         (K.has_failed writer.old || E.has_failed complaints.old) ≡ None →
-        IsRunFrom (start_at None machines.whole notes.old.stand notes.old.critic.expected)
-        (λ turns. text_of_steps (alone_call_text named.now.name.now machines.whole) None [] turns)
+        IsRunFrom (start_at None machines.whole state.old.position state.old.checker.expected)
+        (λ steps. text_of_steps (alone_call_text named.now.name.now machines.whole) None [] steps)
         (λ _. alone_sum named.now.name.now result.lines)
         false
-        (WritesAllReports (scope_of (subject_at notes.old.critic.scenario) named.now.run.list.now)
-        (start_at None machines.whole notes.old.stand notes.old.critic.expected)
+        (WritesAllReports (scope_of (subject_at state.old.checker.scenario) named.now.run.list.now)
+        (start_at None machines.whole state.old.position state.old.checker.expected)
         (E.contents complaints.old) (E.contents complaints.new))
         result.ending (S.remaining reader.old) (S.remaining reader.new)
         (S.has_failed reader.new) (K.contents writer.old) (K.contents writer.new) }
     ensures counts { fault_before (S.has_failed reader.old)
         (K.has_failed writer.old || E.has_failed complaints.old) ≡ None →
         IfNone result.ending.fault (CountsAlone named.now.name.now
-        (start_at None machines.whole notes.old.stand notes.old.critic.expected)
+        (start_at None machines.whole state.old.position state.old.checker.expected)
         (S.remaining reader.old) result.ending.complaints result.lines) }
     ensures same { fault_before (S.has_failed reader.old)
         (K.has_failed writer.old || E.has_failed complaints.old) ≡ None →
@@ -407,10 +407,10 @@ fn run_alone<'a, R: Router + Drop, Q: Router + Drop, S: Source, K: Sink, E: Sink
         mut whole,
         alone,
         reply,
-        mut rooms,
+        mut buffers,
     } = machines;
     let name = named.name;
-    let mut watch = SecondMachine {
+    let mut observer = SecondMachine {
         list: named.run.list,
         name,
         core: alone,
@@ -418,19 +418,19 @@ fn run_alone<'a, R: Router + Drop, Q: Router + Drop, S: Source, K: Sink, E: Sink
         lines: 0,
         difference: None,
     };
-    let mut bench = ScenarioRunner {
+    let mut runner = ScenarioRunner {
         complaints,
         run: &named.run,
-        notes,
-        watch: &mut watch,
-        rooms: &mut rooms,
+        state,
+        observer: &mut observer,
+        buffers: &mut buffers,
         complained: 0,
     };
-    let ending = play_lines(&mut bench, &mut whole, b"", reader, writer);
+    let ending = play_lines(&mut runner, &mut whole, b"", reader, writer);
     let compared = AloneComparison {
         ending,
-        lines: bench.watch.lines,
-        difference: bench.watch.difference,
+        lines: runner.observer.lines,
+        difference: runner.observer.difference,
     };
     compared.close(name, writer)
 }

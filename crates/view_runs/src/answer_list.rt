@@ -12,9 +12,9 @@ ghost use Rattle.line_grammar.specs.Read.{IsReadAs};
 ghost use Rattle.view_runs.specs.Answers.{IsAnsweredFrom, exchanges};
 ghost use Rattle.run_scenario.specs.Faults.{fault_before, unplayed};
 ghost use Rattle.view_runs.specs.Tracing.{call_text};
-ghost use Rattle.run_scenario.specs.LineSteps.{turns_of};
+ghost use Rattle.run_scenario.specs.LineSteps.{steps_of};
 ghost use Rattle.run_scenario.specs.RunReports.{WritesAllReports, scope_of};
-ghost use Rattle.run_scenario.specs.Writes.{IsRunFrom, nothing_told, start_at, start_on, turns_on};
+ghost use Rattle.run_scenario.specs.Writes.{IsRunFrom, nothing_told, start_at, start_on, steps_on};
 ghost use Rattle.view_diagnostics.specs.Diagnostics.{subject_at};
 
 use core_calls::Answer;
@@ -128,7 +128,7 @@ pub fn answers<S: Source, K: Sink, E: Sink>(
         (S.has_failed reader.new) (K.contents writer.old) (K.contents writer.new)) }
     ensures answered { IfOk result (λ answers. fault_before (S.has_failed reader.old)
         (K.has_failed writer.old || E.has_failed complaints.old) ≡ None →
-        IsAnsweredFrom (turns_on None play.entry.start play.entry.list.now)
+        IsAnsweredFrom (steps_on None play.entry.start play.entry.list.now)
         (world_of play.entry.list.now) answers.ending answers.exchanges.items
         (S.remaining reader.old) (S.remaining reader.new) (S.has_failed reader.new)) }
     ensures few { IfOk result (λ answers. answers.ending.lines ≤ MAX_LINES) }
@@ -151,9 +151,9 @@ pub fn answers<S: Source, K: Sink, E: Sink>(
         ((reader.new ≡ reader.old) × (writer.new ≡ writer.old)
         × (complaints.new ≡ complaints.old)) }
 {
-    let rooms = CallBuffers::new(alloc)?;
+    let buffers = CallBuffers::new(alloc)?;
     let core = boot(alloc, play.list)?;
-    let notes = ScenarioState::new(alloc, play.scenario, play.start);
+    let state = ScenarioState::new(alloc, play.scenario, play.start);
     let run = LineDispatcher {
         list: play.list,
         only: None,
@@ -161,8 +161,8 @@ pub fn answers<S: Source, K: Sink, E: Sink>(
     let stage = BootedScenario {
         run,
         core,
-        notes,
-        rooms,
+        state,
+        buffers,
     };
     Ok(answers_on(alloc, stage, reader, writer, complaints))
 }
@@ -179,19 +179,19 @@ fn answers_on<R: Router + Drop, S: Source, K: Sink, E: Sink>(
     requires all { stage.run.only ≡ None }
     ensures played { fault_before (S.has_failed reader.old)
         (K.has_failed writer.old || E.has_failed complaints.old) ≡ None →
-        IsRunFrom (start_at None stage.entry.core stage.entry.notes.stand
-        stage.entry.notes.critic.expected) (λ _. []) (λ _. [])
+        IsRunFrom (start_at None stage.entry.core stage.entry.state.position
+        stage.entry.state.checker.expected) (λ _. []) (λ _. [])
         true
         (WritesAllReports
-        (scope_of (subject_at stage.entry.notes.critic.scenario) stage.entry.run.list.now)
-        (start_at None stage.entry.core stage.entry.notes.stand
-        stage.entry.notes.critic.expected)
+        (scope_of (subject_at stage.entry.state.checker.scenario) stage.entry.run.list.now)
+        (start_at None stage.entry.core stage.entry.state.position
+        stage.entry.state.checker.expected)
         (E.contents complaints.old) (E.contents complaints.new))
         result.ending (S.remaining reader.old) (S.remaining reader.new)
         (S.has_failed reader.new) (K.contents writer.old) (K.contents writer.new) }
     ensures answered { fault_before (S.has_failed reader.old)
         (K.has_failed writer.old || E.has_failed complaints.old) ≡ None →
-        IsAnsweredFrom (turns_of None stage.entry.core stage.entry.notes.stand) stage.entry.core
+        IsAnsweredFrom (steps_of None stage.entry.core stage.entry.state.position) stage.entry.core
         result.ending result.exchanges.items (S.remaining reader.old) (S.remaining reader.new)
         (S.has_failed reader.new) }
     ensures few { result.ending.lines ≤ MAX_LINES }
@@ -207,33 +207,33 @@ fn answers_on<R: Router + Drop, S: Source, K: Sink, E: Sink>(
     let BootedScenario {
         run,
         mut core,
-        mut notes,
-        mut rooms,
+        mut state,
+        mut buffers,
     } = stage;
     let mut keeper = ExchangeObserver {
         alloc,
         kept: Vec::new(alloc),
     };
-    let mut bench = ScenarioRunner {
+    let mut runner = ScenarioRunner {
         complaints,
         run: &run,
-        notes: &mut notes,
-        watch: &mut keeper,
-        rooms: &mut rooms,
+        state: &mut state,
+        observer: &mut keeper,
+        buffers: &mut buffers,
         complained: 0,
     };
-    let ending = play_lines(&mut bench, &mut core, b"", reader, writer);
-    let exchanges = taken(alloc, &mut bench);
+    let ending = play_lines(&mut runner, &mut core, b"", reader, writer);
+    let exchanges = taken(alloc, &mut runner);
     AnswerList { ending, exchanges }
 }
 
 // Takes the calls out of a run.
 fn taken<E: Sink>(
     alloc: Global,
-    bench: &mut ScenarioRunner<'_, '_, '_, '_, '_, '_, '_, ExchangeObserver, E>,
+    runner: &mut ScenarioRunner<'_, '_, '_, '_, '_, '_, '_, ExchangeObserver, E>,
 ) -> Vec<Exchange>
-    ensures kept { result.items ≡ bench.old.watch.now.kept.items }
-    ensures same { bench.new.complaints ≡ bench.old.complaints }
+    ensures kept { result.items ≡ runner.old.observer.now.kept.items }
+    ensures same { runner.new.complaints ≡ runner.old.complaints }
 {
-    mem::replace(&mut bench.watch.kept, Vec::new(alloc))
+    mem::replace(&mut runner.observer.kept, Vec::new(alloc))
 }

@@ -9,7 +9,7 @@ ghost use Rattle.run_scenario.specs.Faults.{fault_before, unplayed};
 ghost use Rattle.run_lines.specs.Faults.{is_write_fault};
 ghost use Rattle.run_scenario.specs.RunCalls.{text_of_steps};
 ghost use Rattle.view_runs.specs.Tracing.{trace_call_text, trace_text};
-ghost use Rattle.run_scenario.specs.LineSteps.{turns_of};
+ghost use Rattle.run_scenario.specs.LineSteps.{steps_of};
 ghost use Rattle.run_scenario.specs.RunReports.{WritesAllReports, scope_of};
 ghost use Rattle.run_scenario.specs.Writes.{IsRunFrom, nothing_told, start_at, start_on};
 ghost use Rattle.run_lines.specs.declared.line_run_fault.LineRunFault.TheVariants.{NoMemory as NoRoom};
@@ -98,9 +98,9 @@ pub fn trace<F: RowFormat + Drop, S: Source, K: Sink, E: Sink>(
         ((reader.new ≡ reader.old) × (writer.new ≡ writer.old)
         × (complaints.new ≡ complaints.old)) }
 {
-    let rooms = CallBuffers::new(alloc)?;
+    let buffers = CallBuffers::new(alloc)?;
     let core = boot(alloc, play.list)?;
-    let notes = ScenarioState::new(alloc, play.scenario, play.start);
+    let state = ScenarioState::new(alloc, play.scenario, play.start);
     let run = LineDispatcher {
         list: play.list,
         only: None,
@@ -108,8 +108,8 @@ pub fn trace<F: RowFormat + Drop, S: Source, K: Sink, E: Sink>(
     let stage = BootedScenario {
         run,
         core,
-        notes,
-        rooms,
+        state,
+        buffers,
     };
     Ok(trace_on(stage, format, reader, writer, complaints))
 }
@@ -126,16 +126,16 @@ fn trace_on<R: Router + Drop, F: RowFormat + Drop, S: Source, K: Sink, E: Sink>(
     requires all { stage.run.only ≡ None }
     ensures played { fault_before (S.has_failed reader.old)
         (K.has_failed writer.old || E.has_failed complaints.old) ≡ None →
-        IsRunFrom (start_at None stage.entry.core stage.entry.notes.stand
-        stage.entry.notes.critic.expected)
-        (λ turns. F.front
-        ++ text_of_steps (trace_call_text F.row_text stage.entry.core) None [] turns)
+        IsRunFrom (start_at None stage.entry.core stage.entry.state.position
+        stage.entry.state.checker.expected)
+        (λ steps. F.front
+        ++ text_of_steps (trace_call_text F.row_text stage.entry.core) None [] steps)
         (λ _. [])
         F.takes
         (WritesAllReports
-        (scope_of (subject_at stage.entry.notes.critic.scenario) stage.entry.run.list.now)
-        (start_at None stage.entry.core stage.entry.notes.stand
-        stage.entry.notes.critic.expected)
+        (scope_of (subject_at stage.entry.state.checker.scenario) stage.entry.run.list.now)
+        (start_at None stage.entry.core stage.entry.state.position
+        stage.entry.state.checker.expected)
         (E.contents complaints.old) (E.contents complaints.new))
         result (S.remaining reader.old) (S.remaining reader.new)
         (S.has_failed reader.new) (K.contents writer.old) (K.contents writer.new) }
@@ -152,18 +152,18 @@ fn trace_on<R: Router + Drop, F: RowFormat + Drop, S: Source, K: Sink, E: Sink>(
     let BootedScenario {
         run,
         mut core,
-        mut notes,
-        mut rooms,
+        mut state,
+        mut buffers,
     } = stage;
     let header = format.header();
-    let mut watch = Tracer { format };
-    let mut bench = ScenarioRunner {
+    let mut observer = Tracer { format };
+    let mut runner = ScenarioRunner {
         complaints,
         run: &run,
-        notes: &mut notes,
-        watch: &mut watch,
-        rooms: &mut rooms,
+        state: &mut state,
+        observer: &mut observer,
+        buffers: &mut buffers,
         complained: 0,
     };
-    play_lines(&mut bench, &mut core, header, reader, writer)
+    play_lines(&mut runner, &mut core, header, reader, writer)
 }

@@ -11,7 +11,7 @@ ghost use Rattle.run_lines.specs.RunOutput.{OutputsUnless};
 ghost use Rattle.run_lines.specs.Causes.{HasCause};
 ghost use Rattle.run_scenario.specs.Faults.{fault_before, unplayed};
 ghost use Rattle.run_lines.specs.Faults.{is_write_fault};
-ghost use Rattle.run_scenario.specs.LineSteps.{turns_of};
+ghost use Rattle.run_scenario.specs.LineSteps.{steps_of};
 ghost use Rattle.run_scenario.specs.RunReports.{WritesAllReports, scope_of};
 ghost use Rattle.run_scenario.specs.Writes.{Closes, IsRunFrom, start_at, start_on};
 ghost use Rattle.view_runs.specs.Transcripts.{list_behind, number_before, run_behind, text_of_run_call, text_of_run, shown_of};
@@ -49,10 +49,11 @@ pub(crate) struct Transcript {
 }
 
 impl CallObserver for Transcript {
-    ghost tells = { λ watch. text_of_run_call watch.numbers };
+    ghost tells = { λ observer. text_of_run_call observer.numbers };
 
     ghost sees = { λ _ _ _ _. ⊤ };
 
+    #[inline(always)]
     fn tell<R: Router + Drop, K: Sink>(
         &mut self,
         _core: &Core<R>,
@@ -67,6 +68,7 @@ impl CallObserver for Transcript {
 }
 
 // Gathers an answer; or writes it after the number of its line, so that errors of the line follow it.
+#[inline(always)]
 fn put_heard<K: Sink>(
     numbers: bool,
     heard: &ObservedCall<'_>,
@@ -155,9 +157,9 @@ pub fn run<S: Source, K: Sink, E: Sink>(
         ((reader.new ≡ reader.old) × (writer.new ≡ writer.old)
         × (complaints.new ≡ complaints.old)) }
 {
-    let rooms = CallBuffers::new(alloc)?;
+    let buffers = CallBuffers::new(alloc)?;
     let core = boot(alloc, play.list)?;
-    let notes = ScenarioState::new(alloc, play.scenario, play.start);
+    let state = ScenarioState::new(alloc, play.scenario, play.start);
     let run = LineDispatcher {
         list: play.list,
         only: showing.only,
@@ -165,8 +167,8 @@ pub fn run<S: Source, K: Sink, E: Sink>(
     let stage = BootedScenario {
         run,
         core,
-        notes,
-        rooms,
+        state,
+        buffers,
     };
     Ok(run_on(stage, showing, reader, writer, complaints))
 }
@@ -183,15 +185,15 @@ fn run_on<R: Router + Drop, S: Source, K: Sink, E: Sink>(
     ensures played { fault_before (S.has_failed reader.old)
         (K.has_failed writer.old || E.has_failed complaints.old) ≡ None →
         IsRunFrom (start_at (option_copied stage.entry.run.only) stage.entry.core
-        stage.entry.notes.stand stage.entry.notes.critic.expected)
+        stage.entry.state.position stage.entry.state.checker.expected)
         (shown_of showing.entry.numbers (option_copied stage.entry.run.only) stage.entry.core)
         (list_behind showing.entry.accounts (option_copied stage.entry.run.only)
         stage.entry.run.list.now stage.entry.core)
         false
         (WritesAllReports
-        (scope_of (subject_at stage.entry.notes.critic.scenario) stage.entry.run.list.now)
-        (start_at (option_copied stage.entry.run.only) stage.entry.core stage.entry.notes.stand
-        stage.entry.notes.critic.expected)
+        (scope_of (subject_at stage.entry.state.checker.scenario) stage.entry.run.list.now)
+        (start_at (option_copied stage.entry.run.only) stage.entry.core stage.entry.state.position
+        stage.entry.state.checker.expected)
         (E.contents complaints.old) (E.contents complaints.new))
         result
         (S.remaining reader.old) (S.remaining reader.new)
@@ -209,21 +211,21 @@ fn run_on<R: Router + Drop, S: Source, K: Sink, E: Sink>(
     let BootedScenario {
         run,
         mut core,
-        mut notes,
-        mut rooms,
+        mut state,
+        mut buffers,
     } = stage;
-    let mut watch = Transcript {
+    let mut observer = Transcript {
         numbers: showing.numbers,
     };
-    let mut bench = ScenarioRunner {
+    let mut runner = ScenarioRunner {
         complaints,
         run: &run,
-        notes: &mut notes,
-        watch: &mut watch,
-        rooms: &mut rooms,
+        state: &mut state,
+        observer: &mut observer,
+        buffers: &mut buffers,
         complained: 0,
     };
-    let ending = play_lines(&mut bench, &mut core, b"", reader, writer);
+    let ending = play_lines(&mut runner, &mut core, b"", reader, writer);
     let accounts = showing.accounts;
     if accounts {
         close_with_list(ending, &core, run.list, writer)

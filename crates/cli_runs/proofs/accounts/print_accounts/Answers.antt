@@ -11,5 +11,5 @@ returns-in-Ok c = record {
   status = λ view.
       let input = origin_bytes c.args.reader.now.reader.origin in
       status_of_printed (Accounts view) (start_of (Accounts view) c.args.play) input c.print_list.result.ended c.in-Ok.list.ending c.print_list.ensures
-      (status_of_more (Accounts view) (start_of (Accounts view) c.args.play) input _ _ _ c.in-Ok.list.ending _ (λ turns. refl) c.in-Ok.ensures.played c.in-Ok.ensures.before);
+      (status_of_more (Accounts view) (start_of (Accounts view) c.args.play) input _ _ _ c.in-Ok.list.ending _ (λ steps. refl) c.in-Ok.ensures.played c.in-Ok.ensures.before);
 }

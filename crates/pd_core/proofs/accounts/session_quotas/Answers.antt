@@ -1,17 +1,11 @@
 -- A session that is found is its server's, and an own state has its account.
 use Rattle.std.proofs.Common.{rules, Some, ap, sym, subst, is_some, ◌∙◌}
-use Rattle.std.specs.Prelude.{Option}
 use Rattle.std.specs.Option.{option_map}
 use Rattle.std.specs.FinMap.{get}
-use Rattle.own_model.specs.Session.{Session as AnOpenSession, Labelled}
-use Rattle.server_frame.specs.Frame.{Row}
+use Rattle.own_model.specs.Session.{Session as AnOpenSession}
 use Rattle.pd_core.specs.Component.{rows_of, IsSoundRole}
 use Rattle.pd_core.proofs.CoreWorldLemmas.{role_read}
-use Rattle.pd_core.specs.Core.{roles_of, sessions_in}
-use Rattle.pd_core.specs.SessionCalls.{named_in}
-use Rattle.pd_core.specs.Sessions.{row_session}
-use Rattle.pd_core.specs.declared.component.Component.{Component}
-use Rattle.pd_core.proofs.QuotaLemmas.{found_in, session_at_place, served_where}
+use Rattle.pd_core.proofs.QuotaLemmas.{named_at_place, served_at_place, served_where}
 use Rattle.pd_core.proofs.accounts.session_quotas.Goals as goal
 
 pub bounds-components-server : goal.bounds-components-server
@@ -34,20 +28,12 @@ session_quotas-requires c =
 
 pub returns-in-Ok : goal.returns-in-Ok
 returns-in-Ok c = λ places.
-    let memory = c.args.memory.now in
-    let components = c.args.components.now in
-    let caller = c.index-components-place in
+    let named = sym c.session.ensures.named ∙ c.in-Ok.is in
     let at = c.index-components-server in
-    let served = served_where c.args.selector c.requires.core c.requires.caller caller.is (sym c.session.ensures.named ∙ c.in-Ok.is) in
-    let state = session_at_place places memory components c.args.place caller.result c.args.selector c.requires.caller ∙ ap (λ (d : Component). found_in (sessions_in memory (roles_of components)) (named_in d.role c.args.selector)) (sym caller.is) in
-    ap Some (c.session_quotas.ensures served.row (ap (λ d. get (rows_of memory d) c.in-Ok.session.0) at.is ∙ served.its at.result))
-    ∙ sym (ap (λ (o : Option (Row Labelled)). option_map (λ (s : AnOpenSession). s.account) (option_map (row_session c.in-Ok.server) o)) served.there)
-    ∙ sym (ap (option_map (λ (s : AnOpenSession). s.account)) (state ∙ ap (found_in (sessions_in memory (roles_of components))) (sym c.session.ensures.named ∙ c.in-Ok.is)))
+    let served = served_where c.args.selector c.requires.core c.requires.caller c.index-components-place.is named in
+    ap Some (c.session_quotas.ensures served.row (ap (λ d. get (rows_of c.args.memory.now d) c.in-Ok.session.0) at.is ∙ served.its at.result))
+    ∙ sym (ap (option_map (λ (s : AnOpenSession). s.account)) (served_at_place places _ _ _ _ c.args.selector _ c.requires.caller c.index-components-place.is named served))
 
 pub returns-in-Err : goal.returns-in-Err
 returns-in-Err c = λ places.
-    let memory = c.args.memory.now in
-    let components = c.args.components.now in
-    let caller = c.index-components-place in
-    let state = session_at_place places memory components c.args.place caller.result c.args.selector c.requires.caller ∙ ap (λ (d : Component). found_in (sessions_in memory (roles_of components)) (named_in d.role c.args.selector)) (sym caller.is) in
-    sym (ap (option_map (λ (s : AnOpenSession). s.account)) (state ∙ ap (found_in (sessions_in memory (roles_of components))) (sym c.session.ensures.named ∙ c.in-Err.is)))
+    sym (ap (option_map (λ (s : AnOpenSession). s.account)) (named_at_place places _ _ _ _ c.args.selector _ c.requires.caller c.index-components-place.is (sym c.session.ensures.named ∙ c.in-Err.is)))

@@ -1,16 +1,16 @@
 -- A refused call changes nothing; else a session is opened.
-use Rattle.std.proofs.Common.{rules, arith, length, get_or, Err, ap, refl, sym, subst, ◌∙◌}
-use Rattle.std.specs.Prelude.{IsSome}
+use Rattle.std.proofs.Common.{◌≡◌, ℕ, rules, arith, length, get_or, Some, Err, ap, refl, sym, ◌∙◌}
 use Rattle.trade_base.specs.declared.refusal.Refusal.TheVariants.{ServiceDenied}
 use Rattle.own_model.specs.Call.Call.{Open}
 use Rattle.own_model.specs.Routes.{label_with}
+use Rattle.own_model.specs.SessionArgs.{arguments_of}
 use Rattle.pd_core.proofs.CoreRouterLemmas.{denied_wish}
 use Rattle.pd_core.proofs.SessionRefusedLemmas.{no_script_goes, unasked_goes, unread_wish, passed_on, unchanged, arguments_are}
-use Rattle.pd_core.specs.Component.{offer_in}
-use Rattle.pd_core.proofs.ServerLemmas.{is_server, serving_as, as_it_is}
-use Rattle.pd_core.proofs.SessionWorldLemmas.{host_within}
-use Rattle.pd_core.proofs.CoreWorldLemmas.{role_at}
+use Rattle.pd_core.proofs.ServerLemmas.{serving_as, as_it_is}
+use Rattle.pd_core.proofs.SessionWorldLemmas.{host_within, read_role, read_server}
 use Rattle.pd_core.proofs.SessionRoutedLemmas.{IsLed, led_two, led_refused, led_admits, led_selector, led_opened}
+use Rattle.pd_core.proofs.session_calls.open.Given as given
+use Rattle.pd_core.proofs.session_calls.open.Goals.{In-Some, After-caps}
 use Rattle.pd_core.proofs.session_calls.open.Goals as goal
 
 pub returns-in_default : goal.returns-in_default
@@ -33,17 +33,26 @@ returns-in_default-provider g c =
     (denied_wish places (g.R.Router.leads c.args.routes.now) c.args.memory.now c.args.components.now c.args.caller c.args.service.now c.label.result.now c.requires.routes c.requires.at.caller
     (get_or c.args.components.now c.args.caller d).name.items c.args.text.now c.in_ok-args.args c.in_ok-args.ensures.value c.label.ensures (sym c.provider.ensures ∙ c.in_default-provider.is))
 
+-- the request is routed to a server, by arguments as they are read
+led : (g : given.Over) (c : In-Some g) (ram caps : ℕ) → arguments_of c.args.text.now ≡ Some (record { ram = ram; caps = caps; label = c.label.result.now }) →
+    IsLed (g.R.Router.places c.args.routes.now) (g.R.Router.leads c.args.routes.now) c.args.memory.now c.args.components.now c.args.caller c.in-Some.entry c.index-components-caller.result c.in-Script.script c.args.service.now c.args.text.now
+    (record { ram = ram; caps = caps; label = c.label.result.now })
+led g c ram caps reads = record {
+  core = c.requires.at.core;
+  here = c.requires.at.caller;
+  agrees = c.requires.routes;
+  is_script = c.in-Script.is;
+  reads = reads;
+  led = sym c.provider.ensures ∙ c.in-Some.is;
+}
+
+reads_early : (g : given.Over) (c : In-Some g) → arguments_of c.args.text.now ≡ Some (record { ram = c.in_ok-args.args.ram; caps = c.in_ok-args.args.caps; label = c.label.result.now })
+reads_early g c = arguments_are c.args.text.now c.in_ok-args.args.ram c.in_ok-args.args.caps c.label.result.now c.in_ok-args.ensures.value refl refl c.label.ensures
+
 pub bounds-components-entry : goal.bounds-components-entry
 bounds-components-entry g c =
-    let is_led : IsLed (g.R.Router.places c.args.routes.now) (g.R.Router.leads c.args.routes.now) c.args.memory.now c.args.components.now c.args.caller c.in-Some.entry c.index-components-caller.result c.in-Script.script
-    c.args.service.now c.args.text.now (record { ram = c.in_ok-args.args.ram; caps = c.in_ok-args.args.caps; label = c.label.result.now }) = record {
-      core = c.requires.at.core;
-      here = c.requires.at.caller;
-      agrees = c.requires.routes;
-      is_script = c.in-Script.is;
-      reads = arguments_are c.args.text.now c.in_ok-args.args.ram c.in_ok-args.args.caps c.label.result.now c.in_ok-args.ensures.value refl refl c.label.ensures;
-      led = sym c.provider.ensures ∙ c.in-Some.is;
-    } in
+    let at = goal.at.bounds-components-entry g c in
+    let is_led = led g at.In-Some _ _ (reads_early g at.In-Some) in
     host_within c.args.components.now c.in-Some.entry (led_two is_led).serving
 
 pub offset_bounds-components-entry : goal.offset_bounds-components-entry
@@ -53,44 +62,24 @@ offset_bounds-components-entry g c =
 -- what is read there is a server
 pub unreachable-requires : goal.unreachable-requires
 unreachable-requires g c =
-    let is_led : IsLed (g.R.Router.places c.args.routes.now) (g.R.Router.leads c.args.routes.now) c.args.memory.now c.args.components.now c.args.caller c.in-Some.entry c.index-components-caller.result c.in-Script.script
-    c.args.service.now c.args.text.now (record { ram = c.in_ok-args.args.ram; caps = c.in_ok-args.args.caps; label = c.label.result.now }) = record {
-      core = c.requires.at.core;
-      here = c.requires.at.caller;
-      agrees = c.requires.routes;
-      is_script = c.in-Script.is;
-      reads = arguments_are c.args.text.now c.in_ok-args.args.ram c.in_ok-args.args.caps c.label.result.now c.in_ok-args.ensures.value refl refl c.label.ensures;
-      led = sym c.provider.ensures ∙ c.in-Some.is;
-    } in
-    let e = c.index-components-entry.result in
-    let two = led_two is_led in
-    let its = is_server _ (subst (λ r. IsSome (offer_in r)) (role_at c.args.components.now c.in-Some.entry e (host_within c.args.components.now c.in-Some.entry two.serving)) two.serving) in
-    c.in_default-role.not-Server its.0 its.1.0 its.1.1
+    let at = goal.at.unreachable-requires g c in
+    let is_led = led g at.In-Some _ _ (reads_early g at.In-Some) in
+    read_server c.args.components.now (led_two is_led) (read_role c.args.components.now (led_two is_led) c.index-components-entry.result) c.in_default-role.not-Server
+
+-- and as the server is given them
+reads : (g : given.Over) (c : After-caps g) → arguments_of c.args.text.now ≡ Some (record { ram = c.ram.result.0; caps = c.caps.result.0; label = c.label.result.now })
+reads g c = arguments_are c.args.text.now c.ram.result.0 c.caps.result.0 c.label.result.now c.in_ok-args.ensures.value c.ram.ensures c.caps.ensures c.label.ensures
 
 pub open-requires : goal.open-requires
 open-requires g c =
-    let is_led : IsLed (g.R.Router.places c.args.routes.now) (g.R.Router.leads c.args.routes.now) c.args.memory.now c.args.components.now c.args.caller c.in-Some.entry c.index-components-caller.result c.in-Script.script
-    c.args.service.now c.args.text.now (record { ram = c.ram.result.0; caps = c.caps.result.0; label = c.label.result.now }) = record {
-      core = c.requires.at.core;
-      here = c.requires.at.caller;
-      agrees = c.requires.routes;
-      is_script = c.in-Script.is;
-      reads = arguments_are c.args.text.now c.ram.result.0 c.caps.result.0 c.label.result.now c.in_ok-args.ensures.value c.ram.ensures c.caps.ensures c.label.ensures;
-      led = sym c.provider.ensures ∙ c.in-Some.is;
-    } in
+    let after = goal.at.open-requires g c in
+    let is_led = led g after.In-Some _ _ (reads g after.After-caps) in
     record { admits = led_admits is_led c.index-components-entry.result c.in-Server.field-0 c.in-Server.host c.in-Server.is; label = omega (arith, ap length c.deref.ensures.0, c.label_of-label.ensures.len) }
 
 pub returns-in_err-session : goal.returns-in_err-session
 returns-in_err-session g c =
-    let is_led : IsLed (g.R.Router.places c.args.routes.now) (g.R.Router.leads c.args.routes.now) c.args.memory.now c.args.components.now c.args.caller c.in-Some.entry c.index-components-caller.result c.in-Script.script
-    c.args.service.now c.args.text.now (record { ram = c.ram.result.0; caps = c.caps.result.0; label = c.label.result.now }) = record {
-      core = c.requires.at.core;
-      here = c.requires.at.caller;
-      agrees = c.requires.routes;
-      is_script = c.in-Script.is;
-      reads = arguments_are c.args.text.now c.ram.result.0 c.caps.result.0 c.label.result.now c.in_ok-args.ensures.value c.ram.ensures c.caps.ensures c.label.ensures;
-      led = sym c.provider.ensures ∙ c.in-Some.is;
-    } in
+    let after = goal.at.returns-in_err-session g c in
+    let is_led = led g after.In-Some _ _ (reads g after.After-caps) in
     let refusal = c.in_err-session.field-0.0 in
     let at = get_or c.args.components.now c.in-Some.entry c.index-components-entry.result in
     let key = c.in-Server.field-0 in
@@ -99,15 +88,8 @@ returns-in_err-session g c =
 
 pub keep_session-requires : goal.keep_session-requires
 keep_session-requires g c =
-    let is_led : IsLed (g.R.Router.places c.args.routes.now) (g.R.Router.leads c.args.routes.now) c.args.memory.now c.args.components.now c.args.caller c.in-Some.entry c.index-components-caller.result c.in-Script.script
-    c.args.service.now c.args.text.now (record { ram = c.ram.result.0; caps = c.caps.result.0; label = c.label.result.now }) = record {
-      core = c.requires.at.core;
-      here = c.requires.at.caller;
-      agrees = c.requires.routes;
-      is_script = c.in-Script.is;
-      reads = arguments_are c.args.text.now c.ram.result.0 c.caps.result.0 c.label.result.now c.in_ok-args.ensures.value c.ram.ensures c.caps.ensures c.label.ensures;
-      led = sym c.provider.ensures ∙ c.in-Some.is;
-    } in
+    let after = goal.at.keep_session-requires g c in
+    let is_led = led g after.In-Some _ _ (reads g after.After-caps) in
     let labelled = c.deref.ensures.0 ∙ c.label_of-label.ensures.label ∙ (λ j. label_with (c.as_slice.ensures.value j) ((c.label-2.ensures ∙ sym c.label.ensures) j)) in
     let done = c.open in
     record {
@@ -117,15 +99,8 @@ keep_session-requires g c =
 
 pub returns : goal.returns
 returns g c =
-    let is_led : IsLed (g.R.Router.places c.args.routes.now) (g.R.Router.leads c.args.routes.now) c.args.memory.now c.args.components.now c.args.caller c.in-Some.entry c.index-components-caller.result c.in-Script.script
-    c.args.service.now c.args.text.now (record { ram = c.ram.result.0; caps = c.caps.result.0; label = c.label.result.now }) = record {
-      core = c.requires.at.core;
-      here = c.requires.at.caller;
-      agrees = c.requires.routes;
-      is_script = c.in-Script.is;
-      reads = arguments_are c.args.text.now c.ram.result.0 c.caps.result.0 c.label.result.now c.in_ok-args.ensures.value c.ram.ensures c.caps.ensures c.label.ensures;
-      led = sym c.provider.ensures ∙ c.in-Some.is;
-    } in
+    let after = goal.at.returns g c in
+    let is_led = led g after.In-Some _ _ (reads g after.After-caps) in
     let labelled = c.deref.ensures.0 ∙ c.label_of-label.ensures.label ∙ (λ j. label_with (c.as_slice.ensures.value j) ((c.label-2.ensures ∙ sym c.label.ensures) j)) in
     let done = c.open in
     let kept = c.keep_session in

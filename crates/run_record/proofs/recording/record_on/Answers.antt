@@ -9,10 +9,10 @@ use Rattle.run_record.proofs.recording.record_on.Goals as goal
 
 pub returns-clause-recorded : goal.returns-clause-recorded
 returns-clause-recorded g c =
-    whole_recorded _ c.new-player.result.all _ c.args.scenario.unfolded.now c.args.scenario.text.now c.args.core.now (recording_in c.new-player.result.stand c.new-player.result.awaits c.args.core.now)
+    whole_recorded _ c.new-player.result.all _ c.args.scenario.unfolded.now c.args.scenario.text.now c.args.core.now (recording_in c.new-player.result.position c.new-player.result.awaits c.args.core.now)
     (marks_view c.new-player.result.marks.marks.items) _ _
     c.new-player.ensures.all
-    (first_in c.new-player.result.stand c.new-player.result.awaits c.args.core.now _ c.new-player.ensures.stand c.new-player.ensures.awaits)
+    (first_in c.new-player.result.position c.new-player.result.awaits c.args.core.now _ c.new-player.ensures.position c.new-player.ensures.awaits)
     (ap (λ m. marks_view m.marks.items) c.new-player.ensures.marks ∙ c.in_ok-marks.ensures)
     c.in_ok-run_scenario_lines.ensures.marks
     (c.in_ok-into_recording.ensures.text
@@ -21,8 +21,8 @@ returns-clause-recorded g c =
 pub returns-clause-unread : goal.returns-clause-unread
 returns-clause-unread g c =
     whole_unread _ c.args.scenario.unfolded.now c.args.core.now
-    (recording_in c.new-player.result.stand c.new-player.result.awaits c.args.core.now) (unread_view c.new-player.result.unread.items) _ _
-    (first_in c.new-player.result.stand c.new-player.result.awaits c.args.core.now _ c.new-player.ensures.stand c.new-player.ensures.awaits)
+    (recording_in c.new-player.result.position c.new-player.result.awaits c.args.core.now) (unread_view c.new-player.result.unread.items) _ _
+    (first_in c.new-player.result.position c.new-player.result.awaits c.args.core.now _ c.new-player.ensures.position c.new-player.ensures.awaits)
     (ap unread_view c.new-player.ensures.unread)
     c.in_ok-run_scenario_lines.ensures.unread
     (ap (λ u. unread_view u.items) c.in_ok-into_recording.ensures.unread)

@@ -3,4 +3,4 @@ use Rattle.run_scenario.proofs.StepLemmas.{stepped}
 use Rattle.run_scenario.proofs.step_position.move_past.Goals as goal
 
 pub returns : goal.returns
-returns c = λ only line old new takes. stepped c.arrive.result only c.args.stand.now _ _ _ line old new c.args.turn.now takes c.pass.ensures.passed c.in_ok-bind.ensures c.arrive.ensures.arrived
+returns c = λ only line old new takes. stepped c.arrive.result only c.args.position.now _ _ _ line old new c.args.step.now takes c.pass.ensures.passed c.in_ok-bind.ensures c.arrive.ensures.arrived

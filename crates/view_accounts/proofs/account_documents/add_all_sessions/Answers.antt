@@ -2,15 +2,16 @@
 use Rattle.std.proofs.Common.{subst, ◌++◌, map, take}
 use Rattle.std.specs.List.{flat_map}
 use Rattle.std.proofs.lemmas.List.{take_all}
-use Rattle.view_accounts.specs.AccountDocuments.{Lists, session_documents}
+use Rattle.view_json.specs.Documents.{Lists}
+use Rattle.view_accounts.specs.AccountDocuments.{session_documents}
 use Rattle.view_accounts.specs.Rows.{component_view}
-use Rattle.view_accounts.proofs.DocumentLemmas.{listed_more}
+use Rattle.view_json.proofs.ListingLemmas.{lists_more}
 use Rattle.view_accounts.proofs.TableLemmas.{flat_next}
 use Rattle.view_accounts.proofs.account_documents.add_all_sessions.Goals as goal
 
 pub loop-component-preserved : goal.loop-component-preserved
 loop-component-preserved c = λ documents lists.
-    listed_more c.add_sessions.new.listing documents _ _ _ (flat_next session_documents component_view c.args.components.now c.loop-component.component-index c.component-item.result c.loop-component-test.true c.component-item.is)
+    lists_more c.add_sessions.new.listing documents _ _ _ (flat_next session_documents component_view c.args.components.now c.loop-component.component-index c.component-item.result c.loop-component-test.true c.component-item.is)
     (rw c.as_slice.ensures.value at (c.in_ok-add_sessions.ensures (documents ++ flat_map session_documents (map component_view (take c.loop-component.component-index c.args.components.now))) (c.loop-component.invariant documents lists)))
 
 pub returns : goal.returns

@@ -1,7 +1,8 @@
 -- The documents of those so far.
 use Rattle.std.proofs.Common.{◌++◌, List, map, take}
 use Rattle.std.specs.List.{flat_map}
-use Rattle.view_accounts.specs.AccountDocuments.{Lists, Member, component_documents}
+use Rattle.view_json.specs.Documents.{Lists, Member}
+use Rattle.view_accounts.specs.AccountDocuments.{component_documents}
 use Rattle.view_accounts.specs.Rows.{component_view}
 use Rattle.view_accounts.proofs.account_documents.add_components.Given as goal
 

@@ -1,6 +1,7 @@
 -- The documents of those so far.
 use Rattle.std.proofs.Common.{◌++◌, List, map, take}
-use Rattle.view_accounts.specs.AccountDocuments.{Lists, Member, session_members}
+use Rattle.view_json.specs.Documents.{Lists, Member}
+use Rattle.view_accounts.specs.AccountDocuments.{session_members}
 use Rattle.view_accounts.specs.Rows.{session_view}
 use Rattle.view_accounts.proofs.account_documents.add_sessions.Given as goal
 

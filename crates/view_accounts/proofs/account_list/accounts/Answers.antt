@@ -11,15 +11,15 @@ returns-clause-played g c = λ works.
     let played = c.run_accounting.ensures.played works in (
       played.0,
       (
-        played_on c.args.play.list.now None c.args.play.start (λ _ _. []) (λ start turns. accounts_text played.0 c.args.play.list.now start (calls_answered None turns)) c.run_accounting.result.ending _ _ _ _ _ _ _
-            c.in_ok-core.ensures.started c.new-notes.ensures.stands c.new-notes.ensures.expects c.new-notes.ensures.subject played.1.0,
+        played_on c.args.play.list.now None c.args.play.start (λ _ _. []) (λ start steps. accounts_text played.0 c.args.play.list.now start (calls_answered None steps)) c.run_accounting.result.ending _ _ _ _ _ _ _
+            c.in_ok-core.ensures.started c.new-state.ensures.stands c.new-state.ensures.expects c.new-state.ensures.subject played.1.0,
         shows_on played.0 c.args.play.list.now c.args.play.start c.run_accounting.result.ending.fault (g.S.Source.remaining c.args.reader.now) c.run_accounting.result.rows
-            c.in_ok-core.ensures.started c.new-notes.ensures.stands played.1.1,
+            c.in_ok-core.ensures.started c.new-state.ensures.stands played.1.1,
       ),
     )
 
 pub run_accounting-requires-clause-sees : goal.run_accounting-requires-clause-sees
-run_accounting-requires-clause-sees g c = c.in_ok-watch.ensures c.args.play.list.now c.in_ok-core.ensures.started
+run_accounting-requires-clause-sees g c = c.in_ok-observer.ensures c.args.play.list.now c.in_ok-core.ensures.started
 
 pub returns-clause-ok : goal.returns-clause-ok
 returns-clause-ok g c =

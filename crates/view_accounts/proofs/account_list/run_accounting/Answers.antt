@@ -8,12 +8,12 @@ use Rattle.view_accounts.proofs.account_list.run_accounting.Goals as goal
 
 pub returns-clause-played : goal.returns-clause-played
 returns-clause-played g c = λ works. (
-  sessions_kept c.play-ending.new.bench.watch.now,
+  sessions_kept c.play-ending.new.runner.observer.now,
   (
     reported_at
-        (accounts_played c.play-ending.new.bench.watch.now c.args.stage.run.list.now c.play-ending.result c.close_accounting-ending.result c.requires.listed
+        (accounts_played c.play-ending.new.runner.observer.now c.args.stage.run.list.now c.play-ending.result c.close_accounting-ending.result c.requires.listed
         (rw c.requires.all at (c.play-ending.ensures.plays works)) c.close_accounting-ending.ensures.closes) (search rules),
-    rows_played c.play-ending.new.bench.watch.now c.args.stage.run.list.now c.play-ending.result c.close_accounting-ending.result c.rows_after-rows.result c.requires.listed
+    rows_played c.play-ending.new.runner.observer.now c.args.stage.run.list.now c.play-ending.result c.close_accounting-ending.result c.rows_after-rows.result c.requires.listed
         (rw c.requires.all at (c.play-ending.ensures.plays works)) c.close_accounting-ending.ensures.closes c.rows_after-rows.ensures,
   ),
 )

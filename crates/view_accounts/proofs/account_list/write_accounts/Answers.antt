@@ -1,5 +1,6 @@
 -- One text behind the other, or a part of both.
-use Rattle.view_accounts.proofs.ClosedLemmas.{on_err, part_of_both, part_of_first, written_both}
+use Rattle.run_lines.proofs.AccountLemmas.{on_err}
+use Rattle.view_accounts.proofs.ClosedLemmas.{part_of_both, part_of_first, written_both}
 use Rattle.view_accounts.proofs.account_list.write_accounts.Goals as goal
 
 pub returns-clause-told : goal.returns-clause-told

@@ -7,11 +7,11 @@ use Rattle.view_runs.proofs.answer_list.answers.Goals as goal
 pub returns-clause-played : goal.returns-clause-played
 returns-clause-played g c = λ works.
     played_on c.args.play.list.now None c.args.play.start (λ _ _. []) (λ _ _. []) c.answers_on.result.ending _ _ _ _ _ _ _
-    c.in_ok-core.ensures.started c.new-notes.ensures.stands c.new-notes.ensures.expects c.new-notes.ensures.subject (c.answers_on.ensures.played works)
+    c.in_ok-core.ensures.started c.new-state.ensures.stands c.new-state.ensures.expects c.new-state.ensures.subject (c.answers_on.ensures.played works)
 
 pub returns-clause-answered : goal.returns-clause-answered
 returns-clause-answered g c = λ works.
-    answered_on c.args.play.list.now c.args.play.start c.answers_on.result.ending c.in_ok-core.ensures.started c.new-notes.ensures.stands (c.answers_on.ensures.answered works)
+    answered_on c.args.play.list.now c.args.play.start c.answers_on.result.ending c.in_ok-core.ensures.started c.new-state.ensures.stands (c.answers_on.ensures.answered works)
 
 pub returns-clause-ok : goal.returns-clause-ok
 returns-clause-ok g c =

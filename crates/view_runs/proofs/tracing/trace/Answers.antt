@@ -7,8 +7,8 @@ use Rattle.view_runs.proofs.tracing.trace.Goals as goal
 
 pub returns-clause-played : goal.returns-clause-played
 returns-clause-played g c = λ works.
-    played_on c.args.play.list.now None c.args.play.start (λ start turns. g.F.RowFormat.front ++ text_of_steps (trace_call_text g.F.RowFormat.row_text start) None [] turns) (λ _ _. []) c.trace_on.result _ _ _ _ _ _ _
-    c.in_ok-core.ensures.started c.new-notes.ensures.stands c.new-notes.ensures.expects c.new-notes.ensures.subject (c.trace_on.ensures.played works)
+    played_on c.args.play.list.now None c.args.play.start (λ start steps. g.F.RowFormat.front ++ text_of_steps (trace_call_text g.F.RowFormat.row_text start) None [] steps) (λ _ _. []) c.trace_on.result _ _ _ _ _ _ _
+    c.in_ok-core.ensures.started c.new-state.ensures.stands c.new-state.ensures.expects c.new-state.ensures.subject (c.trace_on.ensures.played works)
 
 pub returns-clause-ok : goal.returns-clause-ok
 returns-clause-ok g c =

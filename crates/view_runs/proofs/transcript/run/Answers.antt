@@ -8,7 +8,7 @@ use Rattle.view_runs.proofs.transcript.run.Goals as goal
 pub returns-clause-played : goal.returns-clause-played
 returns-clause-played g c = λ works.
     played_on c.args.play.list.now (option_copied c.args.showing.only) c.args.play.start (shown_of c.args.showing.numbers (option_copied c.args.showing.only)) (list_behind c.args.showing.accounts (option_copied c.args.showing.only) c.args.play.list.now) c.run_on.result _ _ _ _ _ _ _
-    c.in_ok-core.ensures.started c.new-notes.ensures.stands c.new-notes.ensures.expects c.new-notes.ensures.subject (c.run_on.ensures.played works)
+    c.in_ok-core.ensures.started c.new-state.ensures.stands c.new-state.ensures.expects c.new-state.ensures.subject (c.run_on.ensures.played works)
 
 pub returns-clause-ok : goal.returns-clause-ok
 returns-clause-ok g c =

@@ -1,4 +1,4 @@
-use Rattle.std.proofs.Common.{◌<◌, ◌^◌, arith, subst, sym}
+use Rattle.std.proofs.Common.{rules, ◌<◌, ◌^◌, arith, subst, sym}
 use Rattle.own_model.specs.BestFit.{binary_digits}
 use Rattle.avl_alloc.specs.Layout.{heap_of, hole_count}
 use Rattle.avl_alloc.proofs.LayoutLemmas.{sound_told}
@@ -26,24 +26,20 @@ next g c = record { told = sound_told _ _ c.requires.sound; next = c.requires.ne
 done : (g : given.Over) (c : goal.After-put_in g) → IsAdded c.args.self.now c.put_in.new.self (g.M.WordMemory.word c.args.memory.now) (g.M.WordMemory.word c.put_in.new.memory) c.args.bytes
 done g c = chunk_added _ _ _ _ _ _ (next g c) _ _ (c.put_in.ensures.turn _ _ (more_asks _ _ _ _ _ _ (next g c)))
 
-pub returns-clause-heap : goal.returns-clause-heap
-returns-clause-heap g c = (done g c).heap
-
-pub returns-clause-sound : goal.returns-clause-sound
-returns-clause-sound g c = (done g c).sound
-
-pub returns-clause-sizes : goal.returns-clause-sizes
-returns-clause-sizes g c = (done g c).sizes
-
-pub returns-clause-others : goal.returns-clause-others
-returns-clause-others g c = (done g c).others
-
-pub returns-clause-loads : goal.returns-clause-loads
-returns-clause-loads g c =
+pub returns : goal.returns
+returns g c =
+    let done = done g c in
     let h = heap_of c.args.self.now (g.M.WordMemory.word c.args.memory.now) in
-    omega (
-      arith,
-      c.set_header.ensures.loads,
-      c.put_in.ensures.loads _ _ (binary_digits (hole_count h)) (more_asks _ _ _ _ _ _ (next g c))
-          (subst (λ k. k < 2 ^ binary_digits (hole_count h)) (sym (more_holes _ _ _ _ _ _ (next g c))) (below_digits (hole_count h))),
-    )
+    record {
+      heap = done.heap;
+      sound = done.sound;
+      sizes = done.sizes;
+      others = done.others;
+      rest = search rules;
+      loads = omega (
+        arith,
+        c.set_header.ensures.loads,
+        c.put_in.ensures.loads _ _ (binary_digits (hole_count h)) (more_asks _ _ _ _ _ _ (next g c))
+            (subst (λ k. k < 2 ^ binary_digits (hole_count h)) (sym (more_holes _ _ _ _ _ _ (next g c))) (below_digits (hole_count h))),
+      );
+    }

@@ -1,4 +1,4 @@
-use Rattle.std.proofs.Common.{◌≡◌, ◌∙◌, ap, arith, subst, sym}
+use Rattle.std.proofs.Common.{rules, ◌≡◌, ◌∙◌, ap, arith, subst, sym}
 use Rattle.std.specs.Option.{option_map}
 use Rattle.own_model.specs.Heap.{IsBlockSize}
 use Rattle.own_model.specs.BestFit.{block_size, best_hole, holes_of, taken_at}
@@ -50,13 +50,6 @@ overflow_sub-result g c =
     let is = found_some _ _ _ _ told (c.find-place.ensures.found told.tree told.laid.stands) c.if-place-eq0.false in
     omega (arith, is.there)
 
-pub returns-clause-best : goal.returns-clause-best
-returns-clause-best g c =
-    let told = sound_told _ _ c.requires.sound in
-    let h = heap_of c.args.self.now (g.M.WordMemory.word c.args.memory.now) in
-    let is = found_some _ _ _ _ told (c.find-place.ensures.found told.tree told.laid.stands) c.if-place-eq0.false in
-    addr_is _ _ _ _ is ∙ ap (λ z. option_map block_addr (best_hole z (holes_of h))) c.block_bytes-size.ensures
-
 done : (g : given.Over) (c : goal.After-take g) → IsTaken c.args.self.now c.take.new.self (g.M.WordMemory.word c.args.memory.now) (g.M.WordMemory.word c.take.new.memory) c.args.bytes
 done g c =
     let kept : g.M.WordMemory.word c.find-place.new.memory ≡ g.M.WordMemory.word c.args.memory.now = λ i. (c.find-place.ensures.view i).rest in
@@ -65,27 +58,26 @@ done g c =
     hole_taken _ _ _ _ c.args.bytes _ _ told c.block_bytes-size.ensures (subst IsBlockSize (sym c.block_bytes-size.ensures) (block_sized c.args.bytes)) is
     (rw kept at (c.take.ensures.turn is.site is.hole.size (rw kept is.stand) is.fits))
 
-pub returns-clause-heap : goal.returns-clause-heap
-returns-clause-heap g c = (done g c).heap
-
-pub returns-clause-sound : goal.returns-clause-sound
-returns-clause-sound g c = (done g c).sound
-
-pub returns-clause-sizes : goal.returns-clause-sizes
-returns-clause-sizes g c = (done g c).sizes
-
-pub returns-clause-others : goal.returns-clause-others
-returns-clause-others g c = (done g c).others
-
-pub returns-clause-loads : goal.returns-clause-loads
-returns-clause-loads g c =
+pub returns : goal.returns
+returns g c =
+    let done = done g c in
     let kept : g.M.WordMemory.word c.find-place.new.memory ≡ g.M.WordMemory.word c.args.memory.now = λ i. (c.find-place.ensures.view i).rest in
     let told = sound_told _ _ c.requires.sound in
     let is = found_some _ _ _ _ told (c.find-place.ensures.found told.tree told.laid.stands) c.if-place-eq0.false in
-    omega (
-      arith,
-      told_low _ _ told,
-      c.find-place.ensures.loads told.tree told.laid.stands,
-      c.take.ensures.loads is.site is.hole.size _ (rw kept is.stand) is.fits
-          (best_few _ _ _ _ is),
-    )
+    record {
+      best = addr_is _ _ _ _ is ∙ ap (λ z. option_map block_addr (best_hole z (holes_of (heap_of c.args.self.now (g.M.WordMemory.word c.args.memory.now))))) c.block_bytes-size.ensures;
+      heap = done.heap;
+      sound = done.sound;
+      sizes = done.sizes;
+      others = done.others;
+      refused = search rules;
+      unchanged = search rules;
+      rest = search rules;
+      loads = omega (
+        arith,
+        told_low _ _ told,
+        c.find-place.ensures.loads told.tree told.laid.stands,
+        c.take.ensures.loads is.site is.hole.size _ (rw kept is.stand) is.fits
+            (best_few _ _ _ _ is),
+      );
+    }

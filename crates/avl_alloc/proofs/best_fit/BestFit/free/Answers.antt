@@ -1,4 +1,4 @@
-use Rattle.std.proofs.Common.{◌∙◌, sym, arith}
+use Rattle.std.proofs.Common.{rules, ◌∙◌, sym, arith}
 use Rattle.std.proofs.lemmas.Bool.{not-false}
 use Rattle.avl_alloc.proofs.FreedLemmas.{used_none, used_some}
 use Rattle.avl_alloc.proofs.GivenLemmas.{not_used, not_start, used_start, sound_long, used_is, next_stand, next_end, IsGiven, back_stand, back_few, block_given}
@@ -64,11 +64,6 @@ give_back-requires-clause-stand g c =
     let hole = c.hole_behind-behind.ensures.hole is.next is.rest next (next_end _ _ _ _ _ _ _ is c.reach.ensures.words c.place_of-start.ensures) in
     (is.site, back_stand _ _ _ _ _ _ _ is (c.hole_behind-behind.ensures.words ∙ c.reach.ensures.words) c.place_of-start.ensures _ hole)
 
-pub returns-clause-block : goal.returns-clause-block
-returns-clause-block g c =
-    used_start c.args.addr.offset c.in_ok-block.block (not-false _ c.if-not-block.false) c.if-block-addr.false
-    ∙ used_some c.args.addr.offset _ c.in_ok-block.block (sound_long _ _ c.requires.sound c.args.addr.chunk) (sym c.in_ok-block.was ∙ c.reach.ensures.found)
-
 done : (g : given.Over) (c : goal.After-give_back g) → IsGiven c.args.self.now c.give_back.new.self (g.M.WordMemory.word c.args.memory.now) (g.M.WordMemory.word c.give_back.new.memory) c.args.addr.chunk c.args.addr.offset
 done g c =
     let is = used_is _ _ _ _ c.in_ok-block.block c.requires.sound (sym c.in_ok-block.was ∙ c.reach.ensures.found) (not-false _ c.if-not-block.false) c.if-block-addr.false in
@@ -77,27 +72,28 @@ done g c =
     let words = c.hole_behind-behind.ensures.words ∙ c.reach.ensures.words in
     block_given _ _ _ _ _ _ _ is words c.place_of-start.ensures _ hole _ _ (c.give_back.ensures.turn is.site (back_stand _ _ _ _ _ _ _ is words c.place_of-start.ensures _ hole))
 
-pub returns-clause-heap : goal.returns-clause-heap
-returns-clause-heap g c = (done g c).heap
-
-pub returns-clause-sound : goal.returns-clause-sound
-returns-clause-sound g c = (done g c).sound
-
-pub returns-clause-sizes : goal.returns-clause-sizes
-returns-clause-sizes g c = (done g c).sizes
-
-pub returns-clause-others : goal.returns-clause-others
-returns-clause-others g c = (done g c).others
-
-pub returns-clause-loads : goal.returns-clause-loads
-returns-clause-loads g c =
+pub returns : goal.returns
+returns g c =
+    let done = done g c in
     let is = used_is _ _ _ _ c.in_ok-block.block c.requires.sound (sym c.in_ok-block.was ∙ c.reach.ensures.found) (not-false _ c.if-not-block.false) c.if-block-addr.false in
     let next = next_stand _ _ _ _ _ _ _ is c.reach.ensures.words c.place_of-start.ensures in
     let hole = c.hole_behind-behind.ensures.hole is.next is.rest next (next_end _ _ _ _ _ _ _ is c.reach.ensures.words c.place_of-start.ensures) in
     let words = c.hole_behind-behind.ensures.words ∙ c.reach.ensures.words in
-    omega (
-      arith,
-      c.reach.ensures.loads,
-      c.hole_behind-behind.ensures.loads,
-      c.give_back.ensures.loads is.site _ (back_stand _ _ _ _ _ _ _ is words c.place_of-start.ensures _ hole) (back_few _ _ _ _ _ _ _ is words c.place_of-start.ensures _ hole),
-    )
+    record {
+      block =
+          used_start c.args.addr.offset c.in_ok-block.block (not-false _ c.if-not-block.false) c.if-block-addr.false
+          ∙ used_some c.args.addr.offset _ c.in_ok-block.block (sound_long _ _ c.requires.sound c.args.addr.chunk) (sym c.in_ok-block.was ∙ c.reach.ensures.found);
+      heap = done.heap;
+      sound = done.sound;
+      sizes = done.sizes;
+      others = done.others;
+      refused = search rules;
+      unchanged = search rules;
+      rest = search rules;
+      loads = omega (
+        arith,
+        c.reach.ensures.loads,
+        c.hole_behind-behind.ensures.loads,
+        c.give_back.ensures.loads is.site _ (back_stand _ _ _ _ _ _ _ is words c.place_of-start.ensures _ hole) (back_few _ _ _ _ _ _ _ is words c.place_of-start.ensures _ hole),
+      );
+    }

@@ -1,5 +1,5 @@
 -- The inits from a place on have what their lists need.
-use Rattle.std.proofs.Common.{◌≡◌, ◌≤◌, length}
+use Rattle.std.proofs.Common.{◌≤◌, length}
 use Rattle.budget_least.specs.InitNeeds.{AreNeededFrom}
 use Rattle.budget_least.proofs.report.BudgetReport.sum_inits.Given as goal
 

@@ -9,12 +9,7 @@ pub start-start-requires : goal.start-start-requires
 start-start-requires c = key_there c.self.invariant c.args.ds.0 c.self.view_is c.requires.exists
 
 pub load_run-requires : goal.load_run-requires
-load_run-requires c =
-    let found = runs_from c.self.invariant c.args.ds.0 _ c.start-start.ensures c.self.view_is in (
-      found.space.run.count,
-      found.run,
-      record { aligned = c.requires.aligned; within = omega (arith, c.requires.range, found.size) },
-    )
+load_run-requires c = let found = runs_from c.self.invariant c.args.ds.0 _ c.start-start.ensures c.self.view_is in (found.space.run.count, found.run, record { aligned = c.requires.aligned; within = omega (arith, c.requires.range, found.size) })
 
 pub returns : goal.returns
 returns c =

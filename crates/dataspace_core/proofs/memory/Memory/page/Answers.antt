@@ -8,12 +8,7 @@ pub start-start-requires : goal.start-start-requires
 start-start-requires c = key_there c.self.invariant c.args.ds.0 c.self.view_is c.requires.exists
 
 pub run_page-requires : goal.run_page-requires
-run_page-requires c =
-    let found = runs_from c.self.invariant c.args.ds.0 _ c.start-start.ensures c.self.view_is in (
-      found.space.run.count,
-      found.run,
-      omega (arith, c.requires.range, found.size),
-    )
+run_page-requires c = let found = runs_from c.self.invariant c.args.ds.0 _ c.start-start.ensures c.self.view_is in (found.space.run.count, found.run, omega (arith, c.requires.range, found.size))
 
 pub returns : goal.returns
 returns c =

@@ -16,13 +16,7 @@ pub start-start-requires : goal.start-start-requires
 start-start-requires c = key_there c.self.invariant c.args.ds.0 c.self.view_is c.requires.exists
 
 pub store_run_words-requires : goal.store_run_words-requires
-store_run_words-requires c =
-    let found = runs_from c.self.invariant c.args.ds.0 _ c.start-start.ensures c.self.view_is in (
-      found.space.run.count,
-      found.run,
-      record { some = omega arith; fits = c.requires.page; within = omega (arith, c.requires.range, found.size) },
-      c.requires.aligned,
-    )
+store_run_words-requires c = let found = runs_from c.self.invariant c.args.ds.0 _ c.start-start.ensures c.self.view_is in (found.space.run.count, found.run, record { some = omega arith; fits = c.requires.page; within = omega (arith, c.requires.range, found.size) }, c.requires.aligned)
 
 pub invariant_of-self : goal.invariant_of-self
 invariant_of-self c =

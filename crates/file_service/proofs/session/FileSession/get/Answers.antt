@@ -1,13 +1,13 @@
 -- The offset is looked at first, then the range of the buffer.
 use Rattle.std.proofs.Common.{rules, ◌≡◌, ◌+◌, ◌-◌, ◌≤◌, [], length, take, drop, Some, None, Err, refl, sym, ap, subst, ◌∙◌, arith}
-use Rattle.std.specs.Prelude.{IfSome, IfOk, slice_range}
+use Rattle.std.specs.Prelude.{IfOk, slice_range}
 use Rattle.std.specs.Option.{option_map}
 use Rattle.std.specs.Result.{result_ok, result_err}
 use Rattle.trade_base.proofs.BytesLemmas.{length-slice_range}
 use Rattle.own_model.specs.BufferService.{beside, range_refusal, got}
 use Rattle.own_model.specs.BufferService.BufferRequest.{Get}
 use Rattle.own_model.specs.BufferService.SessionRequest.{OfBuffer}
-use Rattle.own_model.specs.FileService.{File, told, file_named}
+use Rattle.own_model.specs.FileService.{File, told}
 use Rattle.own_model.specs.FileText.FileError.{Gap}
 use Rattle.own_model.specs.FileText.FileReply.{Count, Refused}
 use Rattle.dataspace_core.specs.Store.{space_at}
@@ -15,16 +15,14 @@ use Rattle.server_frame.specs.SessionBuffer.{bytes_lent}
 use Rattle.server_frame.specs.Session.{holding_of}
 use Rattle.session_proto.specs.FileReply.{model_error}
 use Rattle.session_nodes.specs.Calls.{payload_in}
-use Rattle.file_service.specs.Files.{file_at}
 use Rattle.session_nodes.specs.SoundHeaps.{Stock}
 use Rattle.session_nodes.specs.SessionHeaps.{stock_of, StaySoundHeaps}
 use Rattle.session_nodes.specs.SessionBuffer.{HasBuffer, buffer_key}
 use Rattle.session_nodes.specs.Node.{value_of}
-use Rattle.session_nodes.specs.NodeList.{Finds}
 use Rattle.file_service.specs.Session.{files_in, session_served, counted_reply, Answers, IsReady}
 use Rattle.session_nodes.proofs.FrontLemmas.{front_part}
-use Rattle.file_service.proofs.FileFoundLemmas.{found_named}
-use Rattle.session_nodes.proofs.SearchLemmas.{found_long, found_has, found_bytes}
+use Rattle.file_service.proofs.FileThereLemmas.{IsThere, file_in, is_there}
+use Rattle.session_nodes.proofs.SearchLemmas.{found_has, found_bytes}
 use Rattle.session_nodes.proofs.SourceLemmas.{buffer_exists}
 use Rattle.file_service.proofs.BufferRequestLemmas as request
 use Rattle.session_nodes.proofs.ResultLemmas.{keeps_same}
@@ -33,31 +31,19 @@ use Rattle.file_service.proofs.session.FileSession.get.Goals.{In_ok-found, In_ok
 use Rattle.file_service.proofs.session.FileSession.get.Goals as goal
 
 -- what is found, in the memory after the search
-record IsFoundNow (c : In_ok-found) : Type 0 where
-  ready : IsReady c.args.self.now c.find.new.memory c.args.map.now
-  found : Finds c.args.self.now.nodes (stock_of c.args.self.now.nodes.heaps c.find.new.memory c.args.map.now) c.args.file.now.name.now c.in_ok-found.found
+there : (c : In_ok-found) → IsThere c.args.self.now c.find.new.memory c.args.map.now c.args.range.now.file.now c.in_ok-found.found
+there c = is_there c.args.self.now c.args.map.now c.args.range.now.file.now c.in_ok-found.found c.find.ensures.some (c.ok_or.ensures.ok_part ∙ ap result_ok c.in_ok-found.was) c.find.ensures.memory
 
-found_now : (c : In_ok-found) → IsFoundNow c
-found_now c =
-    let finds = subst (λ o. IfSome o (Finds c.args.self.now.nodes (stock_of c.args.self.now.nodes.heaps c.args.memory.now c.args.map.now) c.args.file.now.name.now)) (c.ok_or.ensures.ok_part ∙ ap result_ok c.in_ok-found.was) c.find.ensures.some in
-    record {
-      ready = subst (λ m. IsReady c.args.self.now m c.args.map.now) (sym c.find.ensures.memory) c.requires.ready;
-      found = subst (λ m. Finds c.args.self.now.nodes (stock_of c.args.self.now.nodes.heaps m c.args.map.now) c.args.file.now.name.now c.in_ok-found.found) (sym c.find.ensures.memory) finds;
-    }
+ready : (c : In_ok-found) → IsReady c.args.self.now c.find.new.memory c.args.map.now
+ready c = subst (λ m. IsReady c.args.self.now m c.args.map.now) (sym c.find.ensures.memory) c.requires.ready
 
 abbrev file_of : (c : In_ok-found) → File
-file_of c = let s : Stock = stock_of c.args.self.now.nodes.heaps c.find.new.memory c.args.map.now in file_at s.nodes s.contents c.in_ok-found.found.address
-
-named_now : (c : In_ok-found) → file_named c.args.file.now.name.now (files_in c.args.self.now (stock_of c.args.self.now.nodes.heaps c.find.new.memory c.args.map.now)) ≡ Some (file_of c)
-named_now c = found_named c.args.self.now.nodes.first c.args.self.now.nodes.last _ _ c.args.file.now.name.now _ c.in_ok-found.found.address (value_of c.in_ok-found.found.node) (found_now c).found
-
-long_now : (c : In_ok-found) → length (file_of c).bytes ≡ c.in_ok-found.found.node.size
-long_now c = found_long c.args.self.now.nodes.first c.args.self.now.nodes.last _ _ c.args.file.now.name.now _ c.in_ok-found.found.address (value_of c.in_ok-found.found.node) (found_now c).found
+file_of c = file_in c.args.self.now c.find.new.memory c.args.map.now c.in_ok-found.found
 
 -- the range is in the buffer
 record IsInRange (c : In_ok-lent) : Type 0 where
   lent : c.args.self.now.buffer ≡ Some c.in_ok-lent.lent
-  good : range_refusal c.args.place c.args.file.now.len (bytes_lent c.find.new.memory (buffer_key c.args.self.now.buffer)) ≡ None
+  good : range_refusal c.args.place c.args.range.now.len (bytes_lent c.find.new.memory (buffer_key c.args.self.now.buffer)) ≡ None
 
 in_range : (c : In_ok-lent) → IsInRange c
 in_range c = record {
@@ -65,24 +51,24 @@ in_range c = record {
   good = sym c.range.ensures.refusal ∙ ap (λ r. option_map model_error (result_err r)) c.in_ok-lent.was;
 }
 
-within : (c : In_ok-lent) → c.args.place + c.args.file.now.len ≤ length (space_at c.find.new.memory c.in_ok-lent.lent.space.0).bytes
+within : (c : In_ok-lent) → c.args.place + c.args.range.now.len ≤ length (space_at c.find.new.memory c.in_ok-lent.lent.space.0).bytes
 within c =
     let is = in_range c in
-    request.range_within c.args.place c.args.file.now.len (space_at c.find.new.memory c.in_ok-lent.lent.space.0).bytes
-    (ap (λ b. range_refusal c.args.place c.args.file.now.len (bytes_lent c.find.new.memory (buffer_key b))) (sym is.lent) ∙ is.good)
+    request.range_within c.args.place c.args.range.now.len (space_at c.find.new.memory c.in_ok-lent.lent.space.0).bytes
+    (ap (λ b. range_refusal c.args.place c.args.range.now.len (bytes_lent c.find.new.memory (buffer_key b))) (sym is.lent) ∙ is.good)
 
-pub returns-then-file-size-clause-answers : goal.returns-then-file-size-clause-answers
-returns-then-file-size-clause-answers c =
-    let at = (goal.at.returns-then-file-size-clause-answers c).In_ok-found in
+pub returns-then-range-size-clause-answers : goal.returns-then-range-size-clause-answers
+returns-then-range-size-clause-answers c =
+    let at = (goal.at.returns-then-range-size-clause-answers c).In_ok-found in
     let s : Stock = stock_of c.args.self.now.nodes.heaps c.find.new.memory c.args.map.now in
     let b = bytes_lent c.find.new.memory (buffer_key c.args.self.now.buffer) in
-    subst (λ m. Answers (session_served (Some (OfBuffer (Get c.args.file.now.name.now c.args.file.now.offset c.args.place c.args.file.now.len))) c.args.self.now m c.args.map.now) (Refused Gap) c.args.self.now c.args.self.now c.find.new.memory c.args.map.now) c.find.ensures.memory
-    (request.told_all (found_now at).ready (Refused Gap) _
-    (ap (λ o. got c.args.file.now.offset c.args.place c.args.file.now.len b o (files_in c.args.self.now s) s.account) (named_now at)
-    ∙ request.got_gap c.args.file.now.offset c.args.place c.args.file.now.len b (files_in c.args.self.now s) s.account (file_of at) (omega (arith, long_now at))))
+    subst (λ m. Answers (session_served (Some (OfBuffer (Get c.args.range.now.file.now c.args.range.now.offset c.args.place c.args.range.now.len))) c.args.self.now m c.args.map.now) (Refused Gap) c.args.self.now c.args.self.now c.find.new.memory c.args.map.now) c.find.ensures.memory
+    (request.told_all (ready at) (Refused Gap) _
+    (ap (λ o. got c.args.range.now.offset c.args.place c.args.range.now.len b o (files_in c.args.self.now s) s.account) (there at).named
+    ∙ request.got_gap c.args.range.now.offset c.args.place c.args.range.now.len b (files_in c.args.self.now s) s.account (file_of at) (omega (arith, (there at).long))))
 
 pub range-requires : goal.range-requires
-range-requires c = let now = found_now (goal.at.range-requires c).In_ok-found in buffer_exists now.ready.furnished c.args.self.now.buffer now.ready.lent
+range-requires c = let now = ready (goal.at.range-requires c).In_ok-found in buffer_exists now.furnished c.args.self.now.buffer now.lent
 
 pub returns-in_err-lent-clause-answers : goal.returns-in_err-lent-clause-answers
 returns-in_err-lent-clause-answers c =
@@ -91,23 +77,23 @@ returns-in_err-lent-clause-answers c =
     let b = bytes_lent c.find.new.memory (buffer_key c.args.self.now.buffer) in
     let e = model_error c.in_err-lent.field-0.0 in
     let tells : c.from_residual-in_err-lent.result ≡ Err c.in_err-lent.field-0.0 = search rules in
-    let bad : range_refusal c.args.place c.args.file.now.len b ≡ Some e = sym c.range.ensures.refusal ∙ ap (λ r. option_map model_error (result_err r)) c.in_err-lent.was in
-    subst (λ r. Answers (session_served (Some (OfBuffer (Get c.args.file.now.name.now c.args.file.now.offset c.args.place c.args.file.now.len))) c.args.self.now c.args.memory.now c.args.map.now) (counted_reply r) c.args.self.now c.args.self.now c.find.new.memory c.args.map.now) (sym tells)
-    (subst (λ m. Answers (session_served (Some (OfBuffer (Get c.args.file.now.name.now c.args.file.now.offset c.args.place c.args.file.now.len))) c.args.self.now m c.args.map.now) (Refused e) c.args.self.now c.args.self.now c.find.new.memory c.args.map.now) c.find.ensures.memory
-    (request.told_all (found_now at).ready (Refused e) _
-    (ap (λ o. got c.args.file.now.offset c.args.place c.args.file.now.len b o (files_in c.args.self.now s) s.account) (named_now at)
-    ∙ request.got_range c.args.file.now.offset c.args.place c.args.file.now.len b (files_in c.args.self.now s) s.account (file_of at) (omega (arith, long_now at)) e bad)))
+    let bad : range_refusal c.args.place c.args.range.now.len b ≡ Some e = sym c.range.ensures.refusal ∙ ap (λ r. option_map model_error (result_err r)) c.in_err-lent.was in
+    subst (λ r. Answers (session_served (Some (OfBuffer (Get c.args.range.now.file.now c.args.range.now.offset c.args.place c.args.range.now.len))) c.args.self.now c.args.memory.now c.args.map.now) (counted_reply r) c.args.self.now c.args.self.now c.find.new.memory c.args.map.now) (sym tells)
+    (subst (λ m. Answers (session_served (Some (OfBuffer (Get c.args.range.now.file.now c.args.range.now.offset c.args.place c.args.range.now.len))) c.args.self.now m c.args.map.now) (Refused e) c.args.self.now c.args.self.now c.find.new.memory c.args.map.now) c.find.ensures.memory
+    (request.told_all (ready at) (Refused e) _
+    (ap (λ o. got c.args.range.now.offset c.args.place c.args.range.now.len b o (files_in c.args.self.now s) s.account) (there at).named
+    ∙ request.got_range c.args.range.now.offset c.args.place c.args.range.now.len b (files_in c.args.self.now s) s.account (file_of at) (omega (arith, (there at).long)) e bad)))
 
 pub fill_buffer-requires-clause-lent : goal.fill_buffer-requires-clause-lent
 fill_buffer-requires-clause-lent c =
     let at = goal.at.fill_buffer-requires-clause-lent c in
-    subst (λ b. HasBuffer b (holding_of c.args.self.now.nodes.heaps.contents c.find.new.memory c.args.map.now)) (in_range at.In_ok-lent).lent (found_now at.In_ok-found).ready.lent
+    subst (λ b. HasBuffer b (holding_of c.args.self.now.nodes.heaps.contents c.find.new.memory c.args.map.now)) (in_range at.In_ok-lent).lent (ready at.In_ok-found).lent
 
 pub fill_buffer-requires-clause-there : goal.fill_buffer-requires-clause-there
 fill_buffer-requires-clause-there c =
     let at = (goal.at.fill_buffer-requires-clause-there c).In_ok-found in
-    found_has c.args.self.now.nodes.first c.args.self.now.nodes.last _ _ c.args.file.now.name.now _ c.in_ok-found.found.address (value_of c.in_ok-found.found.node) (found_now at).found
-    c.args.file.now.offset c.min-part.result (omega arith) (omega arith)
+    found_has c.args.self.now.nodes.first c.args.self.now.nodes.last _ _ c.args.range.now.file.now _ c.in_ok-found.found.address (value_of c.in_ok-found.found.node) (there at).found
+    c.args.range.now.offset c.min-part.result (omega arith) (omega arith)
 
 pub fill_buffer-requires-clause-room : goal.fill_buffer-requires-clause-room
 fill_buffer-requires-clause-room c =
@@ -122,22 +108,22 @@ returns-then-part-gt0-clause-answers c =
     let s : Stock = stock_of c.args.self.now.nodes.heaps c.find.new.memory c.args.map.now in
     let b = bytes_lent c.find.new.memory (buffer_key c.args.self.now.buffer) in
     let node = value_of c.in_ok-found.found.node in
-    let found = (found_now at).found in
+    let found = (there at).found in
     let content = payload_in s.contents node.content in
     let n = c.min-part.result in
-    let has = found_has c.args.self.now.nodes.first c.args.self.now.nodes.last s.nodes s.contents c.args.file.now.name.now _ c.in_ok-found.found.address node found c.args.file.now.offset n (omega arith) (omega arith) in
-    let bytes = found_bytes c.args.self.now.nodes.first c.args.self.now.nodes.last s.nodes s.contents c.args.file.now.name.now _ c.in_ok-found.found.address node found in
-    let part = slice_range content c.args.file.now.offset (c.args.file.now.offset + n) in
-    let count : (c.args.file.now.offset + n) - c.args.file.now.offset ≡ n = omega arith in
-    let same : take c.args.file.now.len (drop c.args.file.now.offset (file_of at).bytes) ≡ part =
-    ap (λ l. take c.args.file.now.len (drop c.args.file.now.offset l)) bytes
-    ∙ front_part node.size c.args.file.now.len c.args.file.now.offset n content (omega arith) c.min-part.ensures
-    ∙ ap (λ k. take k (drop c.args.file.now.offset content)) (sym count) in
-    subst (λ m. Answers (session_served (Some (OfBuffer (Get c.args.file.now.name.now c.args.file.now.offset c.args.place c.args.file.now.len))) c.args.self.now m c.args.map.now) (Count n) c.args.self.now c.args.self.now c.fill_buffer.new.memory c.args.map.now) c.find.ensures.memory
-    (request.got_filled (found_now at).ready c.in_ok-lent.lent c.args.place n part part _ is.lent c.fill_buffer.ensures.filled c.fill_buffer.ensures.stays refl
-    (length-slice_range content c.args.file.now.offset n has.within)
-    (ap (λ o. got c.args.file.now.offset c.args.place c.args.file.now.len b o (files_in c.args.self.now s) s.account) (named_now at)
-    ∙ request.got_done c.args.file.now.offset c.args.place c.args.file.now.len b (files_in c.args.self.now s) s.account (file_of at) (omega (arith, long_now at)) part is.good same))
+    let has = found_has c.args.self.now.nodes.first c.args.self.now.nodes.last s.nodes s.contents c.args.range.now.file.now _ c.in_ok-found.found.address node found c.args.range.now.offset n (omega arith) (omega arith) in
+    let bytes = found_bytes c.args.self.now.nodes.first c.args.self.now.nodes.last s.nodes s.contents c.args.range.now.file.now _ c.in_ok-found.found.address node found in
+    let part = slice_range content c.args.range.now.offset (c.args.range.now.offset + n) in
+    let count : (c.args.range.now.offset + n) - c.args.range.now.offset ≡ n = omega arith in
+    let same : take c.args.range.now.len (drop c.args.range.now.offset (file_of at).bytes) ≡ part =
+    ap (λ l. take c.args.range.now.len (drop c.args.range.now.offset l)) bytes
+    ∙ front_part node.size c.args.range.now.len c.args.range.now.offset n content (omega arith) c.min-part.ensures
+    ∙ ap (λ k. take k (drop c.args.range.now.offset content)) (sym count) in
+    subst (λ m. Answers (session_served (Some (OfBuffer (Get c.args.range.now.file.now c.args.range.now.offset c.args.place c.args.range.now.len))) c.args.self.now m c.args.map.now) (Count n) c.args.self.now c.args.self.now c.fill_buffer.new.memory c.args.map.now) c.find.ensures.memory
+    (request.got_filled (ready at) c.in_ok-lent.lent c.args.place n part part _ is.lent c.fill_buffer.ensures.filled c.fill_buffer.ensures.stays refl
+    (length-slice_range content c.args.range.now.offset n has.within)
+    (ap (λ o. got c.args.range.now.offset c.args.place c.args.range.now.len b o (files_in c.args.self.now s) s.account) (there at).named
+    ∙ request.got_done c.args.range.now.offset c.args.place c.args.range.now.len b (files_in c.args.self.now s) s.account (file_of at) (omega (arith, (there at).long)) part is.good same))
 
 pub returns-else-part-gt0-clause-answers : goal.returns-else-part-gt0-clause-answers
 returns-else-part-gt0-clause-answers c =
@@ -148,24 +134,24 @@ returns-else-part-gt0-clause-answers c =
     let b = bytes_lent c.find.new.memory (buffer_key c.args.self.now.buffer) in
     let node = value_of c.in_ok-found.found.node in
     let content = payload_in s.contents node.content in
-    let bytes = found_bytes c.args.self.now.nodes.first c.args.self.now.nodes.last s.nodes s.contents c.args.file.now.name.now _ c.in_ok-found.found.address node (found_now at).found in
+    let bytes = found_bytes c.args.self.now.nodes.first c.args.self.now.nodes.last s.nodes s.contents c.args.range.now.file.now _ c.in_ok-found.found.address node (there at).found in
     let none : c.min-part.result ≡ 0 = omega arith in
-    let same : take c.args.file.now.len (drop c.args.file.now.offset (file_of at).bytes) ≡ [] =
-    ap (λ l. take c.args.file.now.len (drop c.args.file.now.offset l)) bytes
-    ∙ front_part node.size c.args.file.now.len c.args.file.now.offset c.min-part.result content (omega arith) c.min-part.ensures
-    ∙ ap (λ k. take k (drop c.args.file.now.offset content)) none in
-    subst (λ n. Answers (session_served (Some (OfBuffer (Get c.args.file.now.name.now c.args.file.now.offset c.args.place c.args.file.now.len))) c.args.self.now c.args.memory.now c.args.map.now) (Count n) c.args.self.now c.args.self.now c.find.new.memory c.args.map.now) (sym none)
-    (subst (λ m. Answers (session_served (Some (OfBuffer (Get c.args.file.now.name.now c.args.file.now.offset c.args.place c.args.file.now.len))) c.args.self.now m c.args.map.now) (Count 0) c.args.self.now c.args.self.now c.find.new.memory c.args.map.now) c.find.ensures.memory
-    (request.told_all (found_now at).ready (Count 0) _
-    (ap (λ o. got c.args.file.now.offset c.args.place c.args.file.now.len b o (files_in c.args.self.now s) s.account) (named_now at)
-    ∙ request.got_done c.args.file.now.offset c.args.place c.args.file.now.len b (files_in c.args.self.now s) s.account (file_of at) (omega (arith, long_now at)) [] is.good same
+    let same : take c.args.range.now.len (drop c.args.range.now.offset (file_of at).bytes) ≡ [] =
+    ap (λ l. take c.args.range.now.len (drop c.args.range.now.offset l)) bytes
+    ∙ front_part node.size c.args.range.now.len c.args.range.now.offset c.min-part.result content (omega arith) c.min-part.ensures
+    ∙ ap (λ k. take k (drop c.args.range.now.offset content)) none in
+    subst (λ n. Answers (session_served (Some (OfBuffer (Get c.args.range.now.file.now c.args.range.now.offset c.args.place c.args.range.now.len))) c.args.self.now c.args.memory.now c.args.map.now) (Count n) c.args.self.now c.args.self.now c.find.new.memory c.args.map.now) (sym none)
+    (subst (λ m. Answers (session_served (Some (OfBuffer (Get c.args.range.now.file.now c.args.range.now.offset c.args.place c.args.range.now.len))) c.args.self.now m c.args.map.now) (Count 0) c.args.self.now c.args.self.now c.find.new.memory c.args.map.now) c.find.ensures.memory
+    (request.told_all (ready at) (Count 0) _
+    (ap (λ o. got c.args.range.now.offset c.args.place c.args.range.now.len b o (files_in c.args.self.now s) s.account) (there at).named
+    ∙ request.got_done c.args.range.now.offset c.args.place c.args.range.now.len b (files_in c.args.self.now s) s.account (file_of at) (omega (arith, (there at).long)) [] is.good same
     ∙ ap (λ l. beside l (told (Count 0) (files_in c.args.self.now s) s.account)) (request.nothing_got b c.args.place))))
 
 pub returns-in_err-found-clause-stays : goal.returns-in_err-found-clause-stays
 returns-in_err-found-clause-stays c = (keeps_same c.requires.ready.furnished refl refl c.find.ensures.memory refl).stays
 
-pub returns-then-file-size-clause-stays : goal.returns-then-file-size-clause-stays
-returns-then-file-size-clause-stays c = (keeps_same c.requires.ready.furnished refl refl c.find.ensures.memory refl).stays
+pub returns-then-range-size-clause-stays : goal.returns-then-range-size-clause-stays
+returns-then-range-size-clause-stays c = (keeps_same c.requires.ready.furnished refl refl c.find.ensures.memory refl).stays
 
 pub returns-in_err-lent-clause-stays : goal.returns-in_err-lent-clause-stays
 returns-in_err-lent-clause-stays c = (keeps_same c.requires.ready.furnished refl refl c.find.ensures.memory refl).stays

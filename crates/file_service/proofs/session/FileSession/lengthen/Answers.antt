@@ -25,9 +25,9 @@ use Rattle.session_nodes.specs.NodeList.{IsFound}
 use Rattle.file_service.specs.Session.{files_in, served_in, counted_reply}
 use Rattle.session_nodes.specs.Source.{bytes_from, HasSource}
 use Rattle.session_nodes.proofs.SourceLemmas.{source_kept, bytes_kept}
-use Rattle.file_service.proofs.LengthenLemmas.{TakesLonger, sum_is, no_sum, not_new, source, target, room, made_has, made_own, made_found, made_listed, made_served}
+use Rattle.file_service.proofs.LengthenLemmas.{TakesLonger, no_sum, not_new, source, target, room, made_has, made_own, made_found, made_listed, made_served}
 use Rattle.file_service.proofs.FileChangeLemmas.{account_replaced, files_replaced}
-use Rattle.session_nodes.proofs.ResultLemmas.{err_case, err_and, was_ok}
+use Rattle.session_nodes.proofs.ResultLemmas.{err_and, err_case, sum_is, was_ok}
 use Rattle.session_nodes.proofs.AfterLemmas.{keeps_both}
 use Rattle.file_service.proofs.ServeLemmas.{serves_told, serves_refused}
 use Rattle.file_service.proofs.WriteLemmas.{past_limit, refused_short, longer_refused}

@@ -1,6 +1,6 @@
 -- The offset is looked at first, then the range of the buffer, and then it is a write.
-use Rattle.std.proofs.Common.{rules, ◌≡◌, ◌+◌, length, Some, None, Err, sym, ap, subst, ◌∙◌, arith, refl}
-use Rattle.std.specs.Prelude.{IfSome, IfOk, slice_range}
+use Rattle.std.proofs.Common.{rules, ◌≡◌, ◌+◌, Some, None, Err, sym, ap, subst, ◌∙◌, arith, refl}
+use Rattle.std.specs.Prelude.{IfOk, slice_range}
 use Rattle.std.specs.Option.{option_map}
 use Rattle.std.specs.Result.{result_ok, result_err}
 use Rattle.own_model.specs.BufferService.{beside, range_refusal, part_of, put}
@@ -13,15 +13,12 @@ use Rattle.dataspace_core.specs.Store.{space_at}
 use Rattle.server_frame.specs.SessionBuffer.{bytes_lent}
 use Rattle.server_frame.specs.Session.{holding_of}
 use Rattle.session_proto.specs.FileReply.{model_error}
-use Rattle.file_service.specs.Files.{file_at}
 use Rattle.session_nodes.specs.SoundHeaps.{Stock}
 use Rattle.session_nodes.specs.SessionHeaps.{stock_of}
 use Rattle.session_nodes.specs.SessionBuffer.{HasBuffer, buffer_key}
 use Rattle.session_nodes.specs.Node.{value_of}
-use Rattle.session_nodes.specs.NodeList.{Finds}
 use Rattle.file_service.specs.Session.{files_in, session_served, counted_reply, Answers, IsReady}
-use Rattle.file_service.proofs.FileFoundLemmas.{found_named}
-use Rattle.session_nodes.proofs.SearchLemmas.{found_long}
+use Rattle.file_service.proofs.FileThereLemmas.{IsThere, file_in, is_there}
 use Rattle.session_nodes.proofs.AfterLemmas.{furnished_after, keeps_after}
 use Rattle.file_service.proofs.ServeLemmas.{found_after, files_after}
 use Rattle.session_nodes.proofs.SourceLemmas.{buffer_exists}
@@ -31,39 +28,27 @@ use Rattle.file_service.proofs.session.FileSession.put.Goals.{In_ok-found, In_ok
 use Rattle.file_service.proofs.session.FileSession.put.Goals as goal
 
 -- what is found, in the memory after the search
-record IsFoundNow (c : In_ok-found) : Type 0 where
-  ready : IsReady c.args.self.now c.find.new.memory c.args.map.now
-  found : Finds c.args.self.now.nodes (stock_of c.args.self.now.nodes.heaps c.find.new.memory c.args.map.now) c.args.file.now.name.now c.in_ok-found.found
+there : (c : In_ok-found) → IsThere c.args.self.now c.find.new.memory c.args.map.now c.args.range.now.file.now c.in_ok-found.found
+there c = is_there c.args.self.now c.args.map.now c.args.range.now.file.now c.in_ok-found.found c.find.ensures.some (c.ok_or.ensures.ok_part ∙ ap result_ok c.in_ok-found.was) c.find.ensures.memory
 
-found_now : (c : In_ok-found) → IsFoundNow c
-found_now c =
-    let finds = subst (λ o. IfSome o (Finds c.args.self.now.nodes (stock_of c.args.self.now.nodes.heaps c.args.memory.now c.args.map.now) c.args.file.now.name.now)) (c.ok_or.ensures.ok_part ∙ ap result_ok c.in_ok-found.was) c.find.ensures.some in
-    record {
-      ready = subst (λ m. IsReady c.args.self.now m c.args.map.now) (sym c.find.ensures.memory) c.requires.ready;
-      found = subst (λ m. Finds c.args.self.now.nodes (stock_of c.args.self.now.nodes.heaps m c.args.map.now) c.args.file.now.name.now c.in_ok-found.found) (sym c.find.ensures.memory) finds;
-    }
+ready : (c : In_ok-found) → IsReady c.args.self.now c.find.new.memory c.args.map.now
+ready c = subst (λ m. IsReady c.args.self.now m c.args.map.now) (sym c.find.ensures.memory) c.requires.ready
 
 abbrev file_of : (c : In_ok-found) → File
-file_of c = let s : Stock = stock_of c.args.self.now.nodes.heaps c.find.new.memory c.args.map.now in file_at s.nodes s.contents c.in_ok-found.found.address
+file_of c = file_in c.args.self.now c.find.new.memory c.args.map.now c.in_ok-found.found
 
-named_now : (c : In_ok-found) → file_named c.args.file.now.name.now (files_in c.args.self.now (stock_of c.args.self.now.nodes.heaps c.find.new.memory c.args.map.now)) ≡ Some (file_of c)
-named_now c = found_named c.args.self.now.nodes.first c.args.self.now.nodes.last _ _ c.args.file.now.name.now _ c.in_ok-found.found.address (value_of c.in_ok-found.found.node) (found_now c).found
-
-long_now : (c : In_ok-found) → length (file_of c).bytes ≡ c.in_ok-found.found.node.size
-long_now c = found_long c.args.self.now.nodes.first c.args.self.now.nodes.last _ _ c.args.file.now.name.now _ c.in_ok-found.found.address (value_of c.in_ok-found.found.node) (found_now c).found
-
-pub returns-then-file-found-clause-answers : goal.returns-then-file-found-clause-answers
-returns-then-file-found-clause-answers c =
-    let at = (goal.at.returns-then-file-found-clause-answers c).In_ok-found in
+pub returns-then-range-found-clause-answers : goal.returns-then-range-found-clause-answers
+returns-then-range-found-clause-answers c =
+    let at = (goal.at.returns-then-range-found-clause-answers c).In_ok-found in
     let s : Stock = stock_of c.args.self.now.nodes.heaps c.find.new.memory c.args.map.now in
     let b = bytes_lent c.find.new.memory (buffer_key c.args.self.now.buffer) in
-    subst (λ m. Answers (session_served (Some (OfBuffer (Put c.args.file.now.name.now c.args.file.now.offset c.args.place c.args.file.now.len))) c.args.self.now m c.args.map.now) (Refused Gap) c.args.self.now c.args.self.now c.find.new.memory c.args.map.now) c.find.ensures.memory
-    (request.told_all (found_now at).ready (Refused Gap) _
-    (ap (λ o. put c.args.file.now.offset c.args.place c.args.file.now.len b o (files_in c.args.self.now s) s.account) (named_now at)
-    ∙ request.put_gap c.args.file.now.offset c.args.place c.args.file.now.len b (files_in c.args.self.now s) s.account (file_of at) (omega (arith, long_now at))))
+    subst (λ m. Answers (session_served (Some (OfBuffer (Put c.args.range.now.file.now c.args.range.now.offset c.args.place c.args.range.now.len))) c.args.self.now m c.args.map.now) (Refused Gap) c.args.self.now c.args.self.now c.find.new.memory c.args.map.now) c.find.ensures.memory
+    (request.told_all (ready at) (Refused Gap) _
+    (ap (λ o. put c.args.range.now.offset c.args.place c.args.range.now.len b o (files_in c.args.self.now s) s.account) (there at).named
+    ∙ request.put_gap c.args.range.now.offset c.args.place c.args.range.now.len b (files_in c.args.self.now s) s.account (file_of at) (omega (arith, (there at).long))))
 
 pub range-requires : goal.range-requires
-range-requires c = let now = found_now (goal.at.range-requires c).In_ok-found in buffer_exists now.ready.furnished c.args.self.now.buffer now.ready.lent
+range-requires c = let now = ready (goal.at.range-requires c).In_ok-found in buffer_exists now.furnished c.args.self.now.buffer now.lent
 
 pub returns-in_err-lent-clause-answers : goal.returns-in_err-lent-clause-answers
 returns-in_err-lent-clause-answers c =
@@ -72,17 +57,17 @@ returns-in_err-lent-clause-answers c =
     let b = bytes_lent c.find.new.memory (buffer_key c.args.self.now.buffer) in
     let e = model_error c.in_err-lent.field-0.0 in
     let tells : c.from_residual-in_err-lent.result ≡ Err c.in_err-lent.field-0.0 = search rules in
-    let bad : range_refusal c.args.place c.args.file.now.len b ≡ Some e = sym c.range.ensures.refusal ∙ ap (λ r. option_map model_error (result_err r)) c.in_err-lent.was in
-    subst (λ r. Answers (session_served (Some (OfBuffer (Put c.args.file.now.name.now c.args.file.now.offset c.args.place c.args.file.now.len))) c.args.self.now c.args.memory.now c.args.map.now) (counted_reply r) c.args.self.now c.args.self.now c.find.new.memory c.args.map.now) (sym tells)
-    (subst (λ m. Answers (session_served (Some (OfBuffer (Put c.args.file.now.name.now c.args.file.now.offset c.args.place c.args.file.now.len))) c.args.self.now m c.args.map.now) (Refused e) c.args.self.now c.args.self.now c.find.new.memory c.args.map.now) c.find.ensures.memory
-    (request.told_all (found_now at).ready (Refused e) _
-    (ap (λ o. put c.args.file.now.offset c.args.place c.args.file.now.len b o (files_in c.args.self.now s) s.account) (named_now at)
-    ∙ request.put_range c.args.file.now.offset c.args.place c.args.file.now.len b (files_in c.args.self.now s) s.account (file_of at) (omega (arith, long_now at)) e bad)))
+    let bad : range_refusal c.args.place c.args.range.now.len b ≡ Some e = sym c.range.ensures.refusal ∙ ap (λ r. option_map model_error (result_err r)) c.in_err-lent.was in
+    subst (λ r. Answers (session_served (Some (OfBuffer (Put c.args.range.now.file.now c.args.range.now.offset c.args.place c.args.range.now.len))) c.args.self.now c.args.memory.now c.args.map.now) (counted_reply r) c.args.self.now c.args.self.now c.find.new.memory c.args.map.now) (sym tells)
+    (subst (λ m. Answers (session_served (Some (OfBuffer (Put c.args.range.now.file.now c.args.range.now.offset c.args.place c.args.range.now.len))) c.args.self.now m c.args.map.now) (Refused e) c.args.self.now c.args.self.now c.find.new.memory c.args.map.now) c.find.ensures.memory
+    (request.told_all (ready at) (Refused e) _
+    (ap (λ o. put c.args.range.now.offset c.args.place c.args.range.now.len b o (files_in c.args.self.now s) s.account) (there at).named
+    ∙ request.put_range c.args.range.now.offset c.args.place c.args.range.now.len b (files_in c.args.self.now s) s.account (file_of at) (omega (arith, (there at).long)) e bad)))
 
 -- the range is in the buffer
 record IsInRange (c : In_ok-lent) : Type 0 where
   lent : c.args.self.now.buffer ≡ Some c.in_ok-lent.lent
-  good : range_refusal c.args.place c.args.file.now.len (bytes_lent c.find.new.memory (buffer_key c.args.self.now.buffer)) ≡ None
+  good : range_refusal c.args.place c.args.range.now.len (bytes_lent c.find.new.memory (buffer_key c.args.self.now.buffer)) ≡ None
 
 in_range : (c : In_ok-lent) → IsInRange c
 in_range c = record {
@@ -95,9 +80,9 @@ overwrite-requires-clause-source c =
     let at = goal.at.overwrite-requires-clause-source c in
     let is = in_range at.In_ok-lent in
     record {
-      stands = subst (λ b. HasBuffer b (holding_of c.args.self.now.nodes.heaps.contents c.find.new.memory c.args.map.now)) is.lent (found_now at.In_ok-found).ready.lent;
-      within = request.range_within c.args.place c.args.file.now.len (space_at c.find.new.memory c.in_ok-lent.lent.space.0).bytes
-          (ap (λ b. range_refusal c.args.place c.args.file.now.len (bytes_lent c.find.new.memory (buffer_key b))) (sym is.lent) ∙ is.good);
+      stands = subst (λ b. HasBuffer b (holding_of c.args.self.now.nodes.heaps.contents c.find.new.memory c.args.map.now)) is.lent (ready at.In_ok-found).lent;
+      within = request.range_within c.args.place c.args.range.now.len (space_at c.find.new.memory c.in_ok-lent.lent.space.0).bytes
+          (ap (λ b. range_refusal c.args.place c.args.range.now.len (bytes_lent c.find.new.memory (buffer_key b))) (sym is.lent) ∙ is.good);
     }
 
 pub returns-clause-answers : goal.returns-clause-answers
@@ -108,23 +93,23 @@ returns-clause-answers c =
     let s : Stock = stock_of c.args.self.now.nodes.heaps c.find.new.memory c.args.map.now in
     let b = bytes_lent c.find.new.memory (buffer_key c.args.self.now.buffer) in
     let node = value_of c.in_ok-found.found.node in
-    let bytes = slice_range (space_at c.find.new.memory c.in_ok-lent.lent.space.0).bytes c.args.place (c.args.place + c.args.file.now.len) in
-    let name = (found_now at).found.named in
-    let served : put c.args.file.now.offset c.args.place c.args.file.now.len b (file_named c.args.file.now.name.now (files_in c.args.self.now s)) (files_in c.args.self.now s) s.account
-    ≡ beside b (written c.args.file.now.offset bytes (file_named c.in_ok-found.found.node.name.items (files_in c.args.self.now s)) (files_in c.args.self.now s) s.account) =
-    ap (λ o. put c.args.file.now.offset c.args.place c.args.file.now.len b o (files_in c.args.self.now s) s.account) (named_now at)
-    ∙ request.put_done c.args.file.now.offset c.args.place c.args.file.now.len b (files_in c.args.self.now s) s.account (file_of at) (omega (arith, long_now at)) is.good
-    ∙ ap (λ l. beside b (written c.args.file.now.offset (part_of (bytes_lent c.find.new.memory (buffer_key l)) c.args.place c.args.file.now.len) (Some (file_of at)) (files_in c.args.self.now s) s.account)) is.lent
-    ∙ ap (λ o. beside b (written c.args.file.now.offset bytes o (files_in c.args.self.now s) s.account)) (sym (named_now at) ∙ ap (λ n. file_named n (files_in c.args.self.now s)) (sym name)) in
-    subst (λ m. Answers (session_served (Some (OfBuffer (Put c.args.file.now.name.now c.args.file.now.offset c.args.place c.args.file.now.len))) c.args.self.now m c.args.map.now) (counted_reply c.overwrite.result) c.args.self.now c.overwrite.new.self c.overwrite.new.memory c.overwrite.new.map) c.find.ensures.memory
+    let bytes = slice_range (space_at c.find.new.memory c.in_ok-lent.lent.space.0).bytes c.args.place (c.args.place + c.args.range.now.len) in
+    let name = (there at).found.named in
+    let served : put c.args.range.now.offset c.args.place c.args.range.now.len b (file_named c.args.range.now.file.now (files_in c.args.self.now s)) (files_in c.args.self.now s) s.account
+    ≡ beside b (written c.args.range.now.offset bytes (file_named c.in_ok-found.found.node.name.items (files_in c.args.self.now s)) (files_in c.args.self.now s) s.account) =
+    ap (λ o. put c.args.range.now.offset c.args.place c.args.range.now.len b o (files_in c.args.self.now s) s.account) (there at).named
+    ∙ request.put_done c.args.range.now.offset c.args.place c.args.range.now.len b (files_in c.args.self.now s) s.account (file_of at) (omega (arith, (there at).long)) is.good
+    ∙ ap (λ l. beside b (written c.args.range.now.offset (part_of (bytes_lent c.find.new.memory (buffer_key l)) c.args.place c.args.range.now.len) (Some (file_of at)) (files_in c.args.self.now s) s.account)) is.lent
+    ∙ ap (λ o. beside b (written c.args.range.now.offset bytes o (files_in c.args.self.now s) s.account)) (sym (there at).named ∙ ap (λ n. file_named n (files_in c.args.self.now s)) (sym name)) in
+    subst (λ m. Answers (session_served (Some (OfBuffer (Put c.args.range.now.file.now c.args.range.now.offset c.args.place c.args.range.now.len))) c.args.self.now m c.args.map.now) (counted_reply c.overwrite.result) c.args.self.now c.overwrite.new.self c.overwrite.new.memory c.overwrite.new.map) c.find.ensures.memory
     (subst (λ o. Answers o (counted_reply c.overwrite.result) c.args.self.now c.overwrite.new.self c.overwrite.new.memory c.overwrite.new.map) (sym served)
-    (record { reply_is = c.overwrite.ensures.serves.reply_is; leaves = request.files_leave (found_now at).ready _ c.overwrite.ensures.keeps c.overwrite.ensures.serves.leaves }))
+    (record { reply_is = c.overwrite.ensures.serves.reply_is; leaves = request.files_leave (ready at) _ c.overwrite.ensures.keeps c.overwrite.ensures.serves.leaves }))
 
 pub returns-in_err-found-clause-stays : goal.returns-in_err-found-clause-stays
 returns-in_err-found-clause-stays c = (keeps_same c.requires.ready.furnished refl refl c.find.ensures.memory refl).stays
 
-pub returns-then-file-found-clause-stays : goal.returns-then-file-found-clause-stays
-returns-then-file-found-clause-stays c = (keeps_same c.requires.ready.furnished refl refl c.find.ensures.memory refl).stays
+pub returns-then-range-found-clause-stays : goal.returns-then-range-found-clause-stays
+returns-then-range-found-clause-stays c = (keeps_same c.requires.ready.furnished refl refl c.find.ensures.memory refl).stays
 
 pub returns-in_err-lent-clause-stays : goal.returns-in_err-lent-clause-stays
 returns-in_err-lent-clause-stays c = (keeps_same c.requires.ready.furnished refl refl c.find.ensures.memory refl).stays
@@ -137,7 +122,7 @@ overwrite-requires-clause-files c = files_after c.args.self.now c.args.map.now c
 
 pub overwrite-requires-clause-found : goal.overwrite-requires-clause-found
 overwrite-requires-clause-found c =
-    found_after c.args.self.now c.args.map.now c.args.file.now.name.now c.in_ok-found.found refl (found_now (goal.at.overwrite-requires-clause-found c).In_ok-found).found
+    found_after c.args.self.now c.args.map.now c.args.range.now.file.now c.in_ok-found.found refl (there (goal.at.overwrite-requires-clause-found c).In_ok-found).found
 
 pub returns-clause-stays : goal.returns-clause-stays
 returns-clause-stays c = (keeps_after c.find.ensures.memory c.overwrite.ensures.keeps).stays

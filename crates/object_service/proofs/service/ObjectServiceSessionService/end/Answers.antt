@@ -1,13 +1,13 @@
 -- The buffer is freed, and then the nodes.
-use Rattle.object_service.proofs.ReadyLemmas.{is_ready}
+use Rattle.session_nodes.proofs.ReadyLemmas.{are_sound, is_lent}
 use Rattle.sliced_heap.proofs.EndLemmas.{keeps_then}
 use Rattle.object_service.proofs.service.ObjectServiceSessionService.end.Goals as goal
 
 pub give_any-requires-clause-furnished : goal.give_any-requires-clause-furnished
-give_any-requires-clause-furnished c = (is_ready c.requires.account c.requires.kept c.lies_apart.ensures.sound).furnished
+give_any-requires-clause-furnished c = are_sound _ _ _ c.requires.account c.requires.kept.heaps c.lies_apart.ensures.sound
 
 pub give_any-requires-clause-lent : goal.give_any-requires-clause-lent
-give_any-requires-clause-lent c = (is_ready c.requires.account c.requires.kept c.lies_apart.ensures.sound).lent
+give_any-requires-clause-lent c = is_lent _ _ _ c.requires.account c.requires.kept.heaps c.args.session.now.buffer c.requires.kept.buffer
 
 pub returns-clause-others : goal.returns-clause-others
 returns-clause-others c = keeps_then _ _ _ _ _ _ _ c.give_any.ensures.stays.others c.end.ensures.others

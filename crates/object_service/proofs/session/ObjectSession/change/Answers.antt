@@ -20,7 +20,8 @@ use Rattle.object_service.specs.Session.{objects_in, resized_in}
 use Rattle.object_service.specs.declared.session.ObjectSession.{ObjectSession}
 use Rattle.object_service.proofs.ChangeLemmas.{account_changed, listed_still, nodes_changed, numbers_changed, objects_changed, room_still}
 use Rattle.object_service.proofs.FoundLemmas.{found_own, listed_found}
-use Rattle.object_service.proofs.ServeLemmas.{resized_done, serves_done, sum_is}
+use Rattle.object_service.proofs.ServeLemmas.{resized_done, serves_done}
+use Rattle.session_nodes.proofs.ResultLemmas.{sum_is}
 use Rattle.object_service.proofs.TakenLemmas.{found_taken, nodes_taken, own_taken}
 use Rattle.object_service.proofs.session.ObjectSession.change.Goals.{In_ok-content}
 use Rattle.object_service.proofs.session.ObjectSession.change.Goals as goal

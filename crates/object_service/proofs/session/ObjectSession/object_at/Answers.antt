@@ -11,7 +11,7 @@ use Rattle.session_nodes.specs.SoundHeaps.{Stock}
 use Rattle.session_nodes.specs.declared.node_list.FoundNode.{FoundNode}
 use Rattle.session_nodes.specs.declared.node_list.NodeList.{NodeList}
 use Rattle.object_service.specs.Objects.{word_at, units_at}
-use Rattle.object_service.proofs.FoundLemmas.{listed_at}
+use Rattle.session_nodes.proofs.RecentLemmas.{get_listed}
 use Rattle.object_service.proofs.NameLemmas.{named_at}
 use Rattle.object_service.proofs.WordLemmas.{block_has, word_read, units_read}
 use Rattle.object_service.proofs.session.ObjectSession.object_at.Goals.{In_ok-found}
@@ -31,7 +31,7 @@ there c =
     let blocks = nodes_in list was in
     let found = c.in_ok-found.found in
     let at : Some found.address ≡ slice_get blocks c.args.place = ap (option_map (λ (f : FoundNode). f.address)) (sym c.in_ok-found.was) ∙ c.at_place.ensures.address in
-    let listed = listed_at blocks c.args.place found.address (sym at) in
+    let listed = get_listed blocks c.args.place found.address (sym at) in
     let heaps = ap (λ (l : NodeList). l.heaps) c.at_place.ensures.same in
     let stock_is : stock_of c.at_place.new.self.heaps c.at_place.new.memory c.args.map.now ≡ was = λ i. stock_of (heaps i) (c.at_place.ensures.memory i) c.args.map.now in
     record {

@@ -1,17 +1,14 @@
 -- The node of the object that is found is removed, and the object is counted no more.
-use Rattle.std.proofs.Common.{◌≡◌, ◌∙◌, ◌≤◌, ℕ, true, List, ◌∷◌, ◌++◌, map, Some, Err, sym, ap, subst, refl, rules, arith}
-use Rattle.std.specs.Prelude.{IfSome, ◌/◌}
+use Rattle.std.proofs.Common.{◌≡◌, ◌∙◌, ◌∷◌, ◌++◌, map, Err, sym, ap, subst, refl, rules, arith}
+use Rattle.std.specs.Prelude.{◌/◌}
 use Rattle.std.specs.Result.{result_ok}
-use Rattle.own_model.specs.ObjectKinds.{ObjectKind}
-use Rattle.own_model.specs.ObjectService.{object_named, told}
+use Rattle.own_model.specs.ObjectService.{told}
 use Rattle.own_model.specs.ObjectText.ObjectReply.{Done}
 use Rattle.core_calls.specs.declared.file_error.FileError.TheVariants.{NotFound}
 use Rattle.core_calls.specs.declared.object_error.ObjectError.TheVariants.{Shared}
-use Rattle.sliced_heap.specs.Chain.{is_listed}
-use Rattle.session_nodes.specs.Calls.{HasBytes}
 use Rattle.session_nodes.specs.Index.{previous_at}
 use Rattle.session_nodes.specs.Node.{value_of}
-use Rattle.session_nodes.specs.NodeList.{nodes_in, Finds, Removes}
+use Rattle.session_nodes.specs.NodeList.{Finds, Removes}
 use Rattle.session_nodes.specs.SessionHeaps.{stock_of}
 use Rattle.session_nodes.specs.SoundHeaps.{Stock}
 use Rattle.object_service.specs.declared.session.ObjectSession.{ObjectSession}
@@ -20,38 +17,16 @@ use Rattle.object_service.specs.Counts.{AreCounted}
 use Rattle.object_service.specs.Objects.{object_at, number_at, word_at}
 use Rattle.object_service.specs.Session.{objects_in, served_in, done_reply}
 use Rattle.object_service.proofs.ChangeLemmas.{account_removed, nodes_removed, numbers_removed, numbers_were, objects_removed}
-use Rattle.object_service.proofs.FoundLemmas.{found_named, found_own, listed_found, none_found}
+use Rattle.object_service.proofs.FoundLemmas.{found_own, none_found}
+use Rattle.object_service.proofs.ThereLemmas.{IsThere, is_there}
 use Rattle.object_service.proofs.ServeLemmas.{drop_done, drop_none, none_before, serves_done, serves_same}
-use Rattle.object_service.proofs.WordLemmas.{block_has, word_read}
+use Rattle.object_service.proofs.WordLemmas.{word_read}
 use Rattle.object_service.proofs.session.ObjectSession.remove.Goals.{In_ok-found, After-remove}
 use Rattle.object_service.proofs.session.ObjectSession.remove.Goals as goal
 
 -- the object that is found
-record IsThere (c : In_ok-found) : Type 0 where
-  found : Finds c.args.self.now.nodes (stock_of c.args.self.now.nodes.heaps c.args.memory.now c.args.map.now) c.args.name.now c.in_ok-found.found
-  named : (kinds : List ObjectKind) → let was = stock_of c.args.self.now.nodes.heaps c.args.memory.now c.args.map.now in
-      object_named c.args.name.now (objects_in kinds c.args.self.now was) ≡ Some (object_at kinds was.nodes c.in_ok-found.found.address)
-  listed : is_listed (nodes_in c.args.self.now.nodes (stock_of c.args.self.now.nodes.heaps c.args.memory.now c.args.map.now)) c.in_ok-found.found.address ≡ true
-  has : (n : ℕ) → n ≤ 112 → HasBytes (stock_of c.args.self.now.nodes.heaps c.find.new.memory c.args.map.now).nodes.payloads c.in_ok-found.found.address 0 n
-
-there : (c : In_ok-found) → IsThere c
-there c =
-    let list = c.args.self.now.nodes in
-    let was : Stock = stock_of list.heaps c.args.memory.now c.args.map.now in
-    let name = c.args.name.now in
-    let address = c.in_ok-found.found.address in
-    let previous = previous_at was.nodes address in
-    let node = value_of c.in_ok-found.found.node in
-    let some : c.find.result ≡ Some c.in_ok-found.found = c.ok_or.ensures.ok_part ∙ ap result_ok c.in_ok-found.was in
-    let found : Finds list was name c.in_ok-found.found = subst (λ o. IfSome o (Finds list was name)) some c.find.ensures.some in
-    let listed = listed_found list.first list.last was.nodes was.contents name previous address node found in
-    record {
-      found = found;
-      named = λ kinds. found_named kinds was.nodes name list.first list.last was.contents previous address node found;
-      listed = listed;
-      has = λ n low. subst (λ m. HasBytes (stock_of list.heaps m c.args.map.now).nodes.payloads address 0 n) (sym c.find.ensures.memory)
-          (block_has list was address n c.requires.objects.nodes listed (c.requires.objects.objects address listed).room low);
-    }
+there : (c : In_ok-found) → IsThere c.args.self.now c.args.memory.now c.find.new.memory c.args.map.now c.args.name.now c.in_ok-found.found
+there c = is_there c.args.self.now c.args.map.now c.args.name.now c.in_ok-found.found c.requires.objects c.find.ensures.some c.find.ensures.memory (c.ok_or.ensures.ok_part ∙ ap result_ok c.in_ok-found.was)
 
 pub returns-in_err-found-clause-serves : goal.returns-in_err-found-clause-serves
 returns-in_err-found-clause-serves c kinds =

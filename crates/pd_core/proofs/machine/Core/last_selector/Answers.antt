@@ -10,9 +10,8 @@ use Rattle.pd_core.proofs.machine.Core.last_selector.Goals as goal
 
 pub bounds-components-component : goal.bounds-components-component
 bounds-components-component g c =
-    let routed = g.R.Router.places c.self.inside.routes in
-    let memory = c.self.inside.memory in
-    place_within routed memory c.as_slice-components.result.now c.args.self.now c.args.component (ap (world_of routed memory) c.as_slice-components.ensures.value ∙ c.self.view_is) c.requires
+    let same = ap (world_of (g.R.Router.places c.self.inside.routes) c.self.inside.memory) c.as_slice-components.ensures.value ∙ c.self.view_is in
+    place_within (g.R.Router.places c.self.inside.routes) c.self.inside.memory c.as_slice-components.result.now c.args.self.now c.args.component same c.requires
 
 pub offset_bounds-components-component : goal.offset_bounds-components-component
 offset_bounds-components-component g c =

@@ -11,6 +11,5 @@ component_reserve-requires g c = core_at (g.R.Router.places c.self.inside.routes
 
 pub returns : goal.returns
 returns g c =
-    let places = g.R.Router.places c.self.inside.routes in
-    c.component_reserve.ensures places
-    ∙ ap (λ (w : World). (state_at w.states c.args.component).reserve) (ap (world_of places c.self.inside.memory) c.as_slice.ensures.value ∙ c.self.view_is)
+    c.component_reserve.ensures (g.R.Router.places c.self.inside.routes)
+    ∙ ap (λ (w : World). (state_at w.states c.args.component).reserve) (ap (world_of (g.R.Router.places c.self.inside.routes) c.self.inside.memory) c.as_slice.ensures.value ∙ c.self.view_is)

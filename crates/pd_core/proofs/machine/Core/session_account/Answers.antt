@@ -15,7 +15,6 @@ session_quotas-requires g c = core_at (g.R.Router.places c.self.inside.routes) c
 
 pub returns : goal.returns
 returns g c =
-    let places = g.R.Router.places c.self.inside.routes in
-    c.session_quotas.ensures places
+    c.session_quotas.ensures (g.R.Router.places c.self.inside.routes)
     ∙ ap (λ (w : World). option_map (λ (s : AnOpenSession). s.account) (session_named (get (state_at w.states c.args.component).selectors c.args.selector)))
-    (ap (world_of places c.self.inside.memory) c.as_slice.ensures.value ∙ c.self.view_is)
+    (ap (world_of (g.R.Router.places c.self.inside.routes) c.self.inside.memory) c.as_slice.ensures.value ∙ c.self.view_is)

@@ -16,7 +16,6 @@ session_kinds-requires g c = core_at (g.R.Router.places c.self.inside.routes) c.
 
 pub returns : goal.returns
 returns g c =
-    let places = g.R.Router.places c.self.inside.routes in
-    c.session_kinds.ensures places
+    c.session_kinds.ensures (g.R.Router.places c.self.inside.routes)
     ∙ ap (λ (w : World). option_and_then (λ (s : AnOpenSession). offered_kinds (offer_of s.state)) (session_named (get (state_at w.states c.args.component).selectors c.args.selector)))
-    (ap (world_of places c.self.inside.memory) c.as_slice.ensures.value ∙ c.self.view_is)
+    (ap (world_of (g.R.Router.places c.self.inside.routes) c.self.inside.memory) c.as_slice.ensures.value ∙ c.self.view_is)

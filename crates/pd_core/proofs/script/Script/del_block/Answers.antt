@@ -9,6 +9,4 @@ returns-in_err-free c =
     (del_refuses _ _ c.requires c.args.address _ c.in_err-free.ensures.refusal)
 
 pub returns : goal.returns
-returns c =
-    let is = c.in_ok-free.ensures in
-    del_finishes _ _ c.requires is.sound is.payer is.others c.args.address is.refusal is.small is.large
+returns c = del_finishes _ _ c.requires c.in_ok-free.ensures.sound c.in_ok-free.ensures.payer c.in_ok-free.ensures.others c.args.address c.in_ok-free.ensures.refusal c.in_ok-free.ensures.small c.in_ok-free.ensures.large

@@ -9,6 +9,4 @@ returns-in_err-address c =
     (new_refuses _ _ c.requires c.args.bytes _ c.in_err-address.ensures.refusal)
 
 pub returns : goal.returns
-returns c =
-    let is = c.in_ok-address.ensures in
-    new_finishes _ _ c.requires is.sound is.payer is.others c.args.bytes _ is.refusal is.large is.small is.grown
+returns c = new_finishes _ _ c.requires c.in_ok-address.ensures.sound c.in_ok-address.ensures.payer c.in_ok-address.ensures.others c.args.bytes _ c.in_ok-address.ensures.refusal c.in_ok-address.ensures.large c.in_ok-address.ensures.small c.in_ok-address.ensures.grown

@@ -9,5 +9,4 @@ returns-in_err-free c =
     (sdel_refused _ _ c.requires c.args.address _ c.in_err-free.ensures.refusal)
 
 pub returns : goal.returns
-returns c =
-    sdel_finishes _ _ c.requires c.in_ok-free.ensures.sound c.in_ok-free.ensures.payer c.in_ok-free.ensures.others c.args.address c.in_ok-free.ensures.given
+returns c = sdel_finishes _ _ c.requires c.in_ok-free.ensures.sound c.in_ok-free.ensures.payer c.in_ok-free.ensures.others c.args.address c.in_ok-free.ensures.given

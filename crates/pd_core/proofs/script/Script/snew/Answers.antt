@@ -9,5 +9,4 @@ returns-in_err-address c =
     (snew_refused _ _ c.requires c.args.bytes _ c.in_err-address.ensures.refusal)
 
 pub returns : goal.returns
-returns c =
-    snew_finishes _ _ c.requires c.in_ok-address.ensures.sound c.in_ok-address.ensures.payer c.in_ok-address.ensures.others c.args.bytes _ c.in_ok-address.ensures.taken c.in_ok-address.ensures.refusal
+returns c = snew_finishes _ _ c.requires c.in_ok-address.ensures.sound c.in_ok-address.ensures.payer c.in_ok-address.ensures.others c.args.bytes _ c.in_ok-address.ensures.taken c.in_ok-address.ensures.refusal

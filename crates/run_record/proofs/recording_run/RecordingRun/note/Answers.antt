@@ -14,8 +14,8 @@ pub returns-in-Call-clause-marks : goal.returns-in-Call-clause-marks
 returns-in-Call-clause-marks c = λ world answers.
     let now = c.args.self.now in
     let call = c.in-Call.call in
-    let answer = answer_of c.args.turn.now.answered in
-    subst (λ line. OnOk c.note_call.result (marks_view c.note_call.new.self.marks.marks.items ≡ all_marked (events_in now.all (recording_in now.stand now.awaits world) (resolved_view line)) (marks_view now.marks.marks.items))) (sym c.in-Call.is)
+    let answer = answer_of c.args.step.now.answered in
+    subst (λ line. OnOk c.note_call.result (marks_view c.note_call.new.self.marks.marks.items ≡ all_marked (events_in now.all (recording_in now.position now.awaits world) (resolved_view line)) (marks_view now.marks.marks.items))) (sym c.in-Call.is)
     (c.note_call.ensures.marks world
     (subst (AnswersLine None world call.line.now) (sym c.answer_in.ensures)
     (answers_line world call.line.now answer (subst (λ line. AnswersIn None world (calls_in (resolved_view line)) answer) c.in-Call.is answers))))

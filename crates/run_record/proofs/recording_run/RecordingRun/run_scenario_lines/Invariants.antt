@@ -14,14 +14,14 @@ use Rattle.run_record.proofs.recording_run.RecordingRun.run_scenario_lines.Given
 abbrev pub invariant-loop-rest : goal.invariant-loop-rest
 invariant-loop-rest g l = record {
   marked :
-      all_marked (events l.initial.self.all (recording_in l.initial.self.stand l.initial.self.awaits l.initial.core) (pieces_of l.scenario))
+      all_marked (events l.initial.self.all (recording_in l.initial.self.position l.initial.self.awaits l.initial.core) (pieces_of l.scenario))
       (marks_view l.initial.self.marks.marks.items)
-      ≡ all_marked (events l.self.all (recording_in l.self.stand l.self.awaits l.core) (pieces_in (option_copied l.rest)))
+      ≡ all_marked (events l.self.all (recording_in l.self.position l.self.awaits l.core) (pieces_in (option_copied l.rest)))
       (marks_view l.self.marks.marks.items);
   unread :
-      unread_view l.self.unread.items ++ unread_from (recording_in l.self.stand l.self.awaits l.core) (pieces_in (option_copied l.rest))
+      unread_view l.self.unread.items ++ unread_from (recording_in l.self.position l.self.awaits l.core) (pieces_in (option_copied l.rest))
       ≡ unread_view l.initial.self.unread.items
-      ++ unread_from (recording_in l.initial.self.stand l.initial.self.awaits l.initial.core) (pieces_of l.scenario);
+      ++ unread_from (recording_in l.initial.self.position l.initial.self.awaits l.initial.core) (pieces_of l.scenario);
   all : l.self.all ≡ l.initial.self.all;
   listed : l.core.entries ≡ entries_of (start_list_of l.list);
 }

@@ -11,23 +11,18 @@ use Rattle.session_nodes.proofs.session_heaps.SessionHeaps.put_block_bytes.Goals
 pub payload_at-at-requires-clause-there : goal.payload_at-at-requires-clause-there
 payload_at-at-requires-clause-there c = ap is_some (payload_there c.requires.furnished c.args.address c.requires.there c.args.offset (length c.args.bytes.now) c.requires.some (omega arith))
 
-pub returns-clause-stored : goal.returns-clause-stored
-returns-clause-stored c =
+pub returns : goal.returns
+returns c =
     let ds = c.payload_at-at.result.0.0 in
     let offset = c.payload_at-at.result.1 + c.args.offset in
     let bytes = c.args.bytes.now in
-    let found = finds_held c.requires.furnished c.args.address c.requires.there c.args.offset (length c.args.bytes.now) c.requires.some (omega arith) c.payload_at-at.result.0.0 c.payload_at-at.result.1 c.payload_at-at.ensures.held in
+    let found = finds_held c.requires.furnished c.args.address c.requires.there c.args.offset (length bytes) c.requires.some (omega arith) ds c.payload_at-at.result.1 c.payload_at-at.ensures.held in
     let becomes = becomes_paid (λ p. part_with_bytes p ds offset bytes) (node_paid c.requires.furnished c.args.address c.requires.there c.args.offset (length bytes) c.requires.some (omega arith) ds offset found.held) c.write.ensures.part in
-    stored_is c.requires.furnished c.args.address c.requires.there c.args.offset ds offset bytes c.requires.some (omega arith) found.held (below_bytes bytes (λ i. omega (arith, c.type_inv.bytes i))) becomes
-
-pub returns-clause-keeps : goal.returns-clause-keeps
-returns-clause-keeps c =
-    let ds = c.payload_at-at.result.0.0 in
-    let offset = c.payload_at-at.result.1 + c.args.offset in
-    let bytes = c.args.bytes.now in
-    let found = finds_held c.requires.furnished c.args.address c.requires.there c.args.offset (length c.args.bytes.now) c.requires.some (omega arith) c.payload_at-at.result.0.0 c.payload_at-at.result.1 c.payload_at-at.ensures.held in
-    let becomes = becomes_paid (λ p. part_with_bytes p ds offset bytes) (node_paid c.requires.furnished c.args.address c.requires.there c.args.offset (length bytes) c.requires.some (omega arith) ds offset found.held) c.write.ensures.part in
-    stored_keeps c.requires.furnished c.args.address c.requires.there c.args.offset ds offset bytes c.requires.some (omega arith) found.held (below_bytes bytes (λ i. omega (arith, c.type_inv.bytes i))) becomes
+    let are = below_bytes bytes (λ i. omega (arith, c.type_inv.bytes i)) in
+    record {
+      stored = stored_is c.requires.furnished c.args.address c.requires.there c.args.offset ds offset bytes c.requires.some (omega arith) found.held are becomes;
+      keeps = stored_keeps c.requires.furnished c.args.address c.requires.there c.args.offset ds offset bytes c.requires.some (omega arith) found.held are becomes;
+    }
 
 pub write-requires-clause-range : goal.write-requires-clause-range
 write-requires-clause-range c =

@@ -2,8 +2,8 @@
 use Rattle.std.proofs.Common.{ap, subst, append_assoc, ◌≡◌, ◌∷◌, ◌++◌, List, [], map}
 use Rattle.std.specs.List.{flat_map}
 use Rattle.std.specs.Prelude.{IfOk}
-use Rattle.view_json.specs.Documents.{list_text}
-use Rattle.view_accounts.specs.AccountDocuments.{Lists, Member, account_members, component_documents, session_documents, session_members, total_members}
+use Rattle.view_json.specs.Documents.{Lists, Member, list_text}
+use Rattle.view_accounts.specs.AccountDocuments.{account_members, component_documents, session_documents, session_members, total_members}
 use Rattle.view_accounts.specs.Rows.{accounts_view}
 use Rattle.view_accounts.proofs.account_rows.AccountRows.documents.Goals as goal
 

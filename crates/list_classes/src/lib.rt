@@ -1,0 +1,11 @@
+//! Classes of labels that no rule separates, and a set of classes in words. `list_reach` calls it, for example
+//! `LabelClasses::of(alloc, Some(requests), None)?`, and then `described(alloc, &classes, inside)?`.
+#![tactic(auto)]
+
+mod description;
+mod label_classes;
+mod text_tree;
+mod witness;
+
+pub use description::described;
+pub use label_classes::{LabelClass, LabelClasses};

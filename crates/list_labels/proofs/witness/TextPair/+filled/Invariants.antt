@@ -1,4 +1,0 @@
-use Rattle.list_labels.proofs.witness.TextPair.+filled.Given as goal
-
-abbrev pub decreases-filled : goal.decreases-filled
-decreases-filled l = l.between

@@ -1,0 +1,8 @@
+pub mod BreachTexts
+pub mod DifferenceTexts
+pub mod Documents
+pub mod LabelObjects
+pub mod Listings
+pub mod NeedTexts
+pub mod ReachTexts
+pub mod ReplyTexts

@@ -1,0 +1,17 @@
+//! The differences of two start lists, as lines that people read and as JSON documents for programs. `diff` calls it, as
+//! `difference_lines(alloc, &found)?`.
+#![tactic(auto)]
+
+mod breach_texts;
+mod documents;
+mod entry_documents;
+mod entry_texts;
+mod label_sets;
+mod lines;
+mod need_texts;
+mod reach_texts;
+mod reply_texts;
+
+pub use documents::difference_documents;
+pub use label_sets::label_documents;
+pub use lines::difference_lines;
