@@ -129,12 +129,16 @@ def test_answers(client, status, text, path, body):
     client.expect(status, text, path, body)
 
 
-@pytest.mark.parametrize("program, limit, text", [
-    ("sleep 600", ("--seconds", "1"), "longer than 1 seconds"), ("yes", (), "wrote more than 67108864 bytes")], ids=["long", "much"])
-def test_ended_run(desk, tmp_path, monkeypatch, program, limit, text):
-    """A run that takes longer than its limit or that writes too much is ended."""
-    monkeypatch.setenv("PROGRAMS", str(script(tmp_path / "programs/nethrywel", f'[ "$1" = --version ] || exec {program}').parent))
-    Client(desk(*limit, "friendly/notes.scenario"), None).expect(409, text, "/run", SMALL)
+@pytest.mark.slow
+def test_long_run(desk):
+    """A long run is ended by its limit."""
+    Client(desk("--seconds", "1"), None).expect(409, "longer than 1 seconds", "/run", LONG)
+
+
+def test_much_output(desk, tmp_path, monkeypatch):
+    """A run that writes too much is ended."""
+    monkeypatch.setenv("PROGRAMS", str(script(tmp_path / "programs/nethrywel", '[ "$1" = --version ] || exec yes').parent))
+    Client(desk("friendly/notes.scenario"), None).expect(409, "wrote more than 67108864 bytes", "/run", SMALL)
 
 
 @pytest.mark.slow

@@ -7,5 +7,6 @@ pub mod WrittenList
 pub mod MemberValues
 pub mod ValueWriters
 pub mod Unmeasured
+pub mod Documents
 pub mod WrittenDonation
 pub mod WrittenScenario

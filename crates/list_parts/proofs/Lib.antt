@@ -1,3 +1,2 @@
 pub mod LeftLemmas
 pub mod NestLemmas
-pub mod TextLemmas

@@ -1,5 +1,3 @@
 pub mod Left
-pub mod PartTexts
-pub mod QuotedTexts
 pub mod Steps
 pub mod Texts

@@ -4,7 +4,7 @@ use Rattle.std.proofs.lemmas.List.{drop_all, drop_more}
 use Rattle.std.specs.List.{flat_map, slice_get}
 use Rattle.own_model.specs.Listed.{Listed, ListedEntry, init_entry}
 use Rattle.list_labels.specs.RouteSteps.{RouteStepAt}
-use Rattle.list_reach.specs.RouteTexts.{asked_steps, end_line, last_rule, lines_text, route_text, step_line}
+use Rattle.list_reach.specs.RouteTexts.{AskedStep, asked_steps, end_line, last_rule, lines_text, route_text, step_line}
 use Rattle.list_reach.specs.RuleTexts.{entry_rule_text}
 use Rattle.list_reach.specs.declared.route_path.RoutePath.{RoutePath}
 
@@ -56,5 +56,5 @@ module _ (list : Listed) (child : Option ℕ) (asks : Option ListedEntry) (rule 
   pub end_of_steps : length steps ≤ place → so_far ++ end_line list child rule ≡ whole
   end_of_steps end =
       ap (λ left. so_far ++ lines_text list child rule left) (sym (nobody_asked asks))
-      ∙ ap (λ left. so_far ++ lines_text list child rule (asked_steps list asks left)) (sym (drop_all place steps end))
+      ∙ ap (λ left. so_far ++ lines_text list child rule (asked_steps list asks left)) (sym (drop_all steps place end))
       ∙ before

@@ -1,8 +1,6 @@
 -- A table of reach as text, one cell after another.
-use Rattle.std.proofs.Common.{arith, ◌≡◌, ℕ, ◌<◌, ◌≤◌, ◌+◌, ◌-◌, ◌==◌, Bool, true, false, List, [], ◌∷◌, ◌++◌, codes, length, drop, fold, get_or, map, take, append-nil, append_assoc, refl, sym, subst, ap, ◌∙◌}
-use native.Mathlib.Numerals.{unary_clauses}
-use Rattle.std.proofs.lemmas.Bool.Decides.{nat_tests}
-use Rattle.std.proofs.lemmas.List.{at_drop_all, drop_more}
+use Rattle.std.proofs.Common.{◌≡◌, ℕ, ◌<◌, ◌+◌, ◌-◌, ◌==◌, Bool, true, false, List, [], ◌∷◌, ◌++◌, codes, length, drop, fold, get_or, map, take, append-nil, append_assoc, refl, sym, subst, ap, ◌∙◌}
+use Rattle.std.proofs.lemmas.List.{drop_more}
 use Rattle.std.proofs.lemmas.List.Sums.{fold_more}
 use Rattle.std.specs.Prelude.{filter, if◌then◌else◌, Option, Some, None}
 use Rattle.std.specs.Fmt.{HasWritten, HasWrittenStyled, IsDefaultSpec, IsPlainFormatter}
@@ -10,7 +8,7 @@ use Rattle.std.specs.List.{flat_map, slice_get}
 use Rattle.std.specs.declared.fmt.Formatter.{Formatter}
 use Rattle.list_reach.specs.Csv.{path_of}
 use Rattle.list_reach.specs.NamedSets.{SetAt}
-use Rattle.list_reach.specs.TableTexts.{Column, TableAt, TableLine, cell_before, cell_column, cells_text, gap_of, gap_text, head_text, is_by, columns_text, lines_of, margin, next_gap, script_column, script_line, server_column, server_text, set_line, sets_text, shown_in, spaces, start_text, text_before}
+use Rattle.list_reach.specs.TableTexts.{Column, TableAt, TableLine, cell_before, cell_column, cells_text, gap_of, gap_text, head_text, is_by, line_text, lines_of, margin, next_gap, script_column, script_line, server_column, server_text, set_line, sets_text, shown_in, spaces, start_text, text_before}
 use Rattle.list_reach.specs.declared.reach_cell.ReachCell.{ReachCell}
 
 -- what is written with a plain formatter's own options
@@ -26,20 +24,17 @@ abbrev pub after : ℕ → List Column → List ℕ
 after gap [] = []
 after gap (column ∷ columns) = spaces gap ++ (column.text ++ after (gap_of column) columns)
 
-pub line_is : (column : Column) (columns : List Column) → columns_text (column ∷ columns) ≡ column.text ++ after (gap_of column) columns
+pub line_is : (column : Column) (columns : List Column) → line_text (column ∷ columns) ≡ column.text ++ after (gap_of column) columns
 line_is column [] = sym (append-nil column.text)
 line_is column (next ∷ columns) = ap (λ t. column.text ++ (gap_text column ++ t)) (line_is next columns)
 
 -- ---- servers
 
-nothing_less : (n : ℕ) → n - 0 ≡ n
-nothing_less n = simp unary_clauses
-
 -- no server is shown
 pub head_none : (table : TableAt) (client gap : ℕ) → gap ≡ margin table
     → after gap (map (server_column table) (filter (is_by client) table.cells)) ≡ head_text table client
 head_none table client gap is =
-    ap (λ g. after g (map (server_column table) (filter (is_by client) table.cells))) (is ∙ sym (nothing_less (margin table)))
+    ap (λ g. after g (map (server_column table) (filter (is_by client) table.cells))) is
     ∙ sym (line_is (record { width = margin table; text = [] }) (map (server_column table) (filter (is_by client) table.cells)))
 
 -- the cells of a script that are left, by the first of them
@@ -169,20 +164,12 @@ cell_more table cells i cell before shown whole within here so_far =
 
 -- there are sets
 pub some_sets : (sets : List SetAt) → (length sets == 0) ≡ false → sets_text sets ≡ flat_map set_line sets ++ codes "\n"
-some_sets [] some = grind (arith, nat_tests)
+some_sets [] some = cc
 some_sets (set ∷ sets) some = refl
 
 pub no_sets : (sets : List SetAt) → (length sets == 0) ≡ true → sets_text sets ≡ []
 no_sets [] none = refl
-no_sets (set ∷ sets) none = grind (arith, nat_tests)
-
--- no set is left
-pub sets_end : (sets : List SetAt) (i : ℕ) (shown : List ℕ) → length sets ≤ i → (length sets == 0) ≡ false
-    → shown ++ flat_map set_line (drop i sets) ≡ flat_map set_line sets → shown ++ codes "\n" ≡ sets_text sets
-sets_end sets i shown past some so_far =
-    ap (λ t. t ++ codes "\n")
-    (sym (append-nil shown) ∙ sym (at_drop_all (λ (left : List SetAt). shown ++ flat_map set_line left) sets i past) ∙ so_far)
-    ∙ sym (some_sets sets some)
+no_sets (set ∷ sets) none = cc
 
 -- one set more is shown
 pub set_more : (sets : List SetAt) (i : ℕ) (set : SetAt) (shown whole : List ℕ) → i < length sets → set ≡ get_or sets i set

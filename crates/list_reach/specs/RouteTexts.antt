@@ -30,15 +30,11 @@ target_text (Some AnyChild) = codes ": any-child\n"
 target_text (Some Parent) = codes ": parent\n"
 target_text None = codes "\n"
 
--- the label as a list sees it
-abbrev pub seen_text : List ℕ → List ℕ
-seen_text seen = codes ", where the label is \"" ++ (encode_utf8_all seen ++ codes "\"")
-
 -- a step's rule, the label as its list sees it, and the rule's target
 abbrev pub step_line : Listed → AskedStep → List ℕ
 step_line list step =
     entry_rule_text step.0 step.1.rule
-    ++ (seen_text step.1.seen ++ target_text (target_at (rules_for list step.0) step.1.rule))
+    ++ (codes ", where the label is \"" ++ (encode_utf8_all step.1.seen ++ (codes "\"" ++ target_text (target_at (rules_for list step.0) step.1.rule))))
 
 -- the rule of the last step, or of the one before
 abbrev pub last_rule : List ℕ → List AskedStep → List ℕ

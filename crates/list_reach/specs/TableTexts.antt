@@ -28,10 +28,10 @@ abbrev pub gap_text : Column → List ℕ
 gap_text column = spaces (gap_of column)
 
 -- the texts of a line, with spaces between two of them
-abbrev pub columns_text : List Column → List ℕ
-columns_text [] = []
-columns_text (column ∷ []) = column.text
-columns_text (column ∷ next ∷ columns) = column.text ++ (gap_text column ++ columns_text (next ∷ columns))
+abbrev pub line_text : List Column → List ℕ
+line_text [] = []
+line_text (column ∷ []) = column.text
+line_text (column ∷ next ∷ columns) = column.text ++ (gap_text column ++ line_text (next ∷ columns))
 
 -- ---- what a table has
 
@@ -83,7 +83,7 @@ is_by client cell = cell.client == client
 -- the servers of a script's cells
 abbrev pub head_text : TableAt → ℕ → List ℕ
 head_text table client =
-    columns_text (record { width = margin table; text = [] } ∷ map (server_column table) (filter (is_by client) table.cells))
+    line_text (record { width = margin table; text = [] } ∷ map (server_column table) (filter (is_by client) table.cells))
 
 -- a script, and its cells
 pub record TableLine : Type 0 where
@@ -105,7 +105,7 @@ lines_of (cell ∷ cells) = cell_before cell (lines_of cells)
 -- a line, after the end of the line before
 abbrev pub script_line : TableAt → TableLine → List ℕ
 script_line table line =
-    codes "\n" ++ columns_text (script_column table line.client ∷ map (cell_column table) line.cells)
+    codes "\n" ++ line_text (script_column table line.client ∷ map (cell_column table) line.cells)
 
 -- a set by its name
 abbrev pub set_line : SetAt → List ℕ
@@ -123,8 +123,8 @@ cells_text table [] = codes "no script, or no server\n"
 cells_text table (first ∷ cells) =
     head_text table first.client ++ (flat_map (script_line table) (lines_of (first ∷ cells)) ++ (codes "\n" ++ sets_text table.sets))
 
-abbrev pub aligned_table : TableAt → List ℕ
-aligned_table table = cells_text table table.cells
+abbrev pub table_text : TableAt → List ℕ
+table_text table = cells_text table table.cells
 
 -- ---- one cell after another
 

@@ -11,7 +11,7 @@ ghost use Rattle.list_reach.specs.NamedSets.{is_set, set_of, with_set};
 ghost use Rattle.list_reach.specs.Paths.{is_chosen};
 ghost use Rattle.list_reach.specs.Rows.{AddsRows, provider_rows, row_of, rows, script_rows, service_rows};
 ghost use Rattle.list_reach.specs.Table.{IsTrue};
-ghost use Rattle.list_reach.specs.TableTexts.{cell_column, gap_of, head_text, lines_of, margin, next_gap, script_line, server_column, server_text, sets_of, sets_text, shown_in, spaces, start_text, table_at, aligned_table, text_before, width};
+ghost use Rattle.list_reach.specs.TableTexts.{cell_column, gap_of, head_text, lines_of, margin, next_gap, script_line, server_column, server_text, sets_of, sets_text, shown_in, spaces, start_text, table_at, table_text, text_before, width};
 ghost use Rattle.list_reach.specs.ClientReach.{AreRoutes};
 
 use crate::client_reach::{ClientReach, Reach};
@@ -310,7 +310,7 @@ fn is_set(set: &NamedLabelSet, shown: &str) -> bool
 
 /// Writes a row for each script and a column for each server, and below them the sets that are too long for a row.
 impl fmt::Display for ReachTable<'_> {
-    ghost output = { λ table. Some (aligned_table (table_at table)) };
+    ghost output = { λ table. Some (table_text (table_at table)) };
 
     fn fmt<W: fmt::Write>(&self, f: &mut fmt::Formatter<W>) -> fmt::Result {
         match self.cells.as_slice().first() {

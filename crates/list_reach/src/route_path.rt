@@ -1,12 +1,12 @@
 //! The route path of one session request: which rules decide it, list by list outward, and the server to which they route it.
-ghost use Rattle.std.specs.Prelude.{◌≡◌, ◌<◌, ◌≤◌, ◌++◌, length, IfErr, IfOk, IfSome, Some};
+ghost use Rattle.std.specs.Prelude.{◌≡◌, ◌<◌, ◌≤◌, length, IfErr, IfOk, IfSome, Some};
 ghost use Rattle.std.specs.Fmt.{WritesOnOk};
 ghost use Rattle.std.specs.Option.{option_copied, option_map};
 ghost use Rattle.list_labels.specs.RouteSteps.{route_steps_of};
 ghost use Rattle.list_labels.specs.GivenLabels.{leads_to};
 ghost use Rattle.list_parser.specs.View.{model_target};
 ghost use Rattle.list_reach.specs.RouteQuery.{Answers, IsWhy, script_named};
-ghost use Rattle.list_reach.specs.RouteTexts.{end_line, route_text, rule_if, seen_text, step_line, target_at, target_text};
+ghost use Rattle.list_reach.specs.RouteTexts.{end_line, route_text, rule_if, step_line, target_at, target_text};
 
 use crate::component_numbers::{ComponentKind, is_sought};
 use crate::texts::{EntryRuleText, PathText};
@@ -15,7 +15,7 @@ use list_parser::{ListEntry, Rule, StartList, Target};
 use list_routes::route;
 use session_proto::SessionArgs;
 use std::alloc::{AllocError, Global};
-use std::fmt::{self, Display};
+use std::fmt;
 
 /// The route path of a session request: its steps from the client's own list outward, and the component to which it is routed.
 #[derive(Drop)]
@@ -178,28 +178,10 @@ fn show_hop<W: fmt::Write>(
 ) -> fmt::Result
     ensures { WritesOnOk W.write_str_gives f.old result (step_line list.now (entry.now, hop.now)) f.new }
 {
-    EntryRuleText::of(entry, hop.rule()).fmt(f)?;
-    show_decision(f, list.rules_of(entry), hop)
-}
-
-// The label as a list sees it, and the target of the rule that decides.
-fn show_decision<W: fmt::Write>(
-    f: &mut fmt::Formatter<W>,
-    rules: &[Rule],
-    hop: &RouteStep,
-) -> fmt::Result
-    ensures { WritesOnOk W.write_str_gives f.old result
-        (seen_text hop.now.seen ++ target_text (target_at rules.now hop.now.rule)) f.new }
-{
-    show_seen(f, hop.seen())?;
-    show_target(f, target_at(rules, hop.rule()))
-}
-
-// The label as a list sees it.
-fn show_seen<W: fmt::Write>(f: &mut fmt::Formatter<W>, seen: &[u8]) -> fmt::Result
-    ensures { WritesOnOk W.write_str_gives f.old result (seen_text seen.now) f.new }
-{
-    write!(f, ", where the label is \"{}\"", ByteText::of(seen))
+    let rule = EntryRuleText::of(entry, hop.rule());
+    let seen = ByteText::of(hop.seen());
+    write!(f, "{rule}, where the label is \"{seen}\"")?;
+    show_target(f, target_at(list.rules_of(entry), hop.rule()))
 }
 
 // The target of the rule at a place, if there is one.

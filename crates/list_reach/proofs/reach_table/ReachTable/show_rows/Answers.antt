@@ -1,5 +1,5 @@
 -- One cell more.
-use Rattle.std.proofs.Common.{rules, [], ◌++◌}
+use Rattle.std.proofs.Common.{rules, [], ◌++◌, Some, None}
 use Rattle.std.proofs.Output.{has_written_append}
 use Rattle.std.specs.Option.{option_copied}
 use Rattle.list_reach.specs.TableTexts.{shown_in, table_at, text_before}

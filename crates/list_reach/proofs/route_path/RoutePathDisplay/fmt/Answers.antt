@@ -4,7 +4,7 @@ use Rattle.std.proofs.Output.{has_written_append, has_written_of_eq}
 use Rattle.std.specs.List.{slice_get}
 use Rattle.std.specs.Option.{option_copied}
 use Rattle.own_model.specs.Listed.{ListedEntry, init_entry}
-use Rattle.list_reach.specs.RouteTexts.{route_text, rule_if, step_line}
+use Rattle.list_reach.specs.RouteTexts.{end_line, route_text, rule_if, step_line}
 use Rattle.list_reach.specs.RuleTexts.{entry_rule_text}
 use Rattle.list_reach.proofs.RouteTextLemmas.{all_lines, end_of_asked, end_of_steps, line_more}
 use Rattle.list_reach.proofs.SummaryLemmas.{looked_up}
@@ -37,13 +37,13 @@ returns-clause-writes g c = λ plain ok.
     has_written_of_eq _ _ _ _ _
     (end_of_steps course.list.now course.child (option_copied c.loop-place.asks) (rule_if c.loop-place.last) c.as_slice-hops.result.now c.loop-place.place so_far.0
     (route_text course) so_far.2 c.loop-place-test.false)
-    (has_written_append _ _ _ _ _ _ so_far.1 (c.show_end-2.ensures so_far.1.plain ok))
+    (has_written_append _ _ _ _ _ _ so_far.1 (c.show_end.ensures so_far.1.plain ok))
 
 pub loop-place-preserved : goal.loop-place-preserved
 loop-place-preserved g c = λ plain.
     let course = c.args.self.now in
     let so_far = c.loop-place.invariant plain in
-    let step = c.index-hops-place.result in
+    let step = c.index-hop.result in
     let entry : ListedEntry = c.in-Some.entry.now in
     let asked : option_copied c.loop-place.asks ≡ Some entry = search rules in
     let next : option_copied c.init_entry-asks.result ≡ init_entry course.list.now entry.home = search rules in
@@ -52,5 +52,5 @@ loop-place-preserved g c = λ plain.
       has_written_append _ _ _ _ _ _ so_far.1 (search rules),
       line_more course.list.now course.child (option_copied c.loop-place.asks) (rule_if c.loop-place.last) c.as_slice-hops.result.now c.loop-place.place so_far.0
           (route_text course) so_far.2 entry (option_copied c.init_entry-asks.result) step (rule_if (Some c.of.result)) asked
-          c.loop-place-test.true c.index-hops-place.is next rule,
+          c.loop-place-test.true c.index-hop.is next rule,
     )

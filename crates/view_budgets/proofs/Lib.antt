@@ -1,2 +1,0 @@
-mod DocumentLemmas
-mod CellLemmas

@@ -1,4 +1,0 @@
-pub mod Columns
-pub mod Csv
-pub mod Documents
-pub mod Text
