@@ -5,5 +5,4 @@ pub mod LineLemmas
 pub mod ValueLemmas
 pub mod DonationLemmas
 pub mod ScenarioLemmas
-pub mod DocumentLemmas
 pub mod SizeLemmas

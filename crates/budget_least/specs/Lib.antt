@@ -7,6 +7,5 @@ pub mod WrittenList
 pub mod MemberValues
 pub mod ValueWriters
 pub mod Unmeasured
-pub mod Documents
 pub mod WrittenDonation
 pub mod WrittenScenario

@@ -2,14 +2,18 @@
 use Rattle.std.specs.Prelude.{◌≡◌, List, Option, Some, None}
 use Rattle.std.specs.Option.{option_map}
 use Rattle.own_model.specs.Amounts.{Amounts}
+use Rattle.own_model.specs.Listed.{Listed}
 use Rattle.budget_least.specs.InitNeeds.{capped, needed_below}
 use Rattle.budget_least.specs.MachineSizes.{HasSmallest}
 use Rattle.budget_search.specs.declared.account_budgets.AccountBudgets.{AccountBudgets}
 use Rattle.budget_least.specs.declared.machine_size.MachineSize.{MachineSize}
 use Rattle.budget_least.specs.declared.report.BudgetReport.{BudgetReport}
-use Rattle.budget_least.specs.declared.report_text.BudgetCsv.{BudgetCsv}
 use Rattle.budget_least.specs.declared.unmeasured_line.UnmeasuredLine.{UnmeasuredLine}
 use Rattle.budget_least.specs.declared.unmeasured_line.UnmeasuredMessage.{UnmeasuredMessage}
+
+-- the start list
+abbrev pub list_of : BudgetReport → Listed
+list_of report = report.list.now
 
 -- the accounts, the sessions of each component before its own
 abbrev pub accounts_of : BudgetReport → List AccountBudgets
@@ -28,9 +32,6 @@ HasSmallestMachine (Some sum) machine = HasSmallest sum machine
 abbrev pub unmeasured_of : BudgetReport → List UnmeasuredLine
 unmeasured_of report = report.scene.unmeasured.items
 
--- the report whose values are written, and the line that a message is about
-abbrev pub report_of : BudgetCsv → BudgetReport
-report_of values = values.report
-
+-- the line that a message is about
 abbrev pub line_of : UnmeasuredMessage → UnmeasuredLine
 line_of message = message.line.now

@@ -1,17 +1,15 @@
 //! The budgets that the accounts of a scenario need: every budget under which none of an account's calls is short of quota.
 //!
-//! `cli_budgets` and `cli_lists` call it. For example `BudgetReport::of(alloc, question, start)?.accounts()` has the intervals of
+//! `view_budgets`, `cli_budgets` and `cli_lists` call it. For example `BudgetReport::of(alloc, question, start)?.accounts()` has the intervals of
 //! sufficient budgets of each account.
 #![tactic(auto)]
 
 mod binding_run;
-mod documents;
 mod line_donations;
 mod lines_by_component;
 mod machine_size;
 mod member_values;
 mod report;
-mod report_text;
 mod unmeasured_line;
 mod written_donation;
 mod written_list;
@@ -24,5 +22,4 @@ pub use budget_search::{
 };
 pub use machine_size::MachineSize;
 pub use report::{BudgetQuery, BudgetReport};
-pub use report_text::BudgetCsv;
-pub use unmeasured_line::{UnmeasuredLine, UnmeasuredMessage, UnmeasuredReason};
+pub use unmeasured_line::{UnmeasuredLine, UnmeasuredMessage, UnmeasuredReason, UnmeasuredWords};

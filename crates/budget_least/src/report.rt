@@ -4,7 +4,7 @@ ghost use Rattle.std.specs.List.{list_all};
 ghost use Rattle.std.specs.Option.{option_map};
 ghost use Rattle.own_model.specs.Amounts.{more_of};
 ghost use Rattle.budget_meter.specs.Needs.{amounts_of};
-ghost use Rattle.budget_least.specs.Report.{accounts_of, report_of, sum_of, unmeasured_of, HasSmallestMachine};
+ghost use Rattle.budget_least.specs.Report.{accounts_of, list_of, sum_of, unmeasured_of, HasSmallestMachine};
 ghost use Rattle.budget_least.specs.InitNeeds.{capped, is_entry_of, need_of, needed_below, sum_with, AreChanged, AreNeeded, AreNeededFrom};
 ghost use Rattle.budget_least.specs.WrittenList.{has_budget, IsResized, IsWritten};
 ghost use Rattle.budget_least.specs.WrittenScenario.{scenario_of};
@@ -13,7 +13,6 @@ use crate::binding_run::BindingBudgets;
 use crate::line_donations::LineDonations;
 use crate::lines_by_component::{LinesByComponent, has_names};
 use crate::machine_size::MachineSize;
-use crate::report_text::BudgetCsv;
 use crate::unmeasured_line::UnmeasuredLine;
 use crate::written_list::{ListSizes, has_budget, has_size, size_of};
 use crate::written_scenario::scenario_with;
@@ -287,11 +286,11 @@ impl<'a> BudgetReport<'a> {
         self.accounts.as_slice()
     }
 
-    /// The report as comma-separated values.
-    pub fn into_csv(self) -> BudgetCsv<'a>
-        ensures { report_of result ≡ self.entry }
+    /// Returns the start list.
+    pub fn list(&self) -> &'a StartList
+        ensures { result.now ≡ list_of self.now }
     {
-        BudgetCsv { report: self }
+        self.list
     }
 
     /// Returns the text of a start list from which the report's was read, with its budgets in place. Every other byte stays. The

@@ -38,7 +38,7 @@ impl UnmeasuredLine {
     ghost use Rattle.budget_least.specs.Unmeasured.{fault_column, is_named_with};
 
     /// Returns whether the line is named with an account: a component's own, once.
-    pub(crate) fn is_told_of(&self, account: &AccountBudgets) -> bool
+    pub fn is_named_with(&self, account: &AccountBudgets) -> bool
         ensures { result ≡ is_named_with account.now self.now }
     {
         match self.component {
@@ -66,8 +66,8 @@ impl UnmeasuredLine {
         UnmeasuredMessage { line: self }
     }
 
-    /// Returns the reason in the words of the account's block.
-    pub(crate) fn reason(&self) -> UnmeasuredWords<'_>
+    /// Returns the reason in words, for the text of an account.
+    pub fn reason(&self) -> UnmeasuredWords<'_>
         ensures { result.line.now ≡ self.now }
     {
         UnmeasuredWords { line: self }
@@ -93,9 +93,9 @@ impl fmt::Display for UnmeasuredMessage<'_> {
     }
 }
 
-/// The reason why a line isn't measured, in the block of an account.
+/// The reason why a line isn't measured, in the text of an account.
 #[derive(Clone, Copy)]
-pub(crate) struct UnmeasuredWords<'a> {
+pub struct UnmeasuredWords<'a> {
     line: &'a UnmeasuredLine,
 }
 

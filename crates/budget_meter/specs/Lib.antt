@@ -1,5 +1,6 @@
 pub mod Sizes
 pub mod Needs
+pub mod ByteTexts
 pub mod NeededAmounts
 pub mod Metered
 pub mod Run

@@ -1,4 +1,6 @@
 //! Budgets, and how their bytes are printed.
+ghost use Rattle.std.specs.Prelude.{Some};
+ghost use Rattle.budget_meter.specs.ByteTexts.{bytes_text};
 
 use std::fmt;
 
@@ -16,12 +18,15 @@ pub struct Budget {
 pub struct Bytes(pub u64);
 
 impl fmt::Display for Bytes {
+    ghost output = { λ bytes. Some (bytes_text bytes.0) };
+
     fn fmt<W: fmt::Write>(&self, f: &mut fmt::Formatter<W>) -> fmt::Result {
         let bytes = self.0;
-        if bytes == 0 || bytes % 1024 != 0 {
-            return write!(f, "{bytes}");
+        if bytes > 0 && bytes % 1024 == 0 {
+            let whole = bytes / 1024;
+            write!(f, "{whole}K")
+        } else {
+            write!(f, "{bytes}")
         }
-        let whole = bytes / 1024;
-        write!(f, "{whole}K")
     }
 }

@@ -11,6 +11,7 @@ use cli_options::LeastOptions;
 use init_core::BootFault;
 use std::io;
 use std::io::Write;
+use view_budgets::{BudgetCsv, BudgetText, budget_documents};
 use view_diagnostics::DiagnosticForm;
 
 // The form in which a report is printed.
@@ -145,12 +146,15 @@ fn tell(
     report: BudgetReport<'_>,
 ) -> u8 {
     match telling {
-        BudgetFormat::Text => status_of(rt, print!(rt; "{report}")),
+        BudgetFormat::Text => {
+            let text = BudgetText::of(&report);
+            status_of(rt, print!(rt; "{text}"))
+        }
         BudgetFormat::Values => {
-            let values = report.into_csv();
+            let values = BudgetCsv::of(&report);
             status_of(rt, print!(rt; "{values}"))
         }
-        BudgetFormat::Documents => print_documents(rt, report.documents(rt.alloc())),
+        BudgetFormat::Documents => print_documents(rt, budget_documents(rt.alloc(), &report)),
         BudgetFormat::List => match report.start_list(rt.alloc(), machine) {
             Ok(text) => status_of(rt, io::writer(rt).write_all(text.as_slice())),
             Err(fault) => tell_fault(rt, "the list with these budgets", &fault),

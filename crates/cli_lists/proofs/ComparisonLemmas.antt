@@ -34,7 +34,7 @@ use Rattle.list_policy.specs.declared.policy_text.Policy.{Policy}
 use Rattle.list_reach.specs.Paths.{is_chosen}
 use Rattle.list_reach.specs.Rows.{row_of, rows}
 use Rattle.list_reach.specs.Table.{IsTrue}
-use Rattle.list_reach.specs.declared.reach_table.ReachCell.{ReachCell}
+use Rattle.list_reach.specs.declared.reach_cell.ReachCell.{ReachCell}
 use Rattle.own_model.specs.Listed.{Listed}
 
 -- ---- statuses without a result

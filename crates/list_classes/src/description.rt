@@ -1,4 +1,14 @@
 //! A set of classes in words: the fewest shapes that are found, the wider ones first.
+ghost use Rattle.std.specs.Prelude.{◌≡◌, ℕ, ◌<◌, ◌≤◌, ◌&&◌, ◌||◌, ◌++◌, ◌∷◌, [], List, true, false, length, nat_eq, replicate, All, IfOk, OnOk};
+ghost use Rattle.std.specs.List.{list_all, list_any};
+ghost use Rattle.list_labels.specs.LabelSets.{has_label, is_in, set_has};
+ghost use Rattle.list_classes.specs.Trees.{has_place};
+ghost use Rattle.list_classes.specs.Classes.{AreClasses};
+ghost use Rattle.list_classes.specs.Parts.{AreExceptions, AreMarks, IsPart, ServeAll, covers, has_any_pattern, has_pattern_at, is_below, is_for_ends, is_in_part, is_inside, is_served, is_within, is_within_any};
+ghost use Rattle.list_classes.specs.Described.{IsUnionOf};
+
+use crate::class_part::ClassPart;
+use crate::label_class::LabelClass;
 use crate::label_classes::LabelClasses;
 use list_labels::{ClientLabel, LabelSet, Pattern, Shape};
 use std::alloc::{AllocError, Global};
@@ -8,56 +18,146 @@ pub fn described(
     alloc: Global,
     classes: &LabelClasses,
     inside: &[bool],
-) -> Result<LabelSet, AllocError> {
-    let mut shapes = Vec::new(alloc);
-    if is_whole(inside) {
-        let all = Pattern::Between(ClientLabel::empty(), ClientLabel::empty());
-        shapes.push(Shape::new(all, Vec::new(alloc)))?;
-        return Ok(LabelSet::new(shapes));
+) -> Result<LabelSet, AllocError>
+    ensures { IfOk result (λ set. AreClasses classes.now.fronts classes.now.ends classes.now.classes.items
+        classes.now.at.items → IsUnionOf classes.now inside.now set) }
+{
+    if is_whole(classes, inside) {
+        return whole_set(alloc);
     }
-    let mut work = ShapeSearch {
-        classes,
-        inside,
-        covers: zeros(alloc, inside.len())?,
-    };
-    let pure = work.cover(alloc, false)?;
-    let broken = work.cover(alloc, true)?;
-    for place in pure.as_slice() {
-        if !work.drop_if_covered(alloc, *place)? {
-            work.add_shapes(alloc, &mut shapes, &[*place])?;
-        }
-    }
-    work.add_shapes(alloc, &mut shapes, broken.as_slice())?;
-    let single = work.single(alloc)?;
-    work.add_shapes(alloc, &mut shapes, single.as_slice())?;
-    Ok(LabelSet::new(shapes))
+    let set = ClassSet { classes, inside };
+    let mut parts = set.search(alloc)?;
+    set.complete(alloc, &mut parts)?;
+    set.shapes(alloc, parts.as_slice())
 }
 
 // Whether all classes are inside.
-fn is_whole(inside: &[bool]) -> bool {
-    inside.iter().all(|one| *one)
+fn is_whole(classes: &LabelClasses, inside: &[bool]) -> bool
+    ensures { result ≡ true → (place : ℕ) → place < length classes.now.classes.items
+        → is_inside inside.now place ≡ true }
+{
+    classes.as_slice().len() <= inside.len() && inside.iter().all(|one| *one)
 }
 
-// The shapes that a search has found so far.
-#[derive(Drop)]
-struct ShapeSearch<'a> {
+// The set of all labels.
+fn whole_set(alloc: Global) -> Result<LabelSet, AllocError>
+    ensures { IfOk result (λ set. (label : List ℕ) → set_has set label ≡ true) }
+{
+    let mut shapes = Vec::new(alloc);
+    let all = Pattern::Between(ClientLabel::empty(), ClientLabel::empty());
+    shapes.push(Shape::new(all, Vec::new(alloc)))?;
+    Ok(LabelSet::new(shapes))
+}
+
+// Classes, and which of them are inside.
+#[derive(Clone, Copy)]
+struct ClassSet<'a> {
     classes: &'a LabelClasses,
     inside: &'a [bool],
-    // Of each class, how many shapes have its labels.
-    covers: Vec<usize>,
 }
 
-impl<'a> ShapeSearch<'a> {
-    // Finds shapes for the classes that no shape has so far: shapes without exceptions, or any. Returns the places of the classes
-    // whose beginnings and endings the shapes have.
-    fn cover(&mut self, alloc: Global, with_exceptions: bool) -> Result<Vec<usize>, AllocError> {
+impl ClassSet<'_> {
+    // Finds few parts that have the classes inside. Those without exceptions are first; one of them whose classes other parts
+    // have is left out.
+    fn search(&self, alloc: Global) -> Result<Vec<ClassPart>, AllocError>
+        ensures { IfOk result (λ parts. All (IsPart self.now.classes.now self.now.inside.now) parts.items) }
+    {
+        let mut covers = zeros(alloc, self.inside.len())?;
+        let pure = self.cover(alloc, &mut covers, false)?;
+        let broken = self.cover(alloc, &mut covers, true)?;
+        let mut parts = Vec::new(alloc);
+        for place in pure.as_slice() {
+            if !self.drop_if_covered(alloc, &mut covers, *place)? {
+                self.add_own(alloc, &mut parts, *place)?;
+            }
+        }
+        for place in broken.as_slice() {
+            self.add_own(alloc, &mut parts, *place)?;
+        }
+        Ok(parts)
+    }
+
+    // Adds the part for a class.
+    fn add_own(
+        &self,
+        alloc: Global,
+        parts: &mut Vec<ClassPart>,
+        place: usize,
+    ) -> Result<(), AllocError>
+        ensures { OnOk result (All (IsPart self.now.classes.now self.now.inside.now) parts.old.items
+            → All (IsPart self.now.classes.now self.now.inside.now) parts.new.items) }
+    {
+        parts.push(self.part(alloc, place)?)?;
+        Ok(())
+    }
+
+    // Adds a part for each class inside that no part has: for those of one label.
+    #[tactic(auto, using(crate::proofs::PartLemmas::covers_serves))]
+    fn complete(&self, alloc: Global, parts: &mut Vec<ClassPart>) -> Result<(), AllocError>
+        ensures parts { OnOk result (All (IsPart self.now.classes.now self.now.inside.now) parts.old.items
+            → All (IsPart self.now.classes.now self.now.inside.now) parts.new.items) }
+        ensures all { OnOk result (ServeAll self.now.classes.now self.now.inside.now parts.new.items) }
+    {
+        let covered = self.covered(alloc, parts.as_slice())?;
+        for place in 0..self.inside.len() {
+            self.add_missing(alloc, parts, covered.as_slice(), place)?;
+        }
+        Ok(())
+    }
+
+    // Adds a part for a class if it is inside and no part has it.
+    #[tactic(auto, using(crate::proofs::PartLemmas::serves_more, crate::proofs::PartLemmas::serves_last))]
+    fn add_missing(
+        &self,
+        alloc: Global,
+        parts: &mut Vec<ClassPart>,
+        covered: &[bool],
+        place: usize,
+    ) -> Result<(), AllocError>
+        ensures parts { OnOk result (All (IsPart self.now.classes.now self.now.inside.now) parts.old.items
+            → All (IsPart self.now.classes.now self.now.inside.now) parts.new.items) }
+        ensures stay { OnOk result ((other : ℕ) → is_served self.now.classes.now other parts.old.items ≡ true
+            → is_served self.now.classes.now other parts.new.items ≡ true) }
+        ensures served { OnOk result (is_inside self.now.inside.now place ≡ true
+            → (is_inside covered.now place ≡ true
+            → is_served self.now.classes.now place parts.old.items ≡ true)
+            → is_served self.now.classes.now place parts.new.items ≡ true) }
+    {
+        if !is_true(self.inside, place) {
+            return Ok(());
+        }
+        if is_true(covered, place) {
+            return Ok(());
+        }
+        parts.push(self.part(alloc, place)?)?;
+        Ok(())
+    }
+
+    // The part for a class, with the exceptions that it needs.
+    fn part(&self, alloc: Global, place: usize) -> Result<ClassPart, AllocError>
+        ensures part { IfOk result (IsPart self.now.classes.now self.now.inside.now) }
+        ensures place { IfOk result (λ part. part.place ≡ place) }
+    {
+        let within = self.places_in(alloc, place)?;
+        let except = self.exceptions(alloc, within.as_slice())?;
+        Ok(ClassPart { place, except })
+    }
+
+    // Finds parts for the classes of several labels that no part has so far: parts without exceptions, or any. Returns the
+    // places of the classes whose parts they are.
+    fn cover(
+        &self,
+        alloc: Global,
+        covers: &mut Vec<usize>,
+        with_exceptions: bool,
+    ) -> Result<Vec<usize>, AllocError> {
         let mut found = Vec::new(alloc);
         for place in 0..self.inside.len() {
-            if self.is_missing(place, false) {
+            if self.is_missing(covers.as_slice(), place) {
                 let within = self.places_in(alloc, place)?;
                 if with_exceptions || are_inside(self.inside, within.as_slice()) {
                     let except = self.exceptions(alloc, within.as_slice())?;
-                    self.count(alloc, within.as_slice(), except.as_slice())?;
+                    self.count(alloc, covers, within.as_slice(), except.as_slice())?;
                     found.push(place)?;
                 }
             }
@@ -65,142 +165,269 @@ impl<'a> ShapeSearch<'a> {
         Ok(found)
     }
 
-    // Whether the set has a class, of one label or of several, that no shape has.
-    fn is_missing(&self, place: usize, is_one: bool) -> bool {
+    // Whether a class of several labels is inside, and no part has it.
+    fn is_missing(&self, covers: &[usize], place: usize) -> bool {
         match self.classes.as_slice().get(place) {
             Some(class) => {
-                class.is_one == is_one
-                    && is_true(self.inside, place)
-                    && number_at(self.covers.as_slice(), place) == 0
+                !class.is_one && is_true(self.inside, place) && number_at(covers, place) == 0
             }
             None => false,
         }
     }
 
     // The places of the classes with the beginning and the ending of a class, and of a class of one label its own.
-    fn places_in(&self, alloc: Global, place: usize) -> Result<Vec<usize>, AllocError> {
+    fn places_in(&self, alloc: Global, place: usize) -> Result<Vec<usize>, AllocError>
+        ensures { IfOk result (λ places. (other : ℕ) → has_place places.items other
+            ≡ is_within self.now.classes.now place other) }
+    {
         let mut places = Vec::new(alloc);
-        let Some(class) = self.classes.as_slice().get(place) else {
-            return Ok(places);
-        };
-        if class.is_one {
-            places.push(place)?;
-            return Ok(places);
-        }
-        for front in self.classes.fronts_below(class) {
-            for end in self.classes.ends_below(class) {
-                places.extend_from_slice(self.classes.at(*front, *end))?;
+        if let Some(class) = self.classes.as_slice().get(place) {
+            if class.is_one {
+                places.push(place)?;
+            } else {
+                self.add_below(&mut places, class)?;
             }
         }
         Ok(places)
     }
 
-    // Of some classes those that the set doesn't have, without those within earlier ones.
-    fn exceptions(&self, alloc: Global, within: &[usize]) -> Result<Vec<usize>, AllocError> {
+    // Adds the places of the classes with a beginning and an ending below those of a class.
+    fn add_below(&self, places: &mut Vec<usize>, class: &LabelClass) -> Result<(), AllocError>
+        ensures { OnOk result ((other : ℕ) → has_place places.new.items other
+            ≡ (has_place places.old.items other || is_below self.now.classes.now class.now other)) }
+    {
+        let ends = self.classes.ends_below(class);
+        for front in self.classes.fronts_below(class) {
+            self.add_ends(places, *front, ends)?;
+        }
+        Ok(())
+    }
+
+    // Adds the places of the classes with a beginning and one of some endings.
+    fn add_ends(
+        &self,
+        places: &mut Vec<usize>,
+        front: usize,
+        ends: &[usize],
+    ) -> Result<(), AllocError>
+        ensures { OnOk result ((other : ℕ) → has_place places.new.items other
+            ≡ (has_place places.old.items other || is_for_ends self.now.classes.now front other ends.now)) }
+    {
+        for end in ends {
+            places.extend_from_slice(self.classes.at(front, *end))?;
+        }
+        Ok(())
+    }
+
+    // Of some classes those that aren't inside, without those within earlier ones.
+    #[tactic(auto, using(crate::proofs::PartLemmas::no_exceptions, crate::proofs::PartLemmas::no_marks, crate::proofs::PartLemmas::except_step))]
+    fn exceptions(&self, alloc: Global, within: &[usize]) -> Result<Vec<usize>, AllocError>
+        ensures { IfOk result (λ except. AreExceptions self.now.classes.now self.now.inside.now within.now
+            except.items) }
+    {
         let mut found = Vec::new(alloc);
-        let mut marks = zeros(alloc, self.inside.len())?;
+        let mut marks = marks_of(alloc, self.inside.len())?;
         for place in within {
-            if !is_true(self.inside, *place) && number_at(marks.as_slice(), *place) == 0 {
-                found.push(*place)?;
-                self.add_marks(alloc, &mut marks, *place)?;
-            }
+            self.add_exception(alloc, &mut found, &mut marks, *place)?;
         }
         Ok(found)
     }
 
-    // Marks the classes with the beginning and the ending of a class.
+    // Adds a class to exceptions, unless it is inside, or within one of these.
+    #[tactic(auto, using(crate::proofs::PartLemmas::inside_known, crate::proofs::PartLemmas::marked_known, crate::proofs::PartLemmas::except_more, crate::proofs::PartLemmas::marks_more))]
+    fn add_exception(
+        &self,
+        alloc: Global,
+        found: &mut Vec<usize>,
+        marks: &mut Vec<bool>,
+        place: usize,
+    ) -> Result<(), AllocError>
+        ensures found { OnOk result ((seen : List ℕ)
+            → AreExceptions self.now.classes.now self.now.inside.now seen found.old.items
+            → AreMarks self.now.classes.now found.old.items marks.old.items
+            → AreExceptions self.now.classes.now self.now.inside.now (seen ++ place ∷ []) found.new.items) }
+        ensures marks { OnOk result (AreMarks self.now.classes.now found.old.items marks.old.items
+            → AreMarks self.now.classes.now found.new.items marks.new.items) }
+    {
+        if is_true(self.inside, place) {
+            return Ok(());
+        }
+        if is_true(marks.as_slice(), place) {
+            return Ok(());
+        }
+        found.push(place)?;
+        self.add_marks(alloc, marks, place)?;
+        Ok(())
+    }
+
+    // Marks the classes within a class.
     fn add_marks(
         &self,
         alloc: Global,
-        marks: &mut Vec<usize>,
+        marks: &mut Vec<bool>,
         place: usize,
-    ) -> Result<(), AllocError> {
+    ) -> Result<(), AllocError>
+        ensures size { OnOk result (length marks.new.items ≡ length marks.old.items) }
+        ensures marks { OnOk result ((other : ℕ) → other < length marks.old.items
+            → is_inside marks.new.items other
+            ≡ (is_inside marks.old.items other || is_within self.now.classes.now place other)) }
+    {
         let within = self.places_in(alloc, place)?;
         for other in within.as_slice() {
-            add_one(marks, *other);
+            mark(marks, *other);
         }
         Ok(())
     }
 
-    // Counts a shape of some classes with exceptions.
-    fn count(
-        &mut self,
-        alloc: Global,
-        within: &[usize],
-        except: &[usize],
-    ) -> Result<(), AllocError> {
-        let mut marks = zeros(alloc, self.inside.len())?;
-        for place in except {
-            self.add_marks(alloc, &mut marks, *place)?;
+    // Marks of the classes that parts have.
+    fn covered(&self, alloc: Global, parts: &[ClassPart]) -> Result<Vec<bool>, AllocError>
+        ensures { IfOk result (λ covered. (other : ℕ) → is_inside covered.items other ≡ true
+            → list_any (covers self.now.classes.now other) parts.now ≡ true) }
+    {
+        let mut covered = marks_of(alloc, self.inside.len())?;
+        for place in 0..parts.len() {
+            self.add_part(alloc, &mut covered, &parts[place])?;
         }
-        for place in within {
-            if number_at(marks.as_slice(), *place) == 0 {
-                add_one(&mut self.covers, *place);
+        Ok(covered)
+    }
+
+    // Marks the classes that a part has.
+    fn add_part(
+        &self,
+        alloc: Global,
+        covered: &mut Vec<bool>,
+        part: &ClassPart,
+    ) -> Result<(), AllocError>
+        ensures size { OnOk result (length covered.new.items ≡ length covered.old.items) }
+        ensures marks { OnOk result ((other : ℕ) → is_inside covered.new.items other ≡ true
+            → (is_inside covered.old.items other || covers self.now.classes.now other part.now) ≡ true) }
+    {
+        let within = self.places_in(alloc, part.place)?;
+        let marks = self.marks(alloc, covered.len(), part.except.as_slice())?;
+        for other in within.as_slice() {
+            if !is_true(marks.as_slice(), *other) {
+                mark(covered, *other);
             }
         }
         Ok(())
     }
 
-    // Drops a shape without exceptions if other shapes have all its classes, and returns whether it did.
-    fn drop_if_covered(&mut self, alloc: Global, place: usize) -> Result<bool, AllocError> {
+    // Marks of the classes within some classes.
+    fn marks(&self, alloc: Global, size: usize, places: &[usize]) -> Result<Vec<bool>, AllocError>
+        ensures { IfOk result (λ marks. (other : ℕ) → other < size → is_inside marks.items other
+            ≡ is_within_any self.now.classes.now places.now other) }
+    {
+        let mut marks = marks_of(alloc, size)?;
+        for place in places {
+            self.add_marks(alloc, &mut marks, *place)?;
+        }
+        Ok(marks)
+    }
+
+    // Counts a part of some classes with exceptions.
+    fn count(
+        &self,
+        alloc: Global,
+        covers: &mut Vec<usize>,
+        within: &[usize],
+        except: &[usize],
+    ) -> Result<(), AllocError> {
+        let marks = self.marks(alloc, self.inside.len(), except)?;
+        for place in within {
+            if !is_true(marks.as_slice(), *place) {
+                add_one(covers, *place);
+            }
+        }
+        Ok(())
+    }
+
+    // Drops a part without exceptions if other parts have all its classes, and returns whether it did.
+    fn drop_if_covered(
+        &self,
+        alloc: Global,
+        covers: &mut Vec<usize>,
+        place: usize,
+    ) -> Result<bool, AllocError> {
         let within = self.places_in(alloc, place)?;
         for other in within.as_slice() {
-            if number_at(self.covers.as_slice(), *other) < 2 {
+            if number_at(covers.as_slice(), *other) < 2 {
                 return Ok(false);
             }
         }
         for other in within.as_slice() {
-            take_one(&mut self.covers, *other);
+            take_one(covers, *other);
         }
         Ok(true)
     }
 
-    // The shape of a class: its pattern with exceptions.
-    fn shape(&self, alloc: Global, place: usize) -> Result<Option<Shape>, AllocError> {
-        let Some(class) = self.classes.as_slice().get(place) else {
-            return Ok(None);
-        };
-        let within = self.places_in(alloc, place)?;
-        let places = self.exceptions(alloc, within.as_slice())?;
-        let mut except = Vec::new(alloc);
-        for other in places.as_slice() {
-            if let Some(other) = self.classes.as_slice().get(*other) {
-                except.push(self.classes.pattern(other, Some(class)))?;
-            }
+    // The set of the labels of some parts.
+    fn shapes(&self, alloc: Global, parts: &[ClassPart]) -> Result<LabelSet, AllocError>
+        ensures { IfOk result (λ set. (label : List ℕ) → set_has set label
+            ≡ list_any (is_in_part self.now.classes.now label) parts.now) }
+    {
+        let mut shapes = Vec::new(alloc);
+        for place in 0..parts.len() {
+            self.add_shape(alloc, &mut shapes, &parts[place])?;
         }
-        let pattern = self.classes.pattern(class, None);
-        Ok(Some(Shape::new(pattern, except)))
+        Ok(LabelSet::new(shapes))
     }
 
-    // Adds the shapes of classes.
-    fn add_shapes(
+    // Adds the shape of a part: its pattern with exceptions.
+    fn add_shape(
         &self,
         alloc: Global,
         shapes: &mut Vec<Shape>,
-        places: &[usize],
-    ) -> Result<(), AllocError> {
-        for place in places {
-            if let Some(shape) = self.shape(alloc, *place)? {
-                shapes.push(shape)?;
-            }
+        part: &ClassPart,
+    ) -> Result<(), AllocError>
+        ensures { OnOk result ((label : List ℕ) → list_any (is_in label) shapes.new.items
+            ≡ (list_any (is_in label) shapes.old.items || is_in_part self.now.classes.now label part.now)) }
+    {
+        if let Some(class) = self.classes.as_slice().get(part.place) {
+            let except = self.patterns(alloc, class, part.except.as_slice())?;
+            shapes.push(Shape::new(self.classes.pattern(class, 0, 0), except))?;
         }
         Ok(())
     }
 
-    // The places of the classes of one label that no shape has.
-    fn single(&self, alloc: Global) -> Result<Vec<usize>, AllocError> {
-        let mut places = Vec::new(alloc);
-        for place in 0..self.inside.len() {
-            if self.is_missing(place, true) {
-                places.push(place)?;
-            }
+    // The patterns of classes within a class.
+    fn patterns(
+        &self,
+        alloc: Global,
+        class: &LabelClass,
+        places: &[usize],
+    ) -> Result<Vec<Pattern>, AllocError>
+        ensures { IfOk result (λ patterns. (label : List ℕ) → list_any (has_label label) patterns.items
+            ≡ has_any_pattern self.now.classes.now class.now.front class.now.end label places.now) }
+    {
+        let mut patterns = Vec::new(alloc);
+        for place in places {
+            self.add_pattern(&mut patterns, class, *place)?;
         }
-        Ok(places)
+        Ok(patterns)
+    }
+
+    // Adds the pattern of a class within a class.
+    fn add_pattern(
+        &self,
+        patterns: &mut Vec<Pattern>,
+        class: &LabelClass,
+        place: usize,
+    ) -> Result<(), AllocError>
+        ensures { OnOk result ((label : List ℕ) → list_any (has_label label) patterns.new.items
+            ≡ (list_any (has_label label) patterns.old.items
+            || has_pattern_at self.now.classes.now class.now.front class.now.end label place)) }
+    {
+        if let Some(other) = self.classes.as_slice().get(place) {
+            patterns.push(self.classes.pattern(other, class.front, class.end))?;
+        }
+        Ok(())
     }
 }
 
 // Whether it is true at a place.
-fn is_true(inside: &[bool], place: usize) -> bool {
+fn is_true(inside: &[bool], place: usize) -> bool
+    ensures { result ≡ is_inside inside.now place }
+{
     match inside.get(place) {
         Some(is_inside) => *is_inside,
         None => false,
@@ -210,6 +437,24 @@ fn is_true(inside: &[bool], place: usize) -> bool {
 // Whether it is true at all places.
 fn are_inside(inside: &[bool], places: &[usize]) -> bool {
     places.iter().all(|place| is_true(inside, *place))
+}
+
+// Marks a place.
+fn mark(marks: &mut Vec<bool>, place: usize)
+    ensures size { length marks.new.items ≡ length marks.old.items }
+    ensures marks { (other : ℕ) → other < length marks.old.items → is_inside marks.new.items other
+        ≡ (is_inside marks.old.items other || nat_eq other place) }
+{
+    if place < marks.len() {
+        marks[place] = true;
+    }
+}
+
+// So many places without a mark.
+fn marks_of(alloc: Global, size: usize) -> Result<Vec<bool>, AllocError>
+    ensures { IfOk result (λ marks. marks.items ≡ replicate size false) }
+{
+    vec![in alloc; false; size]
 }
 
 // The number at a place, or 0.
@@ -236,9 +481,5 @@ fn take_one(numbers: &mut Vec<usize>, place: usize) {
 
 // So many times 0.
 fn zeros(alloc: Global, size: usize) -> Result<Vec<usize>, AllocError> {
-    let mut numbers = Vec::with_capacity(alloc, size)?;
-    for _ in 0..size {
-        numbers.push(0)?;
-    }
-    Ok(numbers)
+    vec![in alloc; 0; size]
 }

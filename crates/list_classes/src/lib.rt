@@ -2,10 +2,16 @@
 //! `LabelClasses::of(alloc, Some(requests), None)?`, and then `described(alloc, &classes, inside)?`.
 #![tactic(auto)]
 
+mod asked_texts;
+mod class_maker;
+mod class_part;
+mod class_rows;
 mod description;
+mod label_class;
 mod label_classes;
 mod text_tree;
 mod witness;
 
 pub use description::described;
-pub use label_classes::{LabelClass, LabelClasses};
+pub use label_class::LabelClass;
+pub use label_classes::LabelClasses;

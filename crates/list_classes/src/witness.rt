@@ -1,8 +1,10 @@
 //! A label of minimum length with a longest beginning, a longest ending, and nothing that a rule distinguishes.
 ghost use Rattle.std.specs.Prelude.{◌≡◌, true, IfSome};
 ghost use Rattle.list_labels.specs.Asked.{is_given};
+ghost use Rattle.list_classes.specs.Witnesses.{IsWitness};
 
-use crate::text_tree::{TextTree, has_text};
+use crate::class_maker::ClassParts;
+use crate::text_tree::has_text;
 use arrayvec::ArrayVec;
 use list_labels::{ClientLabel, LONGEST_GIVEN};
 
@@ -18,9 +20,7 @@ const BYTES: &[u8] =
 /// Labels with a longest beginning and a longest ending, by their places, that are none of the known ones.
 #[derive(Clone, Copy)]
 pub(crate) struct TextPair<'a> {
-    pub(crate) fronts: &'a TextTree,
-    pub(crate) ends: &'a TextTree,
-    pub(crate) known: &'a [ClientLabel],
+    pub(crate) parts: ClassParts<'a>,
     pub(crate) front: usize,
     pub(crate) end: usize,
 }
@@ -28,9 +28,13 @@ pub(crate) struct TextPair<'a> {
 impl TextPair<'_> {
     /// Returns one of the shortest labels, if there is one.
     pub(crate) fn witness(&self) -> Option<ClientLabel>
-        ensures { IfSome result (λ label. is_given label ≡ true) }
+        ensures given { IfSome result (λ label. is_given label ≡ true) }
+        ensures of { IfSome result (λ label. IsWitness self.now label) }
     {
-        let (front, end) = (self.fronts.text(self.front), self.ends.text(self.end));
+        let (front, end) = (
+            self.parts.fronts.text(self.front),
+            self.parts.ends.text(self.end),
+        );
         if let Some(label) = self.overlapping(front, end) {
             return Some(label);
         }
@@ -47,7 +51,8 @@ impl TextPair<'_> {
 
     // One in which the beginning and the ending share bytes or touch, most bytes first.
     fn overlapping(&self, front: &[u8], end: &[u8]) -> Option<ClientLabel>
-        ensures { IfSome result (λ label. is_given label ≡ true) }
+        ensures given { IfSome result (λ label. is_given label ≡ true) }
+        ensures of { IfSome result (λ label. IsWitness self.now label) }
     {
         for rest in 0..end.len() {
             let cut = end.len() - rest;
@@ -62,7 +67,8 @@ impl TextPair<'_> {
 
     // The label of two parts, if it is one of these.
     fn label_of(&self, head: &[u8], tail: &[u8]) -> Option<ClientLabel>
-        ensures { IfSome result (λ label. is_given label ≡ true) }
+        ensures given { IfSome result (λ label. is_given label ≡ true) }
+        ensures of { IfSome result (λ label. IsWitness self.now label) }
     {
         let text = joined(head, tail)?;
         let label = ClientLabel::read(text.as_slice())?;
@@ -74,16 +80,23 @@ impl TextPair<'_> {
     }
 
     // Whether a label that begins and ends so is one of these.
-    fn has(&self, label: &[u8]) -> bool {
-        !self.fronts.goes_below(self.front, label)
-            && !self.ends.goes_below(self.end, label)
-            && !has_text(self.known, label)
+    #[tactic(auto, using(crate::proofs::MakingLemmas::witness_is))]
+    fn has(&self, label: &[u8]) -> bool
+        ensures { result ≡ true → IsWitness self.now label.now }
+    {
+        let front = self.parts.fronts.place_of(label);
+        let end = self.parts.ends.place_of(label);
+        if front != self.front || end != self.end {
+            return false;
+        }
+        !has_text(self.parts.known, label)
     }
 
     // A label with so many bytes between two parts. If their number is odd, the first of them follows the first part. Otherwise
     // the last of them is before the last part.
     fn filled(&self, head: &[u8], tail: &[u8], between: usize) -> Option<ClientLabel>
-        ensures { IfSome result (λ label. is_given label ≡ true) }
+        ensures given { IfSome result (λ label. is_given label ≡ true) }
+        ensures of { IfSome result (λ label. IsWitness self.now label) }
     {
         if between == 0 {
             return self.label_of(head, tail);
@@ -99,12 +112,12 @@ impl TextPair<'_> {
             };
             let longer = longer.as_slice();
             if between % 2 == 1 {
-                if !self.fronts.goes_below(self.front, longer) {
+                if !self.parts.fronts.goes_below(self.front, longer) {
                     if let Some(label) = self.filled(longer, tail, between - 1) {
                         return Some(label);
                     }
                 }
-            } else if !self.ends.goes_below(self.end, longer) {
+            } else if !self.parts.ends.goes_below(self.end, longer) {
                 if let Some(label) = self.filled(head, longer, between - 1) {
                     return Some(label);
                 }

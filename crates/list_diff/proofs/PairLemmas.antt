@@ -12,7 +12,7 @@ use Rattle.std.proofs.lemmas.List.Sums.{passes_at_first}
 use Rattle.std.proofs.lemmas.Option.{get_or_from_slice_get, slice_get-get_or, slice_get_within}
 use Rattle.std.proofs.lemmas.Slice.Eq.{bytes_eq-Decides}
 use Rattle.own_model.specs.Listed.{Listed, ListedEntry}
-use Rattle.list_reach.specs.declared.reach_table.ReachCell.{ReachCell}
+use Rattle.list_reach.specs.declared.reach_cell.ReachCell.{ReachCell}
 use Rattle.list_diff.specs.Changes.{place_of}
 use Rattle.list_diff.specs.NewAccess.{HasCell}
 use Rattle.list_diff.specs.Reaches.{HasRows, Shows, cell_at, cell_of, compared_pairs, is_cell, new_pair, new_pairs, old_pair, old_pairs, pair_at, pair_of, pair_unless}

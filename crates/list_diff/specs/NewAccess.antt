@@ -4,7 +4,7 @@ use Rattle.own_model.specs.Listed.{Listed}
 use Rattle.list_labels.specs.GivenLabels.{IsGiven}
 use Rattle.list_reach.specs.Comparisons.{is_to}
 use Rattle.list_diff.specs.declared.moved_labels.MovedLabels.{MovedLabels}
-use Rattle.list_reach.specs.declared.reach_table.ReachCell.{ReachCell}
+use Rattle.list_reach.specs.declared.reach_cell.ReachCell.{ReachCell}
 use Rattle.list_diff.specs.Changes.{place_of}
 use Rattle.list_diff.specs.Reaches.{AreReachChanges, pair_at}
 use Rattle.list_diff.specs.Routes.{Pair, routes}

@@ -6,7 +6,7 @@ use Rattle.std.specs.Str.{bytes_eq}
 use Rattle.own_model.specs.Listed.{Listed, ListedEntry}
 use Rattle.list_reach.specs.Comparisons.{IsComparison, IsWitness, RoutedLabel, is_gained, is_lost}
 use Rattle.list_reach.specs.declared.client_reach.Reach.{Reach}
-use Rattle.list_reach.specs.declared.reach_table.ReachCell.{ReachCell}
+use Rattle.list_reach.specs.declared.reach_cell.ReachCell.{ReachCell}
 use Rattle.list_diff.specs.Changes.{place_of}
 use Rattle.list_diff.specs.Moves.{AreMoved}
 use Rattle.list_diff.specs.Routes.{Pair, routes}

@@ -1,6 +1,8 @@
 -- The text of a remark, by its kind and its parts.
-use Rattle.std.specs.Prelude.{ℕ, List, [], ◌++◌, codes, Option, Some, None}
-use Rattle.std.specs.Fmt.{decimal, option_append}
+use Rattle.std.specs.Prelude.{ℕ, false, List, [], ◌++◌, codes, decimal, Option, Some, None}
+use Rattle.list_parts.specs.PartTexts.{asked_caps, asked_ram, part_text}
+use Rattle.list_parts.specs.QuotedTexts.{escaped_text, quoted_text}
+use Rattle.list_findings.specs.declared.finding.Finding.{Finding}
 use Rattle.list_findings.specs.declared.finding.Remark.{Remark}
 use Rattle.list_findings.specs.declared.finding.Remark.TheVariants as remark
 use Rattle.list_findings.specs.declared.finding.RemarkValue.{RemarkValue}
@@ -63,22 +65,33 @@ phrase_of (remark.LowCaps own kept) = said [] (Caps own kept) (codes " capabilit
 phrase_of (remark.PartPages ram) = said (codes "quantum: expected whole pages of 4096 bytes, found ") (Number ram) (codes " bytes") None
 phrase_of (remark.PartReserve ram) = said (codes "reserve: expected whole pages of 4096 bytes, found ") (Number ram) (codes " bytes") None
 
--- the text of a value; those of escaped texts, of budgets and of two names aren't stated
-abbrev pub value_text : Said → Option (List ℕ)
-value_text Nothing = Some []
-value_text (Name name) = Some name
-value_text (Escaped text) = None
-value_text (Service child service) = None
-value_text (Prefix front name) = None
-value_text (Number number) = Some (decimal number)
-value_text (Ram own kept) = None
-value_text (Caps own kept) = None
+-- a component, and the service that it doesn't provide
+abbrev pub service_text : List ℕ → List ℕ → List ℕ
+service_text child service = child ++ (codes "` doesn't provide `" ++ service)
+
+-- a prefix, and the component whose labels begin with it too
+abbrev pub prefix_text : List ℕ → List ℕ → List ℕ
+prefix_text front name = quoted_text false front ++ codes " is a prefix of `" ++ name ++ codes "` too"
+
+-- the text of a value
+abbrev pub value_text : Said → List ℕ
+value_text Nothing = []
+value_text (Name name) = name
+value_text (Escaped text) = escaped_text false text
+value_text (Service child service) = service_text child service
+value_text (Prefix front name) = prefix_text front name
+value_text (Number number) = decimal number
+value_text (Ram own kept) = asked_ram own kept
+value_text (Caps own kept) = asked_caps own kept
 
 -- the text of a name that may have been meant
 abbrev pub near_text : Option (List ℕ) → List ℕ
 near_text None = []
 near_text (Some near) = codes "; did you mean `" ++ near ++ codes "`?"
 
-abbrev pub phrase_text : Phrase → Option (List ℕ)
-phrase_text phrase =
-    option_append (option_append (Some phrase.before) (value_text phrase.value)) (Some (phrase.after ++ near_text phrase.near))
+abbrev pub phrase_text : Phrase → List ℕ
+phrase_text phrase = phrase.before ++ value_text phrase.value ++ phrase.after ++ near_text phrase.near
+
+-- the part of the list, and the remark on it
+abbrev pub finding_text : Finding → List ℕ
+finding_text finding = part_text finding.part ++ codes ": " ++ phrase_text (phrase_of finding.remark)

@@ -1,7 +1,8 @@
 -- Servers' budgets that nothing uses: no call changes what a server's account has.
-use Rattle.std.specs.Prelude.{◌&&◌, ◌||◌, List, [], ◌∷◌, flat_map, nat_lt, if◌then◌else◌, Option, Some, None}
+use Rattle.std.specs.Prelude.{ℕ, ◌==◌, ◌&&◌, ◌||◌, List, [], ◌∷◌, ◌++◌, codes, decimal, flat_map, nat_lt, if◌then◌else◌, Option, Some, None}
 use Rattle.own_model.specs.Listed.{Listed, ListedEntry}
 use Rattle.list_parser.specs.Depth.{runs_server}
+use Rattle.list_parts.specs.PartTexts.{amount_text}
 use Rattle.list_findings.specs.declared.unused_budget.UnusedBudget.{UnusedBudget}
 
 -- the budget of an entry, if it is a server's and has RAM or capabilities
@@ -18,3 +19,11 @@ spare_of list = flat_map spare_in list.entries
 abbrev pub if_any : {A : Type 0} → List A → Option (List A)
 if_any [] = None
 if_any (x ∷ xs) = Some (x ∷ xs)
+
+-- what a server has, without what is 0
+abbrev pub spare_text : UnusedBudget → List ℕ
+spare_text spare =
+    spare.path ++ codes " has "
+    ++ (if spare.caps == 0 then amount_text spare.ram
+    else (if spare.ram == 0 then decimal spare.caps ++ codes " caps"
+    else amount_text spare.ram ++ codes " and " ++ decimal spare.caps ++ codes " caps"))

@@ -1,7 +1,8 @@
 //! Findings: parts of a start list that are probably not intended.
 ghost use Rattle.std.specs.Prelude.{◌≡◌, IfOk, Some};
+ghost use Rattle.std.specs.Fmt.{WritesOnOk};
 ghost use Rattle.std.specs.Option.{option_copied};
-ghost use Rattle.list_findings.specs.Phrases.{near_text, phrase_of, phrase_text, value_at, value_text};
+ghost use Rattle.list_findings.specs.Phrases.{finding_text, near_text, phrase_of, phrase_text, prefix_text, service_text, value_at, value_text};
 
 use list_parser::Name;
 use list_parts::{BudgetAmount, ListPart, show_escaped, show_quoted};
@@ -19,6 +20,8 @@ pub struct Finding {
 }
 
 impl fmt::Display for Finding {
+    ghost output = { λ finding. Some (finding_text finding) };
+
     fn fmt<W: fmt::Write>(&self, f: &mut fmt::Formatter<W>) -> fmt::Result {
         write!(f, "{}: {}", self.part, self.remark)
     }
@@ -122,7 +125,7 @@ pub enum Remark {
 }
 
 impl fmt::Display for Remark {
-    ghost output = { λ remark. phrase_text (phrase_of remark) };
+    ghost output = { λ remark. Some (phrase_text (phrase_of remark)) };
 
     fn fmt<W: fmt::Write>(&self, f: &mut fmt::Formatter<W>) -> fmt::Result {
         f.write_str(self.before())?;
@@ -252,16 +255,14 @@ enum RemarkValue<'a> {
 }
 
 impl fmt::Display for RemarkValue<'_> {
-    ghost output = { λ value. value_text (value_at value) };
+    ghost output = { λ value. Some (value_text (value_at value)) };
 
     fn fmt<W: fmt::Write>(&self, f: &mut fmt::Formatter<W>) -> fmt::Result {
         match self {
             RemarkValue::Nothing => Ok(()),
             RemarkValue::Name(name) => f.write_str(name),
             RemarkValue::Escaped(text) => show_escaped(f, text),
-            RemarkValue::Service(child, service) => {
-                write!(f, "{child}` doesn't provide `{service}")
-            }
+            RemarkValue::Service(child, service) => show_service(f, child, service),
             RemarkValue::Prefix(front, name) => show_prefix(f, front, name),
             RemarkValue::Number(number) => write!(f, "{number}"),
             RemarkValue::Ram(own, kept) => write!(f, "{}", BudgetAmount::ram(*own, *kept)),
@@ -270,8 +271,17 @@ impl fmt::Display for RemarkValue<'_> {
     }
 }
 
+// A component, and the service that it doesn't provide.
+fn show_service<W: fmt::Write>(f: &mut fmt::Formatter<W>, child: &str, service: &str) -> fmt::Result
+    ensures { WritesOnOk W.write_str_gives f.old result (service_text child.now service.now) f.new }
+{
+    write!(f, "{child}` doesn't provide `{service}")
+}
+
 // A prefix, and the component whose labels begin with it too.
-fn show_prefix<W: fmt::Write>(f: &mut fmt::Formatter<W>, front: &str, name: &str) -> fmt::Result {
+fn show_prefix<W: fmt::Write>(f: &mut fmt::Formatter<W>, front: &str, name: &str) -> fmt::Result
+    ensures { WritesOnOk W.write_str_gives f.old result (prefix_text front.now name.now) f.new }
+{
     show_quoted(f, front)?;
     write!(f, " is a prefix of `{name}` too")
 }

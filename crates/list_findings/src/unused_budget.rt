@@ -1,6 +1,6 @@
 //! The budgets of servers that nothing uses.
-ghost use Rattle.std.specs.Prelude.{◌≡◌, ◌++◌, IfOk, OnOk};
-ghost use Rattle.list_findings.specs.Spare.{spare_in, spare_of};
+ghost use Rattle.std.specs.Prelude.{◌≡◌, ◌++◌, IfOk, OnOk, Some};
+ghost use Rattle.list_findings.specs.Spare.{spare_in, spare_of, spare_text};
 
 use list_parser::{ListEntry, Path, StartList};
 use list_parts::{Amount, show_within};
@@ -19,6 +19,8 @@ pub struct UnusedBudget {
 }
 
 impl fmt::Display for UnusedBudget {
+    ghost output = { λ spare. Some (spare_text spare) };
+
     fn fmt<W: fmt::Write>(&self, f: &mut fmt::Formatter<W>) -> fmt::Result {
         write!(f, "{} has ", self.path)?;
         match (self.ram, self.caps) {

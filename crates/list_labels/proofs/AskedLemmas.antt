@@ -1,5 +1,5 @@
 -- Labels that agree with what rules ask lead alike, and each label that no rule knows by itself agrees with two rules' texts.
-use Rattle.std.proofs.Common.{◌≡◌, ℕ, ◌<◌, ◌≤◌, zero, suc, ◌-◌, Bool, true, false, ◌&&◌, List, [], ◌∷◌, ◌++◌, length, get_or, take, drop, Option, Some, None, refl, sym, subst, ap, ◌∙◌, nat_eq, nat_le, arith, ◌⊎◌, inl, inr}
+use Rattle.std.proofs.Common.{◌≡◌, ℕ, ◌<◌, ◌≤◌, zero, suc, ◌-◌, Bool, true, false, ◌&&◌, ◌||◌, List, [], ◌∷◌, ◌++◌, length, get_or, take, drop, Option, Some, None, refl, sym, subst, ap, ◌∙◌, nat_eq, nat_le, arith, ◌⊎◌, inl, inr}
 use Rattle.std.specs.Prelude.{codes, if◌then◌else◌}
 use Rattle.std.specs.List.{list_all, list_any, starts_with, ends_with, slice_get}
 use Rattle.std.specs.Option.{option_and_then, option_map, unwrap_or}
@@ -133,20 +133,30 @@ front_more before front rest (Some asked) holds =
 
 -- ---- ends of what is seen
 
-tail_is : (before label cut : List ℕ) → ends_with nat_eq before cut ≡ true → is_tail before label (Some (cut ++ label)) ≡ true
-tail_is before label cut ends =
-    and_from _ _ (ends_from (cut ++ label) cut label refl)
+tail_is : (before label cut : List ℕ) → 0 < length cut → ends_with nat_eq before cut ≡ true → is_tail before label (Some (cut ++ label)) ≡ true
+tail_is before label cut some ends =
+    let long : length label < length (cut ++ label) = omega (arith, length-append cut label) in
+    and_from _ _ (grind (arith, nat_tests))
+    (and_from _ _ (ends_from (cut ++ label) cut label refl)
     (ap (λ c. ends_with nat_eq before c)
     (ap (λ n. take n (cut ++ label)) (omega (arith, length-append cut label)) ∙ take_front cut label)
-    ∙ ends)
+    ∙ ends))
+
+-- an asked end that is no part of the names before the label is an end of the label
+tail_lost : (before label cut asked : List ℕ) → asked ≡ cut ++ label → ends_with nat_eq before cut ≡ true
+    → is_tail before label (Some asked) ≡ false → ends_with nat_eq label asked ≡ true
+tail_lost before label [] asked is ends lost = ends_from label [] asked (sym is)
+tail_lost before label (c ∷ cut) asked is ends lost =
+    absurd (both_ways (is_tail before label (Some asked)) lost
+    (ap (λ a. is_tail before label (Some a)) is ∙ tail_is before label (c ∷ cut) (omega arith) ends))
 
 end_behind : (before label : List ℕ) (asked : Option (List ℕ)) → as_asked (ends_with nat_eq (before ++ label)) asked ≡ true
     → is_tail before label asked ≡ false → ends_with nat_eq label (text_of asked) ≡ true
 end_behind before label None holds lost = ends_from label label [] (sym (append-nil label))
 end_behind before label (Some asked) holds lost =
     elim (parted before label (take (length (before ++ label) - length asked) (before ++ label)) asked (ends_by (before ++ label) asked holds)) [
-      | inl way ↦ absurd (both_ways (is_tail before label (Some asked)) lost (ap (λ a. is_tail before label (Some a)) way.2
-          ∙ tail_is before label way.0 (ends_from before (take (length (before ++ label) - length asked) (before ++ label)) way.0 way.1)))
+      | inl way ↦ tail_lost before label way.0 asked way.2
+          (ends_from before (take (length (before ++ label) - length asked) (before ++ label)) way.0 way.1) lost
       | inr way ↦ ends_from label (way.0 ∷ way.1) asked way.3
     ]
 
@@ -186,7 +196,7 @@ given_parts front rest given =
 -- ---- how long what is asked is
 
 -- all that fit a label have texts of so many bytes at most
-abbrev Within : List ℕ → ℕ → ℕ → List AskedLabel → Type 0
+abbrev pub Within : List ℕ → ℕ → ℕ → List AskedLabel → Type 0
 Within label front end [] = Unit {0}
 Within label front end (asked ∷ others) =
     (fits label asked ≡ true → (length asked.front ≤ front) × (length asked.end ≤ end)) × Within label front end others
@@ -235,13 +245,14 @@ asked_when service before rule true false one two asking whole front end a b c d
 asked_when service before rule true true false two asking whole front end a b c d = cc
 asked_when service before rule true true true false asking whole front end a b c d = cc
 
-open_then : (service before label front end rest head : List ℕ) (rule : ListedRule) → IsGiven label → is_known before label rule ≡ false
+open_then : (service before label front end rest head : List ℕ) (rule : ListedRule) → IsGiven label → is_known service before label rule ≡ false
     → label ≡ front ++ rest → label ≡ head ++ end
     → Within label (length front) (length end) (asked_of_rule service (length before) rule)
     → asks_for rule service (before ++ label) ≡ true → is_open rule service (before ++ front) end ≡ true
 open_then service before label front end rest head rule given lost begins ends within holds =
     let parts = open_parts _ _ _ _ holds in
-    let unknown = or_parts (is_whole before label rule.label) (is_tail before label rule.label_suffix) lost in
+    let unknown = or_parts (is_whole before label rule.label) (is_tail before label rule.label_suffix)
+    (sym (ap (λ a. a && (is_whole before label rule.label || is_tail before label rule.label_suffix)) parts.0) ∙ lost) in
     let nothing = not_whole before label rule.label parts.1 unknown.0 in
     let opened = front_behind before label rule.label_prefix parts.2 in
     let ended = end_behind before label rule.label_suffix parts.3 unknown.1 in
@@ -266,7 +277,7 @@ then_open service before label front end rest head rule begins ends holds =
     (ap (λ l. before ++ l) ends ∙ sym (append_assoc before head end))
     ∙ end_more (before ++ head) end rule.label_suffix parts.3)
 
-rule_agreeing : (service before label front end rest head : List ℕ) (rule : ListedRule) → IsGiven label → is_known before label rule ≡ false
+rule_agreeing : (service before label front end rest head : List ℕ) (rule : ListedRule) → IsGiven label → is_known service before label rule ≡ false
     → label ≡ front ++ rest → label ≡ head ++ end
     → Within label (length front) (length end) (asked_of_rule service (length before) rule)
     → rule_agrees service (before ++ front) (before ++ label) end rule ≡ true
@@ -276,12 +287,12 @@ rule_agreeing service before label front end rest head rule given lost begins en
     (then_open service before label front end rest head rule begins ends))
 
 rules_agreeing : (service before label front end rest head : List ℕ) (rules : List ListedRule) → IsGiven label
-    → list_any (is_known before label) rules ≡ false → label ≡ front ++ rest → label ≡ head ++ end
+    → list_any (is_known service before label) rules ≡ false → label ≡ front ++ rest → label ≡ head ++ end
     → Within label (length front) (length end) (asked_by service (length before) rules)
     → list_all (rule_agrees service (before ++ front) (before ++ label) end) rules ≡ true
 rules_agreeing service before label front end rest head [] given lost begins ends within = refl
 rules_agreeing service before label front end rest head (rule ∷ rules) given lost begins ends within =
-    let unknown = or_parts (is_known before label rule) (list_any (is_known before label) rules) lost in
+    let unknown = or_parts (is_known service before label rule) (list_any (is_known service before label) rules) lost in
     let bounds = within_split label (length front) (length end) (asked_of_rule service (length before) rule)
     (asked_by service (length before) rules) within in
     and_from _ _ (rule_agreeing service before label front end rest head rule given unknown.0 begins ends bounds.0)
@@ -294,10 +305,10 @@ behind_more name before text =
     ap (λ t. t) (sym (append_assoc (name ++ codes " -> ") before text))
 
 outer_agreeing : (lists : ℕ) (list : Listed) (name service before label front end rest head : List ℕ) (outer : Option ListedEntry) → IsGiven label
-    → ((init : ListedEntry) → known_within lists list init (behind name before) label ≡ false
+    → ((init : ListedEntry) → known_within lists list init service (behind name before) label ≡ false
     → Within label (length front) (length end) (asked_within lists list init service (behind name before))
     → agrees_within lists list init service (behind name before ++ front) (behind name before ++ label) end ≡ true)
-    → unwrap_or (option_map (λ init. known_within lists list init (behind name before) label) outer) false ≡ false
+    → unwrap_or (option_map (λ init. known_within lists list init service (behind name before) label) outer) false ≡ false
     → Within label (length front) (length end)
     (unwrap_or (option_map (λ init. asked_within lists list init service (behind name before)) outer) [])
     → unwrap_or (option_map (λ init. agrees_within lists list init service (behind name (before ++ front)) (behind name (before ++ label)) end) outer) true
@@ -309,12 +320,12 @@ outer_agreeing lists list name service before label front end rest head (Some in
     ∙ each init lost within)
 
 lists_agreeing : (lists : ℕ) (list : Listed) (entry : ListedEntry) (service before label front end rest head : List ℕ) → IsGiven label
-    → known_within lists list entry before label ≡ false → label ≡ front ++ rest → label ≡ head ++ end
+    → known_within lists list entry service before label ≡ false → label ≡ front ++ rest → label ≡ head ++ end
     → Within label (length front) (length end) (asked_within lists list entry service before)
     → agrees_within lists list entry service (before ++ front) (before ++ label) end ≡ true
 lists_agreeing zero list entry service before label front end rest head given lost begins ends within = refl
 lists_agreeing (suc lists) list entry service before label front end rest head given lost begins ends within =
-    let unknown = or_parts (list_any (is_known before label) (rules_for list entry)) _ lost in
+    let unknown = or_parts (list_any (is_known service before label) (rules_for list entry)) _ lost in
     let bounds = within_split label (length front) (length end) (asked_by service (length before) (rules_for list entry)) _ within in
     and_from _ _ (rules_agreeing service before label front end rest head (rules_for list entry) given unknown.0 begins ends bounds.0)
     (outer_agreeing lists list entry.name service before label front end rest head (init_entry list entry.home) given
@@ -322,8 +333,8 @@ lists_agreeing (suc lists) list entry service before label front end rest head g
     lists_agreeing lists list init service (behind entry.name before) label front end rest head given unknown_there begins ends bounds_there)
     unknown.1 bounds.1)
 
-entry_agreeing : (list : Listed) (service label front end rest head : List ℕ) (entry : Option ListedEntry) → IsGiven label
-    → unwrap_or (option_map (λ entry. known_within most_lists list entry [] label) entry) false ≡ false
+pub entry_agreeing : (list : Listed) (service label front end rest head : List ℕ) (entry : Option ListedEntry) → IsGiven label
+    → unwrap_or (option_map (λ entry. known_within most_lists list entry service [] label) entry) false ≡ false
     → label ≡ front ++ rest → label ≡ head ++ end
     → Within label (length front) (length end) (unwrap_or (option_map (λ entry. asked_within most_lists list entry service []) entry) [])
     → unwrap_or (option_map (λ entry. agrees_within most_lists list entry service front label end) entry) true ≡ true
@@ -531,7 +542,7 @@ between_all range list client service label others inside each =
     each
 
 pub between : (range : AskedLabel) (list : Listed) (client : ℕ) (service label : List ℕ) (asked : List AskedLabel) → asked ≡ asked_of range list client service
-    → IsInRange range label → known list client label ≡ false
+    → IsInRange range label → known list client service label ≡ false
     → (first : AskedLabel) × (last : AskedLabel) × IsBetween range list client service label asked first last
 unfolding asked_of known agrees
 between range list client service label asked is given lost =
@@ -609,41 +620,41 @@ agrees_not zero list entry service opened seen end some here = absurd (omega ari
 agrees_not (suc lists) list entry service opened seen end some here =
     and_false (list_all (rule_agrees service opened seen end) (rules_for list entry)) _ here
 
-pub known_goes_on : (lists less : ℕ) (list : Listed) (entry init : ListedEntry) (before outer label : List ℕ) → lists ≡ suc less
-    → init_entry list entry.home ≡ Some init → outer ≡ behind entry.name before → known_within lists list entry before label ≡ true
-    → (list_any (is_known before label) (rules_for list entry) ≡ true) ⊎ (known_within less list init outer label ≡ true)
-known_goes_on zero less list entry init before outer label more found sees is = absurd (omega arith)
-known_goes_on (suc lists) less list entry init before outer label more found sees is =
+pub known_goes_on : (lists less : ℕ) (list : Listed) (entry init : ListedEntry) (service before outer label : List ℕ) → lists ≡ suc less
+    → init_entry list entry.home ≡ Some init → outer ≡ behind entry.name before → known_within lists list entry service before label ≡ true
+    → (list_any (is_known service before label) (rules_for list entry) ≡ true) ⊎ (known_within less list init service outer label ≡ true)
+known_goes_on zero less list entry init service before outer label more found sees is = absurd (omega arith)
+known_goes_on (suc lists) less list entry init service before outer label more found sees is =
     let same : less ≡ lists = omega arith in
-    let there = ap (λ n. known_within n list init outer label) same
-    ∙ (ap (λ o. known_within lists list init o label) sees
-    ∙ ap (λ o. unwrap_or (option_map (λ i. known_within lists list i (behind entry.name before) label) o) false) (sym found)) in
-    elim (or_cases (list_any (is_known before label) (rules_for list entry)) _ is) [
+    let there = ap (λ n. known_within n list init service outer label) same
+    ∙ (ap (λ o. known_within lists list init service o label) sees
+    ∙ ap (λ o. unwrap_or (option_map (λ i. known_within lists list i service (behind entry.name before) label) o) false) (sym found)) in
+    elim (or_cases (list_any (is_known service before label) (rules_for list entry)) _ is) [
       | inl here ↦ inl here
       | inr outward ↦ inr (there ∙ outward)
     ]
 
-pub known_ends : (lists : ℕ) (list : Listed) (entry : ListedEntry) (before label : List ℕ) → init_entry list entry.home ≡ None
-    → known_within lists list entry before label ≡ true → list_any (is_known before label) (rules_for list entry) ≡ true
-known_ends zero list entry before label none is = cc
-known_ends (suc lists) list entry before label none is =
-    elim (or_cases (list_any (is_known before label) (rules_for list entry)) _ is) [
+pub known_ends : (lists : ℕ) (list : Listed) (entry : ListedEntry) (service before label : List ℕ) → init_entry list entry.home ≡ None
+    → known_within lists list entry service before label ≡ true → list_any (is_known service before label) (rules_for list entry) ≡ true
+known_ends zero list entry service before label none is = cc
+known_ends (suc lists) list entry service before label none is =
+    elim (or_cases (list_any (is_known service before label) (rules_for list entry)) _ is) [
       | inl here ↦ here
       | inr outward ↦
-          (let lost = sym (ap (λ o. unwrap_or (option_map (λ i. known_within lists list i (behind entry.name before) label) o) false) none) ∙ outward in
+          (let lost = sym (ap (λ o. unwrap_or (option_map (λ i. known_within lists list i service (behind entry.name before) label) o) false) none) ∙ outward in
           cc)
     ]
 
-pub known_at : (list : Listed) (client : ℕ) (entry : ListedEntry) (label : List ℕ) → Some entry ≡ slice_get list.entries client
-    → known list client label ≡ true → known_within most_lists list entry [] label ≡ true
+pub known_at : (list : Listed) (client : ℕ) (entry : ListedEntry) (service label : List ℕ) → Some entry ≡ slice_get list.entries client
+    → known list client service label ≡ true → known_within most_lists list entry service [] label ≡ true
 unfolding known
-known_at list client entry label found is =
-    ap (λ o. unwrap_or (option_map (λ (e : ListedEntry). known_within most_lists list e [] label) o) false) found ∙ is
+known_at list client entry service label found is =
+    ap (λ o. unwrap_or (option_map (λ (e : ListedEntry). known_within most_lists list e service [] label) o) false) found ∙ is
 
-pub known_lost : (list : Listed) (client : ℕ) (label : List ℕ) → None ≡ slice_get list.entries client → known list client label ≡ true → ⊥
+pub known_lost : (list : Listed) (client : ℕ) (service label : List ℕ) → None ≡ slice_get list.entries client → known list client service label ≡ true → ⊥
 unfolding known
-known_lost list client label found is =
-    let lost = ap (λ o. unwrap_or (option_map (λ (e : ListedEntry). known_within most_lists list e [] label) o) false) found ∙ is in
+known_lost list client service label found is =
+    let lost = ap (λ o. unwrap_or (option_map (λ (e : ListedEntry). known_within most_lists list e service [] label) o) false) found ∙ is in
     cc
 
 pub read_is : (text label : List ℕ) (b : Bool) → Some label ≡ (if b then Some text else None) → (label ≡ text) × (b ≡ true)

@@ -1,6 +1,6 @@
 -- A few labels stand for all that can be given.
 use Rattle.std.proofs.Common.{◌≡◌, ℕ, ◌<◌, ◌≤◌, suc, ◌-◌, ◌+◌, Bool, true, false, ◌&&◌, List, [], ◌∷◌, ◌++◌, length, get_or, take, drop, Option, Some, None, refl, sym, subst, ap, ◌∙◌, nat_eq, nat_le, arith, ◌⊎◌, inl, inr}
-use Rattle.std.specs.Prelude.{All, Any}
+use Rattle.std.specs.Prelude.{All, Any, nat_lt}
 use Rattle.std.specs.List.{list_any, starts_with, ends_with}
 use Rattle.std.specs.Str.{bytes_eq}
 use Rattle.std.proofs.lemmas.Bool.Decides.{nat_tests}
@@ -11,6 +11,7 @@ use Rattle.std.proofs.lemmas.List.Folds.{Any-from_list_any}
 use Rattle.std.proofs.lemmas.List.Quantifiers.{Any-push}
 use Rattle.std.proofs.lemmas.Bool.{and_parts, or_cases}
 use Rattle.std.proofs.Math.Seq.{drop-append_seam}
+use Rattle.own_model.specs.Routes.{as_asked}
 use Rattle.own_model.specs.Listed.{Listed, ListedEntry, ListedRule, init_entry, rules_for}
 use Rattle.list_labels.specs.GivenLabels.{leads_to}
 use Rattle.list_labels.specs.Closure.{KeptLabel}
@@ -138,12 +139,15 @@ pub tail_held : (range : AskedLabel) (list : Listed) (client : ℕ) (service bef
     → AreJoined range list client service before [] asked kept → IsInRange range label → is_tail before label (Some asked) ≡ true
     → IsHeld list client service kept label
 tail_held range list client service before asked label kept joined given tail =
-    let both = and_parts (ends_with nat_eq asked label) (ends_with nat_eq before (take (length asked - length label) asked)) tail in
+    let longer = and_parts (nat_lt (length label) (length asked)) _ tail in
+    let both = and_parts (ends_with nat_eq asked label) (ends_with nat_eq before (take (length asked - length label) asked)) longer.1 in
     joined (take (length asked - length label) asked) label (ends_by asked label both.0) both.1 given
 
-pub known_either : (before label : List ℕ) (rule : ListedRule) → is_known before label rule ≡ true
+pub known_either : (service before label : List ℕ) (rule : ListedRule) → is_known service before label rule ≡ true
     → (is_whole before label rule.label ≡ true) ⊎ (is_tail before label rule.label_suffix ≡ true)
-known_either before label rule is = or_cases (is_whole before label rule.label) (is_tail before label rule.label_suffix) is
+known_either service before label rule is =
+    or_cases (is_whole before label rule.label) (is_tail before label rule.label_suffix)
+    (and_parts (as_asked (bytes_eq service) rule.service) _ is).1
 
 -- ---- all labels
 
@@ -200,7 +204,7 @@ served_held range list client service label asked firsts lasts first last kept g
 unknown_held : (range : AskedLabel) (list : Listed) (client : ℕ) (service : List ℕ) (asked firsts lasts : List AskedLabel) (kept : List KeptLabel)
     → asked ≡ asked_of range list client service → Serve is_first_for asked firsts → Serve is_last_for asked lasts
     → All (λ first. All (IsOffered range list client service kept first) lasts) firsts
-    → (label : List ℕ) → IsInRange range label → known list client label ≡ false → IsHeld list client service kept label
+    → (label : List ℕ) → IsInRange range label → known list client service label ≡ false → IsHeld list client service kept label
 unknown_held range list client service asked firsts lasts kept is first_for last_for offered label given lost =
     let found = between range list client service label asked is given lost in
     let place = found.2.first_at in
@@ -213,8 +217,8 @@ unknown_held range list client service asked firsts lasts kept is first_for last
 either_held : (range : AskedLabel) (list : Listed) (client : ℕ) (service : List ℕ) (asked firsts lasts : List AskedLabel) (kept : List KeptLabel)
     → asked ≡ asked_of range list client service → Serve is_first_for asked firsts → Serve is_last_for asked lasts
     → All (λ first. All (IsOffered range list client service kept first) lasts) firsts
-    → ((label : List ℕ) → IsInRange range label → known list client label ≡ true → IsHeld list client service kept label)
-    → (label : List ℕ) → IsInRange range label → (b : Bool) → known list client label ≡ b → IsHeld list client service kept label
+    → ((label : List ℕ) → IsInRange range label → known list client service label ≡ true → IsHeld list client service kept label)
+    → (label : List ℕ) → IsInRange range label → (b : Bool) → known list client service label ≡ b → IsHeld list client service kept label
 either_held range list client service asked firsts lasts kept is first_for last_for offered knows label given true known_is = knows label given known_is
 either_held range list client service asked firsts lasts kept is first_for last_for offered knows label given false lost =
     unknown_held range list client service asked firsts lasts kept is first_for last_for offered label given lost
@@ -223,13 +227,13 @@ pub stand_few : (range : AskedLabel) (list : Listed) (client : ℕ) (service : L
     → All (IsFollowed range list client service) kept → asked ≡ asked_of range list client service
     → Serve is_first_for asked firsts → Serve is_last_for asked lasts
     → All (λ first. All (IsOffered range list client service kept first) lasts) firsts
-    → ((label : List ℕ) → IsInRange range label → known list client label ≡ true → IsHeld list client service kept label)
+    → ((label : List ℕ) → IsInRange range label → known list client service label ≡ true → IsHeld list client service kept label)
     → RepresentRange range list client service kept
 stand_few range list client service asked firsts lasts kept told is first_for last_for offered knows =
     record {
       told = λ k d within. let one = told k d within in record { asked = one.asked; leads = one.leads };
       covers = λ label given. either_held range list client service asked firsts lasts kept is first_for last_for offered knows label given
-          (known list client label) refl;
+          (known list client service label) refl;
     }
 
 -- ---- as calls come one after another
@@ -271,50 +275,50 @@ pub known_held : (range : AskedLabel) (list : Listed) (client : ℕ) (service be
     → ((label : List ℕ) → IsInRange range label → is_whole before label whole ≡ true → IsHeld list client service old label)
     → Adds range list client service old new
     → ((label : List ℕ) → IsInRange range label → is_tail before label end ≡ true → IsHeld list client service new label)
-    → IsInRange range label → is_known before label rule ≡ true → IsHeld list client service new label
+    → IsInRange range label → is_known service before label rule ≡ true → IsHeld list client service new label
 known_held range list client service before rule whole end label old new whole_is end_is wholes adds tails given known =
-    elim (known_either before label rule known) [
+    elim (known_either service before label rule known) [
       | inl is ↦ held_on range list client service old new label adds (wholes label given (ap (λ o. is_whole before label o) whole_is ∙ is))
       | inr is ↦ tails label given (ap (λ o. is_tail before label o) end_is ∙ is)
     ]
 
 pub rules_more : (range : AskedLabel) (list : Listed) (client : ℕ) (service before : List ℕ) (rules : List ListedRule) (rule : ListedRule) (place next : ℕ)
     (old new : List KeptLabel) → next ≡ place + 1 → place < length rules → rule ≡ get_or rules place rule
-    → ((k : ℕ) (d : ListedRule) → k < place → (label : List ℕ) → IsInRange range label → is_known before label (get_or rules k d) ≡ true
+    → ((k : ℕ) (d : ListedRule) → k < place → (label : List ℕ) → IsInRange range label → is_known service before label (get_or rules k d) ≡ true
     → IsHeld list client service old label)
     → Adds range list client service old new
-    → ((label : List ℕ) → IsInRange range label → is_known before label rule ≡ true → IsHeld list client service new label)
-    → (k : ℕ) (d : ListedRule) → k < next → (label : List ℕ) → IsInRange range label → is_known before label (get_or rules k d) ≡ true
+    → ((label : List ℕ) → IsInRange range label → is_known service before label rule ≡ true → IsHeld list client service new label)
+    → (k : ℕ) (d : ListedRule) → k < next → (label : List ℕ) → IsInRange range label → is_known service before label (get_or rules k d) ≡ true
     → IsHeld list client service new label
 rules_more range list client service before rules rule place next old new is within at each adds here k d less label given known =
     elim (below_or_at k place (omega arith)) [
       | inl below ↦ held_on range list client service old new label adds (each k d below label given known)
       | inr same ↦ here label given
-          (ap (λ r. is_known before label r)
+          (ap (λ r. is_known service before label r)
           (at ∙ (get_or_default rules place rule d within ∙ ap (λ n. get_or rules n d) (sym same))) ∙ known)
     ]
 
 pub rules_all : (range : AskedLabel) (list : Listed) (client : ℕ) (service before : List ℕ) (rules : List ListedRule) (place : ℕ) (kept : List KeptLabel)
     → length rules ≤ place
-    → ((k : ℕ) (d : ListedRule) → k < place → (label : List ℕ) → IsInRange range label → is_known before label (get_or rules k d) ≡ true
+    → ((k : ℕ) (d : ListedRule) → k < place → (label : List ℕ) → IsInRange range label → is_known service before label (get_or rules k d) ≡ true
     → IsHeld list client service kept label)
-    → (label : List ℕ) → IsInRange range label → list_any (is_known before label) rules ≡ true → IsHeld list client service kept label
+    → (label : List ℕ) → IsInRange range label → list_any (is_known service before label) rules ≡ true → IsHeld list client service kept label
 rules_all range list client service before rules place kept all each label given any =
-    let one = Any-from_list_any (is_known before label) rules any in
+    let one = Any-from_list_any (is_known service before label) rules any in
     let within : one.0 < length rules = one.2 in
-    each one.0 one.1 (omega arith) label given (ap (λ r. is_known before label r) one.3 ∙ one.4)
+    each one.0 one.1 (omega arith) label given (ap (λ r. is_known service before label r) one.3 ∙ one.4)
 
 pub known_on : (lists less : ℕ) (range : AskedLabel) (list : Listed) (client : ℕ) (service : List ℕ) (entry init : ListedEntry) (before outer : List ℕ)
     (rules : List ListedRule) (old new : List KeptLabel) → lists ≡ suc less → init_entry list entry.home ≡ Some init
     → outer ≡ behind entry.name before → rules ≡ rules_for list entry
-    → ((label : List ℕ) → IsInRange range label → list_any (is_known before label) rules ≡ true → IsHeld list client service old label)
+    → ((label : List ℕ) → IsInRange range label → list_any (is_known service before label) rules ≡ true → IsHeld list client service old label)
     → Adds range list client service old new
-    → ((label : List ℕ) → IsInRange range label → known_within less list init outer label ≡ true → IsHeld list client service new label)
-    → (label : List ℕ) → IsInRange range label → known_within lists list entry before label ≡ true → IsHeld list client service new label
+    → ((label : List ℕ) → IsInRange range label → known_within less list init service outer label ≡ true → IsHeld list client service new label)
+    → (label : List ℕ) → IsInRange range label → known_within lists list entry service before label ≡ true → IsHeld list client service new label
 known_on lists less range list client service entry init before outer rules old new more found sees rules_are here adds outward label given known =
-    elim (known_goes_on lists less list entry init before outer label more found sees known) [
+    elim (known_goes_on lists less list entry init service before outer label more found sees known) [
       | inl is ↦ held_on range list client service old new label adds
-          (here label given (ap (λ r. list_any (is_known before label) r) rules_are ∙ is))
+          (here label given (ap (λ r. list_any (is_known service before label) r) rules_are ∙ is))
       | inr is ↦ outward label given is
     ]
 

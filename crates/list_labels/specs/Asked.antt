@@ -1,5 +1,5 @@
 -- The conditions of a client's rules on a label that isn't empty: how it begins and ends, or the whole label.
-use Rattle.std.specs.Prelude.{◌≡◌, ℕ, ◌+◌, ◌-◌, ◌<◌, ◌≤◌, zero, suc, Bool, true, false, not, ◌&&◌, ◌||◌, List, [], ◌∷◌, ◌++◌, length, drop, take, codes, nat_eq, nat_le, if◌then◌else◌, Option, Some, None, All, Any}
+use Rattle.std.specs.Prelude.{◌≡◌, ℕ, ◌+◌, ◌-◌, ◌<◌, ◌≤◌, zero, suc, Bool, true, false, not, ◌&&◌, ◌||◌, List, [], ◌∷◌, ◌++◌, length, drop, take, codes, nat_eq, nat_le, nat_lt, if◌then◌else◌, Option, Some, None, All, Any}
 use Rattle.std.specs.List.{list_all, list_any, starts_with, ends_with, slice_get}
 use Rattle.std.specs.Option.{option_map, unwrap_or}
 use Rattle.std.specs.Str.{bytes_eq}
@@ -87,28 +87,32 @@ agrees list client service front label end =
 
 -- ---- labels that a rule knows by themselves
 
--- an end that is asked is an end of the names before the label, followed by the label
+-- an end that is asked is a part of the names before the label, followed by the label
 abbrev pub is_tail : List ℕ → List ℕ → Option (List ℕ) → Bool
 is_tail before label None = false
 is_tail before label (Some asked) =
-    ends_with nat_eq asked label && ends_with nat_eq before (take (length asked - length label) asked)
+    nat_lt (length label) (length asked)
+    && (ends_with nat_eq asked label && ends_with nat_eq before (take (length asked - length label) asked))
 
 abbrev pub is_whole : List ℕ → List ℕ → Option (List ℕ) → Bool
 is_whole before label None = false
 is_whole before label (Some asked) = bytes_eq asked (before ++ label)
 
-abbrev pub is_known : List ℕ → List ℕ → ListedRule → Bool
-is_known before label rule = is_whole before label rule.label || is_tail before label rule.label_suffix
+-- a rule for the service knows a label by itself
+abbrev pub is_known : List ℕ → List ℕ → List ℕ → ListedRule → Bool
+is_known service before label rule =
+    as_asked (bytes_eq service) rule.service
+    && (is_whole before label rule.label || is_tail before label rule.label_suffix)
 
-abbrev pub known_within : ℕ → Listed → ListedEntry → List ℕ → List ℕ → Bool
-known_within zero list entry before label = false
-known_within (suc lists) list entry before label =
-    list_any (is_known before label) (rules_for list entry)
-    || unwrap_or (option_map (λ init. known_within lists list init (behind entry.name before) label) (init_entry list entry.home)) false
+abbrev pub known_within : ℕ → Listed → ListedEntry → List ℕ → List ℕ → List ℕ → Bool
+known_within zero list entry service before label = false
+known_within (suc lists) list entry service before label =
+    list_any (is_known service before label) (rules_for list entry)
+    || unwrap_or (option_map (λ init. known_within lists list init service (behind entry.name before) label) (init_entry list entry.home)) false
 
-unfoldable pub known : Listed → ℕ → List ℕ → Bool
-known list client label =
-    unwrap_or (option_map (λ entry. known_within most_lists list entry [] label) (slice_get list.entries client)) false
+unfoldable pub known : Listed → ℕ → List ℕ → List ℕ → Bool
+known list client service label =
+    unwrap_or (option_map (λ entry. known_within most_lists list entry service [] label) (slice_get list.entries client)) false
 
 -- ---- what is offered
 

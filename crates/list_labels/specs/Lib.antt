@@ -1,8 +1,10 @@
+pub mod Alike
 pub mod Asked
 pub mod Closure
 pub mod DecidingRules
 pub mod GivenLabels
 pub mod Keys
+pub mod KnownLabels
 pub mod LabelRanges
 pub mod LabelSets
 pub mod Representatives

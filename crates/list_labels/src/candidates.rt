@@ -43,8 +43,8 @@ fn offer_asked(
     requires client { search.requests.client < length search.requests.list.now.entries }
     requires told { AreFound search kept.old.items }
     requires known { (label : List ℕ) → IsInRange search.range.now label → known
-        search.requests.list.now search.requests.client label ≡ true → IsRepresented search
-        kept.old.items label }
+        search.requests.list.now search.requests.client search.requests.service.now label ≡ true →
+        IsRepresented search kept.old.items label }
     ensures { IfOk result (λ done. done ≡ true → RepresentFound search.entry kept.new.items) }
 {
     let asked = asked_of(alloc, search.requests, search.range)?;

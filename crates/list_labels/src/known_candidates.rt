@@ -25,8 +25,8 @@ pub(crate) fn offer_known(
     requires told { AreFound search kept.old.items }
     ensures adds { OnOk result (AddsFound search.entry kept.old.items kept.new.items) }
     ensures held { OnOk result ((label : List ℕ) → IsInRange search.entry.range.now label → known
-        search.entry.requests.list.now search.entry.requests.client label ≡ true → IsRepresented
-        search.entry kept.new.items label) }
+        search.entry.requests.list.now search.entry.requests.client search.entry.requests.service.now
+        label ≡ true → IsRepresented search.entry kept.new.items label) }
 {
     match client_entry(search.requests) {
         Some(entry) => offer_known_within(alloc, kept, search, MOST_LISTS, entry, &[]),
@@ -48,8 +48,8 @@ fn offer_known_within(
     requires before { length before.now + lists * 36 ≤ 208 }
     ensures adds { OnOk result (AddsFound search.entry kept.old.items kept.new.items) }
     ensures held { OnOk result ((label : List ℕ) → IsInRange search.entry.range.now label →
-        known_within lists search.entry.requests.list.now entry.now before.now label ≡ true →
-        IsRepresented search.entry kept.new.items label) }
+        known_within lists search.entry.requests.list.now entry.now search.entry.requests.service.now
+        before.now label ≡ true → IsRepresented search.entry kept.new.items label) }
 {
     if lists == 0 {
         return Ok(());
@@ -82,8 +82,8 @@ fn offer_known_by(
     requires told { AreFound search kept.old.items }
     ensures adds { OnOk result (AddsFound search.entry kept.old.items kept.new.items) }
     ensures held { OnOk result ((label : List ℕ) → IsInRange search.entry.range.now label → list_any
-        (is_known before.now label) rules.now ≡ true → IsRepresented search.entry kept.new.items
-        label) }
+        (is_known search.entry.requests.service.now before.now label) rules.now ≡ true →
+        IsRepresented search.entry kept.new.items label) }
 {
     for place in 0..rules.len() {
         offer_known_of(alloc, kept, search, &rules[place], before)?;
@@ -103,7 +103,8 @@ fn offer_known_of(
     requires told { AreFound search kept.old.items }
     ensures adds { OnOk result (AddsFound search.entry kept.old.items kept.new.items) }
     ensures held { OnOk result ((label : List ℕ) → IsInRange search.entry.range.now label → is_known
-        before.now label rule.now ≡ true → IsRepresented search.entry kept.new.items label) }
+        search.entry.requests.service.now before.now label rule.now ≡ true → IsRepresented search.entry
+        kept.new.items label) }
 {
     offer_whole(alloc, kept, search, rule.label(), before)?;
     offer_tails(alloc, kept, search, rule.label_suffix(), before)

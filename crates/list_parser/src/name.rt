@@ -1,5 +1,5 @@
 //! Names, paths and labels, which own their bytes.
-ghost use Rattle.std.specs.Prelude.{◌≡◌, ◌+◌, ◌≤◌, length};
+ghost use Rattle.std.specs.Prelude.{◌≡◌, ◌+◌, ◌≤◌, Some, length};
 ghost use Rattle.arrayvec.specs.ArrayString.{array_string_len};
 ghost use Rattle.list_parser.specs.Entries.{behind};
 ghost use Rattle.list_parser.specs.Members.{name_in};
@@ -66,6 +66,8 @@ impl Name {
 }
 
 impl fmt::Display for Name {
+    ghost output = { λ name. Some name };
+
     fn fmt<W: fmt::Write>(&self, f: &mut fmt::Formatter<W>) -> fmt::Result {
         f.write_str(self.text.as_str())
     }
@@ -135,6 +137,8 @@ impl Path {
 }
 
 impl fmt::Display for Path {
+    ghost output = { λ path. Some path };
+
     fn fmt<W: fmt::Write>(&self, f: &mut fmt::Formatter<W>) -> fmt::Result {
         f.write_str(self.text.as_str())
     }

@@ -1,3 +1,5 @@
 pub mod Left
+pub mod PartTexts
+pub mod QuotedTexts
 pub mod Steps
 pub mod Texts

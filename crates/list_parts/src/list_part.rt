@@ -1,6 +1,8 @@
 //! Parts of a start list, as diagnostics name them.
-ghost use Rattle.std.specs.Prelude.{◌≡◌, ◌≤◌, IfOk};
+ghost use Rattle.std.specs.Prelude.{◌≡◌, ◌≤◌, ◌++◌, IfOk, Some, decimal};
+ghost use Rattle.std.specs.Fmt.{WritesOnOk};
 ghost use Rattle.std.specs.List.{slice_get};
+ghost use Rattle.list_parts.specs.PartTexts.{element_text, part_text, step_text, steps_text};
 ghost use Rattle.list_parts.specs.Steps.{part_of, place_in, rule_at, rule_part, steps_above, steps_to, steps_within};
 
 use crate::quoted_text::show_within;
@@ -36,6 +38,9 @@ impl EntryStep {
 }
 
 impl fmt::Display for EntryStep {
+    ghost output = { λ step. Some (step_text step) };
+
+    #[tactic(auto, unfolding(crate::specs::PartTexts::step_text))]
     fn fmt<W: fmt::Write>(&self, f: &mut fmt::Formatter<W>) -> fmt::Result {
         match &self.name {
             Some(name) => write!(f, "start[{}] \"{name}\"", self.place),
@@ -99,10 +104,13 @@ impl EntrySteps {
 }
 
 impl fmt::Display for EntrySteps {
+    ghost output = { λ steps. Some (steps_text steps) };
+
     fn fmt<W: fmt::Write>(&self, f: &mut fmt::Formatter<W>) -> fmt::Result {
-        for (place, step) in self.steps.as_slice().iter().enumerate() {
-            let before = if place > 0 { ": config: " } else { "" };
-            show_within(f, before, step, "")?;
+        let mut before = "";
+        for step in self.as_slice() {
+            write!(f, "{before}{step}")?;
+            before = ": config: ";
         }
         Ok(())
     }
@@ -161,6 +169,8 @@ impl ListPart {
 }
 
 impl fmt::Display for ListPart {
+    ghost output = { λ part. Some (part_text part) };
+
     fn fmt<W: fmt::Write>(&self, f: &mut fmt::Formatter<W>) -> fmt::Result {
         match self {
             ListPart::Text(line, column) => write!(f, "line {line}, column {column}"),
@@ -187,7 +197,9 @@ fn show_element<W: fmt::Write>(
     steps: &EntrySteps,
     member: &str,
     place: usize,
-) -> fmt::Result {
+) -> fmt::Result
+    ensures { WritesOnOk W.write_str_gives f.old result (element_text steps.now member.now place) f.new }
+{
     write!(f, "{steps}{member}[{place}]")
 }
 

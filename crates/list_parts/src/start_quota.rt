@@ -1,5 +1,5 @@
 //! The RAM and the capabilities that inits have left while a machine starts.
-ghost use Rattle.std.specs.Prelude.{◌≡◌, ◌+◌, ◌<◌, ◌∷◌, ◌++◌, [], IfOk, IfSome, length, nat_lt, not};
+ghost use Rattle.std.specs.Prelude.{◌≡◌, ◌+◌, ◌<◌, ◌∷◌, ◌++◌, [], IfOk, IfSome, Some, length, nat_lt, not};
 ghost use Rattle.std.specs.Option.{is_some, option_map};
 ghost use Rattle.own_model.specs.Account.{parted_with, shortage};
 ghost use Rattle.own_model.specs.Listed.{start_list_of, start_of};
@@ -7,6 +7,7 @@ ghost use Rattle.own_model.specs.StartList.{init_account, init_at, inits_kept, m
 ghost use Rattle.list_parser.specs.Quota.{quota_fault};
 ghost use Rattle.list_parser.specs.declared.fault.BootFault.TheVariants.{QuotaExceeded};
 ghost use Rattle.list_parts.specs.Left.{budget_of, first_shortfall, lack_of};
+ghost use Rattle.list_parts.specs.PartTexts.{amount_text, quota_text};
 
 use crate::budget_amount::BudgetAmount;
 use crate::list_part::{EntrySteps, steps_to};
@@ -104,6 +105,8 @@ impl StartQuota {
 
 /// Writes the RAM and the number of capabilities.
 impl fmt::Display for StartQuota {
+    ghost output = { λ left. Some (quota_text left.ram_limit left.caps_limit) };
+
     fn fmt<W: fmt::Write>(&self, f: &mut fmt::Formatter<W>) -> fmt::Result {
         write!(f, "{}, {} caps", Amount(self.ram), self.caps)
     }
@@ -114,6 +117,8 @@ impl fmt::Display for StartQuota {
 pub struct Amount(pub u64);
 
 impl fmt::Display for Amount {
+    ghost output = { λ amount. Some (amount_text amount.0) };
+
     fn fmt<W: fmt::Write>(&self, f: &mut fmt::Formatter<W>) -> fmt::Result {
         if self.0 > 0 && self.0 % 1024 == 0 {
             write!(f, "{}K", self.0 / 1024)

@@ -7,7 +7,7 @@ use Rattle.std.proofs.lemmas.List.Elements.{All-append, All-contains, All-map, A
 use Rattle.list_labels.specs.Closure.{KeptLabel}
 use Rattle.list_labels.specs.GivenLabels.{IsGiven}
 use Rattle.list_labels.specs.Representatives.{IsTold}
-use Rattle.list_classes.specs.declared.label_classes.LabelClass.{LabelClass}
+use Rattle.list_classes.specs.declared.label_class.LabelClass.{LabelClass}
 use Rattle.list_labels.specs.declared.session_requests.SessionRequests.{SessionRequests}
 use Rattle.list_labels.proofs.AskedLemmas.{is_given_then}
 use Rattle.list_reach.specs.Comparisons.{AreRepresentatives, IsComparison, IsLeast, IsRouted, IsShortest, Represents, RoutedLabel, class_routes, is_shorter, kept_routes, routed_on, routes_of}

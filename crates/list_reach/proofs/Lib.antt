@@ -7,3 +7,5 @@ pub mod WaysLemmas
 pub mod WishLemmas
 pub mod NamedLemmas
 pub mod ComparisonLemmas
+pub mod TableTextLemmas
+mod RouteTextLemmas

@@ -5,7 +5,7 @@ use Rattle.list_labels.specs.Closure.{KeptLabel}
 use Rattle.list_labels.specs.GivenLabels.{IsGiven, leads_to}
 use Rattle.list_labels.specs.Representatives.{RepresentAll}
 use Rattle.list_reach.specs.declared.comparison.LabelMove.{LabelMove}
-use Rattle.list_classes.specs.declared.label_classes.LabelClass.{LabelClass}
+use Rattle.list_classes.specs.declared.label_class.LabelClass.{LabelClass}
 use Rattle.list_labels.specs.declared.session_requests.SessionRequests.{SessionRequests}
 
 -- the entry to which requests with a label are routed, if the client is there

@@ -6,7 +6,7 @@ use Rattle.csv.specs.Writing.{default_writer, row_text}
 use Rattle.own_model.specs.Listed.{Listed}
 use Rattle.list_reach.specs.declared.client_reach.Reach.{Reach}
 use Rattle.list_reach.specs.declared.client_reach.Reach.TheVariants.{Always, By, Never}
-use Rattle.list_reach.specs.declared.reach_table.ReachCell.{ReachCell}
+use Rattle.list_reach.specs.declared.reach_cell.ReachCell.{ReachCell}
 
 -- the path of the component of a number
 abbrev pub path_of : Listed → ℕ → List ℕ

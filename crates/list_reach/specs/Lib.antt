@@ -5,8 +5,12 @@ pub mod Table
 pub mod Additions
 pub mod Rows
 pub mod Csv
+pub mod CellTexts
+pub mod NamedSets
+pub mod TableTexts
 pub mod RouteQuery
 pub mod RuleTexts
+pub mod RouteTexts
 pub mod ScriptDecisions
 pub mod AllPaths
 pub mod Paths

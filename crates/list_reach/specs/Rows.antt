@@ -5,7 +5,7 @@ use Rattle.own_model.specs.Listed.{Listed, ListedEntry, offers, services_of}
 use Rattle.list_parser.specs.Depth.{runs_script}
 use Rattle.list_reach.specs.Additions.{AddsBy}
 use Rattle.list_reach.specs.Table.{IsTrue}
-use Rattle.list_reach.specs.declared.reach_table.ReachCell.{ReachCell}
+use Rattle.list_reach.specs.declared.reach_cell.ReachCell.{ReachCell}
 
 -- a script, a service, and a server
 pub record Row : Type 0 where

@@ -4,7 +4,7 @@ use Rattle.own_model.specs.Listed.{Listed}
 use Rattle.list_labels.specs.RouteSteps.{route_steps_of}
 use Rattle.list_labels.specs.GivenLabels.{IsGiven, leads_to}
 use Rattle.list_reach.specs.ClientReach.{DescribesReach}
-use Rattle.list_reach.specs.declared.reach_table.ReachCell.{ReachCell}
+use Rattle.list_reach.specs.declared.reach_cell.ReachCell.{ReachCell}
 use Rattle.list_reach.specs.declared.reach_path_list.ReachPath.{ReachPath}
 
 -- a cell states whether its client's requests for its service are routed to its server

@@ -4,7 +4,7 @@ ghost use Rattle.csv.specs.Writing.{default_writer, row_text};
 ghost use Rattle.list_reach.specs.Csv.{csv_row, csv_text, path_of};
 
 use crate::client_reach::Reach;
-use crate::reach_table::ReachCell;
+use crate::reach_cell::ReachCell;
 use csv::WriterBuilder;
 use list_parser::StartList;
 use std::alloc::{AllocError, Global};

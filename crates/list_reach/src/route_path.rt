@@ -1,8 +1,12 @@
 //! The route path of one session request: which rules decide it, list by list outward, and the server to which they route it.
-ghost use Rattle.std.specs.Prelude.{◌≡◌, ◌<◌, ◌≤◌, length, IfErr, IfOk, IfSome};
+ghost use Rattle.std.specs.Prelude.{◌≡◌, ◌<◌, ◌≤◌, ◌++◌, length, IfErr, IfOk, IfSome, Some};
+ghost use Rattle.std.specs.Fmt.{WritesOnOk};
+ghost use Rattle.std.specs.Option.{option_copied, option_map};
 ghost use Rattle.list_labels.specs.RouteSteps.{route_steps_of};
 ghost use Rattle.list_labels.specs.GivenLabels.{leads_to};
+ghost use Rattle.list_parser.specs.View.{model_target};
 ghost use Rattle.list_reach.specs.RouteQuery.{Answers, IsWhy, script_named};
+ghost use Rattle.list_reach.specs.RouteTexts.{end_line, route_text, rule_if, seen_text, step_line, target_at, target_text};
 
 use crate::component_numbers::{ComponentKind, is_sought};
 use crate::texts::{EntryRuleText, PathText};
@@ -11,7 +15,7 @@ use list_parser::{ListEntry, Rule, StartList, Target};
 use list_routes::route;
 use session_proto::SessionArgs;
 use std::alloc::{AllocError, Global};
-use std::fmt;
+use std::fmt::{self, Display};
 
 /// The route path of a session request: its steps from the client's own list outward, and the component to which it is routed.
 #[derive(Drop)]
@@ -35,6 +39,7 @@ impl<'a> RoutePath<'a> {
     ) -> Result<RoutePath<'a>, AllocError>
         requires client { client < length list.now.entries }
         requires label { length label.now ≤ 64 }
+        ensures list { IfOk result (λ course. course.list.now ≡ list.now) }
         ensures client { IfOk result (λ course. course.client ≡ client) }
         ensures child { IfOk result (λ course. course.child
             ≡ leads_to list.now client service.now label.now) }
@@ -128,33 +133,39 @@ fn script_named(list: &StartList, path: &[u8]) -> Option<usize>
 
 /// Writes a line for each list, and then the component to which the request is routed, or the rule by which it is denied.
 impl fmt::Display for RoutePath<'_> {
+    ghost output = { λ course. Some (route_text course) };
+
     fn fmt<W: fmt::Write>(&self, f: &mut fmt::Formatter<W>) -> fmt::Result {
         let list = self.list;
+        let hops = self.hops.as_slice();
         let mut asks = list.entries().get(self.client);
         let mut last = None;
-        for hop in self.hops.as_slice() {
-            if let Some(entry) = asks {
-                show_hop(f, list, entry, hop)?;
-                last = Some(EntryRuleText::of(entry, hop.rule()));
-                asks = list.init_entry(entry.home());
-            }
+        for place in 0..hops.len() {
+            let Some(entry) = asks else {
+                return show_end(f, list, self.child, last);
+            };
+            let hop = &hops[place];
+            show_hop(f, list, entry, hop)?;
+            last = Some(EntryRuleText::of(entry, hop.rule()));
+            asks = list.init_entry(entry.home());
         }
-        self.show_end(f, last)
+        show_end(f, list, self.child, last)
     }
 }
 
-impl RoutePath<'_> {
-    // The component to which the request is routed, or the rule by which it is denied.
-    fn show_end<W: fmt::Write>(
-        &self,
-        f: &mut fmt::Formatter<W>,
-        last: Option<EntryRuleText<'_>>,
-    ) -> fmt::Result {
-        match (self.child, last) {
-            (Some(child), _) => writeln!(f, "leads to {}", PathText::of(self.list, child)),
-            (None, Some(last)) => writeln!(f, "denied by {last}"),
-            (None, None) => f.write_str("denied by \n"),
-        }
+// The component to which the request is routed, or the rule by which it is denied.
+fn show_end<W: fmt::Write>(
+    f: &mut fmt::Formatter<W>,
+    list: &StartList,
+    child: Option<usize>,
+    last: Option<EntryRuleText<'_>>,
+) -> fmt::Result
+    ensures { WritesOnOk W.write_str_gives f.old result (end_line list.now child (rule_if last.entry)) f.new }
+{
+    match (child, last) {
+        (Some(child), _) => writeln!(f, "leads to {}", PathText::of(list, child)),
+        (None, Some(last)) => writeln!(f, "denied by {last}"),
+        (None, None) => f.write_str("denied by \n"),
     }
 }
 
@@ -164,15 +175,37 @@ fn show_hop<W: fmt::Write>(
     list: &StartList,
     entry: &ListEntry,
     hop: &RouteStep,
-) -> fmt::Result {
-    let rule = EntryRuleText::of(entry, hop.rule());
-    let seen = ByteText::of(hop.seen());
-    write!(f, "{rule}, where the label is \"{seen}\"")?;
-    show_target(f, target_at(list.rules_of(entry), hop.rule()))
+) -> fmt::Result
+    ensures { WritesOnOk W.write_str_gives f.old result (step_line list.now (entry.now, hop.now)) f.new }
+{
+    EntryRuleText::of(entry, hop.rule()).fmt(f)?;
+    show_decision(f, list.rules_of(entry), hop)
+}
+
+// The label as a list sees it, and the target of the rule that decides.
+fn show_decision<W: fmt::Write>(
+    f: &mut fmt::Formatter<W>,
+    rules: &[Rule],
+    hop: &RouteStep,
+) -> fmt::Result
+    ensures { WritesOnOk W.write_str_gives f.old result
+        (seen_text hop.now.seen ++ target_text (target_at rules.now hop.now.rule)) f.new }
+{
+    show_seen(f, hop.seen())?;
+    show_target(f, target_at(rules, hop.rule()))
+}
+
+// The label as a list sees it.
+fn show_seen<W: fmt::Write>(f: &mut fmt::Formatter<W>, seen: &[u8]) -> fmt::Result
+    ensures { WritesOnOk W.write_str_gives f.old result (seen_text seen.now) f.new }
+{
+    write!(f, ", where the label is \"{}\"", ByteText::of(seen))
 }
 
 // The target of the rule at a place, if there is one.
-fn target_at(rules: &[Rule], place: Option<usize>) -> Option<&Target> {
+fn target_at(rules: &[Rule], place: Option<usize>) -> Option<&Target>
+    ensures { option_map model_target (option_copied result) ≡ target_at rules.now place }
+{
     match place {
         Some(place) => match rules.get(place) {
             Some(rule) => Some(rule.target()),
@@ -183,9 +216,12 @@ fn target_at(rules: &[Rule], place: Option<usize>) -> Option<&Target> {
 }
 
 // The target of a rule, and the end of the line.
-fn show_target<W: fmt::Write>(f: &mut fmt::Formatter<W>, target: Option<&Target>) -> fmt::Result {
+fn show_target<W: fmt::Write>(f: &mut fmt::Formatter<W>, target: Option<&Target>) -> fmt::Result
+    ensures { WritesOnOk W.write_str_gives f.old result
+        (target_text (option_map model_target (option_copied target.entry))) f.new }
+{
     match target {
-        Some(Target::Child(name)) => writeln!(f, ": child {name}"),
+        Some(Target::Child(name)) => writeln!(f, ": child {}", name.as_str()),
         Some(Target::AnyChild) => f.write_str(": any-child\n"),
         Some(Target::Parent) => f.write_str(": parent\n"),
         None => f.write_str("\n"),

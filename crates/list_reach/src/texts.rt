@@ -1,9 +1,10 @@
 //! Pieces of lines: components by their paths, and rules by their places.
 ghost use Rattle.std.specs.Prelude.{◌≡◌, Some};
+ghost use Rattle.list_reach.specs.Csv.{path_of};
 ghost use Rattle.list_reach.specs.RuleTexts.{entry_rule_text, rule_text};
 
 use list_parser::{ListEntry, StartList};
-use std::fmt::{self, Display};
+use std::fmt;
 
 /// The path of a component of a start list, by the component's number.
 #[derive(Clone, Copy)]
@@ -14,15 +15,20 @@ pub(crate) struct PathText<'a> {
 
 impl<'a> PathText<'a> {
     /// Returns the text of the path of the component of a number.
-    pub(crate) fn of(list: &'a StartList, number: usize) -> PathText<'a> {
+    pub(crate) fn of(list: &'a StartList, number: usize) -> PathText<'a>
+        ensures list { result.list.now ≡ list.now }
+        ensures number { result.number ≡ number }
+    {
         PathText { list, number }
     }
 }
 
 impl fmt::Display for PathText<'_> {
+    ghost output = { λ text. Some (path_of text.list.now text.number) };
+
     fn fmt<W: fmt::Write>(&self, f: &mut fmt::Formatter<W>) -> fmt::Result {
         match self.list.entries().get(self.number) {
-            Some(entry) => entry.to_path().fmt(f),
+            Some(entry) => f.write_str(entry.to_path().as_str()),
             None => Ok(()),
         }
     }

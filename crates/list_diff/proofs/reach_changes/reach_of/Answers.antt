@@ -1,7 +1,7 @@
 -- By the numbers of the script and the server.
 use Rattle.std.proofs.Common.{◌∙◌, ap}
 use Rattle.std.specs.Option.{option_map}
-use Rattle.list_reach.specs.declared.reach_table.ReachCell.{ReachCell}
+use Rattle.list_reach.specs.declared.reach_cell.ReachCell.{ReachCell}
 use Rattle.list_diff.specs.Changes.{place_of}
 use Rattle.list_diff.specs.Reaches.{cell_at}
 use Rattle.list_diff.proofs.reach_changes.reach_of.Goals as goal

@@ -21,6 +21,6 @@ returns-in-Some-clause-held t c =
 pub returns-in-None-clause-held : goal.returns-in-None-clause-held
 returns-in-None-clause-held t c = λ label given is.
     c.in_ok-offer_known_by.ensures.held label given
-    (ap (λ r. list_any (is_known c.args.before.now label) r) c.rules_of.ensures
-    ∙ known_ends c.args.lists c.args.search.requests.list.now c.args.entry.now c.args.before.now label
+    (ap (λ r. list_any (is_known c.args.search.requests.service.now c.args.before.now label) r) c.rules_of.ensures
+    ∙ known_ends c.args.lists c.args.search.requests.list.now c.args.entry.now c.args.search.requests.service.now c.args.before.now label
     (sym (c.in-None.ensures ∙ ap (λ n. init_entry c.args.search.requests.list.now n) c.home.ensures)) is)

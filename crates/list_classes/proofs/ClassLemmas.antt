@@ -1,0 +1,298 @@
+-- What holds of the classes of labels that are made of all that rules ask for.
+use Rattle.std.proofs.Common.{◌≡◌, ℕ, zero, suc, ◌<◌, ◌≤◌, Bool, true, false, ◌&&◌, ◌||◌, List, [], ◌∷◌, ◌++◌, length, nat_eq, get_or, Option, Some, None, refl, sym, subst, ap, ◌∙◌, arith, inl, inr}
+use Rattle.std.specs.Prelude.{Contains, map, not, if◌then◌else◌}
+use Rattle.std.specs.List.{slice_get}
+use Rattle.std.specs.Global.{Vec}
+use Rattle.std.specs.Str.{bytes_eq}
+use Rattle.std.proofs.lemmas.Bool.{and_from, and_parts, both_ways, cases_lt, false_from_ne_true, or_cases, or_left, or_right}
+use Rattle.std.proofs.lemmas.Bool.Decides.{nat_tests}
+use Rattle.std.proofs.lemmas.List.{get_or_default}
+use Rattle.std.proofs.lemmas.List.Elements.{Contains-append_cases}
+use Rattle.std.proofs.lemmas.List.Folds.{Any-from_list_any, list_any-append}
+use Rattle.std.proofs.lemmas.Option.{get_or_from_slice_get, slice_get_within}
+use Rattle.std.proofs.lemmas.Slice.Eq.{bytes_eq-Decides}
+use Rattle.list_labels.specs.Alike.{IsAlike, IsOfTexts}
+use Rattle.list_labels.specs.Asked.{is_given, known}
+use Rattle.list_labels.specs.GivenLabels.{IsGiven}
+use Rattle.list_labels.specs.KnownLabels.{AddsLabels, is_among, is_filled}
+use Rattle.list_labels.specs.LabelRanges.{AskedLabel}
+use Rattle.list_labels.specs.declared.session_requests.SessionRequests.{SessionRequests}
+use Rattle.list_labels.proofs.AlikeLemmas.{texts_alike}
+use Rattle.list_labels.proofs.AskedLemmas.{given_is}
+use Rattle.list_classes.specs.Trees.{IsLongest, has_at, text_at}
+use Rattle.list_classes.specs.Classes.{AreClasses, AreListed, IsLongestIn, is_own, is_single}
+use Rattle.list_classes.specs.Making.{AreApart, AreGiven, AreMade, AreRoutedAlike, AreSingle, HaveAsked, HaveWitnesses, IsMade, asked_for, has_single, is_same_class, known_for}
+use Rattle.list_classes.specs.declared.text_tree.TextTree.{TextTree}
+use Rattle.list_classes.specs.declared.text_tree.LabelSide.{LabelSide}
+use Rattle.list_classes.specs.declared.text_tree.LabelSide.TheVariants.{Front, End}
+use Rattle.list_classes.specs.declared.label_class.LabelClass.{LabelClass}
+
+-- ---- well formed
+
+made_at : (fronts ends : TextTree) (known : List (List ℕ)) (classes : List LabelClass) (place : ℕ) (class : LabelClass)
+    → AreMade fronts ends known classes → slice_get classes place ≡ Some class → IsMade fronts ends known class
+made_at fronts ends known classes place class made there =
+    subst (λ c. IsMade fronts ends known c) (get_or_from_slice_get classes place class class there)
+    (made.made place class (slice_get_within classes place class there))
+
+apart_at : (classes : List LabelClass) (place other : ℕ) (class another : LabelClass) → AreApart classes → place < other
+    → slice_get classes place ≡ Some class → slice_get classes other ≡ Some another → is_same_class class another ≡ false
+apart_at classes place other class another apart less there at =
+    subst (λ a. is_same_class class a ≡ false) (get_or_from_slice_get classes other another class at)
+    (subst (λ c. is_same_class c (get_or classes other class) ≡ false) (get_or_from_slice_get classes place class class there)
+    (apart place other class less (slice_get_within classes other another at)))
+
+once : (classes : List LabelClass) (place other : ℕ) (class another : LabelClass) → AreApart classes
+    → slice_get classes place ≡ Some class → slice_get classes other ≡ Some another → is_same_class class another ≡ true
+    → is_same_class another class ≡ true → place ≡ other
+once classes place other class another apart there at same back =
+    elim (cases_lt place other) [
+      | inl less ↦ absurd (both_ways _ (apart_at classes place other class another apart less there at) same)
+      | inr above ↦ elim (cases_lt other place) [
+        | inl less ↦ absurd (both_ways _ (apart_at classes other place another class apart less at there) back)
+        | inr below ↦ omega (arith, above, below)
+      ]
+    ]
+
+one_same : (a b s t : Bool) → a ≡ true → b ≡ true → s ≡ true → ((a && (b && s)) || (not a && (not b && t))) ≡ true
+one_same true true true t one two same = refl
+one_same true true false t one two same = cc
+one_same true false s t one two same = cc
+one_same false b s t one two same = cc
+
+several_same : (a b s t : Bool) → a ≡ false → b ≡ false → t ≡ true → ((a && (b && s)) || (not a && (not b && t))) ≡ true
+several_same false false s true one two same = refl
+several_same false false s false one two same = cc
+several_same false true s t one two same = cc
+several_same true b s t one two same = cc
+
+nats_same : (a b c d : ℕ) → a ≡ b → c ≡ d → (nat_eq a b && nat_eq c d) ≡ true
+nats_same a b c d one two = and_from (nat_eq a b) (nat_eq c d) (grind (arith, nat_tests)) (grind (arith, nat_tests))
+
+pub classes_are : (fronts ends : TextTree) (known : List (List ℕ)) (classes : List LabelClass) (rows : List (Vec (Vec ℕ))) → fronts.side ≡ Front → ends.side ≡ End
+    → AreMade fronts ends known classes → AreListed fronts ends classes rows → AreClasses fronts ends classes rows
+classes_are fronts ends known classes rows front_side end_side made listed =
+    record {
+      front_side = front_side;
+      end_side = end_side;
+      fronts_there = λ place class there. (made_at fronts ends known classes place class made there).front.there;
+      ends_there = λ place class there. (made_at fronts ends known classes place class made there).end.there;
+      listed = listed;
+      longest = record {
+        front = λ place class there one. (made_at fronts ends known classes place class made there).front;
+        end = λ place class there one. (made_at fronts ends known classes place class made there).end;
+      };
+      one_once = λ place other class another there at one two same.
+          once classes place other class another made.apart there at
+          (one_same class.is_one another.is_one _ _ one two ((bytes_eq-Decides class.witness another.witness).1 same))
+          (one_same another.is_one class.is_one _ _ two one ((bytes_eq-Decides another.witness class.witness).1 (sym same)));
+      several_once = λ place other class another there at one two fronts_same ends_same.
+          once classes place other class another made.apart there at
+          (several_same class.is_one another.is_one _ _ one two (nats_same class.front another.front class.end another.end fronts_same ends_same))
+          (several_same another.is_one class.is_one _ _ two one
+          (nats_same another.front class.front another.end class.end (sym fronts_same) (sym ends_same)));
+    }
+
+-- ---- witnesses
+
+none_alone : (fronts ends : TextTree) (known : List (List ℕ)) (classes : List LabelClass) (label : List ℕ) → AreMade fronts ends known classes
+    → is_among known label ≡ false → has_single classes label ≡ false
+none_alone fronts ends known classes label made lost =
+    false_from_ne_true _ (λ some.
+    let one = Any-from_list_any (is_single label) classes some in
+    let both = and_parts one.1.is_one (bytes_eq one.1.witness label) one.4 in
+    let here = subst (λ c. IsMade fronts ends known c) one.3 (made.made one.0 one.1 one.2) in
+    both_ways _ lost (ap (λ l. is_among known l) (sym ((bytes_eq-Decides one.1.witness label).0 both.1)) ∙ (sym here.is_one ∙ both.0)))
+
+own_when : (fronts ends : TextTree) (known : List (List ℕ)) (classes : List LabelClass) (class : LabelClass) (b : Bool)
+    → AreMade fronts ends known classes → class.is_one ≡ is_among known class.witness → class.is_one ≡ b
+    → is_own classes class class.witness ≡ true
+own_when fronts ends known classes class true made there is =
+    ap (λ b. if b then bytes_eq class.witness class.witness else not (has_single classes class.witness)) is
+    ∙ (bytes_eq-Decides class.witness class.witness).1 refl
+own_when fronts ends known classes class false made there is =
+    ap (λ b. if b then bytes_eq class.witness class.witness else not (has_single classes class.witness)) is
+    ∙ ap not (none_alone fronts ends known classes class.witness made (sym there ∙ is))
+
+pub witnesses_are : (fronts ends : TextTree) (known : List (List ℕ)) (classes : List LabelClass) → AreMade fronts ends known classes
+    → HaveWitnesses fronts ends classes
+witnesses_are fronts ends known classes made = λ place class there.
+    let is = made_at fronts ends known classes place class made there in
+    record {
+      class = class;
+      there = there;
+      front = is.front;
+      end = is.end;
+      own = own_when fronts ends known classes class class.is_one made is.is_one refl;
+    }
+
+-- ---- labels of one class
+
+-- a text of a label isn't longer than its longest one
+among_short : (side : LabelSide) (texts : List (List ℕ)) (label text : List ℕ) (place : ℕ) → IsLongest side texts label place
+    → is_among texts text ≡ true → has_at side label text ≡ true → length text ≤ length (text_at texts place)
+among_short side texts label text place longest there has =
+    let one = Any-from_list_any (λ other. bytes_eq other text) texts there in
+    let is : text_at texts one.0 ≡ text
+    = get_or_default texts one.0 [] one.1 one.2 ∙ (one.3 ∙ (bytes_eq-Decides one.1 text).0 one.4) in
+    subst (λ t. length t ≤ length (text_at texts place)) is
+    (longest.longest one.0 one.2 (ap (λ t. has_at side label t) is ∙ has))
+
+nonempty : (label : List ℕ) → (label ≡ [] → ⊥) → 0 < length label
+nonempty [] none = absurd (none refl)
+nonempty (b ∷ label) none = omega arith
+
+filled_is : (label : List ℕ) → IsGiven label → 0 < length label → is_filled label ≡ true
+filled_is label given some = and_from _ _ (given_is label given) (grind (arith, nat_tests))
+
+of_texts : (wishes : SessionRequests) (fronts ends : TextTree) (front_texts end_texts known : List (List ℕ)) (classes : List LabelClass)
+    (front end : ℕ) (label : List ℕ) → fronts.side ≡ Front → ends.side ≡ End
+    → ((text : List ℕ) → is_among front_texts text ≡ true → is_among fronts.texts.items text ≡ true)
+    → ((text : List ℕ) → is_among end_texts text ≡ true → is_among ends.texts.items text ≡ true)
+    → HaveAsked (Some wishes) front_texts end_texts known → AreSingle known classes
+    → IsGiven label → IsLongestIn fronts label front → IsLongestIn ends label end → has_single classes label ≡ false
+    → IsOfTexts wishes.list.now wishes.client wishes.service.now (text_at fronts.texts.items front) (text_at ends.texts.items end) label
+of_texts wishes fronts ends front_texts end_texts known classes front end label front_side end_side fronts_in ends_in asked single given at_front at_end none =
+    let some = nonempty label (λ is. both_ways _ none (ap (λ l. has_single classes l) is ∙ single [] asked.empty)) in
+    record {
+      given = given;
+      some = some;
+      unknown = false_from_ne_true _ (λ is. both_ways _ none (single label (asked.known label (filled_is label given some) is)));
+      begins = subst (λ s. has_at s label (text_at fronts.texts.items front) ≡ true) front_side at_front.has;
+      closes = subst (λ s. has_at s label (text_at ends.texts.items end) ≡ true) end_side at_end.has;
+      longest = λ one there fit.
+          let both = and_parts (has_at Front label one.front) (has_at End label one.end) fit in
+          record {
+            front_short = among_short fronts.side fronts.texts.items label one.front front at_front
+                (fronts_in one.front (asked.fronts one there)) (ap (λ s. has_at s label one.front) front_side ∙ both.0);
+            end_short = among_short ends.side ends.texts.items label one.end end at_end
+                (ends_in one.end (asked.ends one there)) (ap (λ s. has_at s label one.end) end_side ∙ both.1);
+          };
+    }
+
+alike_same : (wishes : SessionRequests) (label other : List ℕ) → label ≡ other
+    → IsAlike wishes.list.now wishes.client wishes.service.now label other
+alike_same wishes label other is =
+    subst (λ o. IsAlike wishes.list.now wishes.client wishes.service.now label o) is (record { leads = refl; decided = refl })
+
+not_true : (b : Bool) → not b ≡ true → b ≡ false
+not_true true is = cc
+not_true false is = refl
+
+-- all that holds of one class, by whether it is one label
+alike_when : (wishes : SessionRequests) (fronts ends : TextTree) (front_texts end_texts known : List (List ℕ)) (classes : List LabelClass)
+    (class : LabelClass) (b : Bool) (label other : List ℕ) → fronts.side ≡ Front → ends.side ≡ End
+    → ((text : List ℕ) → is_among front_texts text ≡ true → is_among fronts.texts.items text ≡ true)
+    → ((text : List ℕ) → is_among end_texts text ≡ true → is_among ends.texts.items text ≡ true)
+    → HaveAsked (Some wishes) front_texts end_texts known → AreSingle known classes → IsGiven label → IsGiven other
+    → IsLongestIn fronts label class.front → IsLongestIn ends label class.end → IsLongestIn fronts other class.front → IsLongestIn ends other class.end
+    → (if b then bytes_eq class.witness label else not (has_single classes label)) ≡ true
+    → (if b then bytes_eq class.witness other else not (has_single classes other)) ≡ true
+    → IsAlike wishes.list.now wishes.client wishes.service.now label other
+alike_when wishes fronts ends front_texts end_texts known classes class true label other front_side end_side fronts_in ends_in asked single given too a b c d own another =
+    alike_same wishes label other
+    (sym ((bytes_eq-Decides class.witness label).0 own) ∙ (bytes_eq-Decides class.witness other).0 another)
+alike_when wishes fronts ends front_texts end_texts known classes class false label other front_side end_side fronts_in ends_in asked single given too a b c d own another =
+    texts_alike wishes.list.now wishes.client wishes.service.now (text_at fronts.texts.items class.front) (text_at ends.texts.items class.end) label other
+    (of_texts wishes fronts ends front_texts end_texts known classes class.front class.end label front_side end_side fronts_in ends_in asked single given a b
+    (not_true _ own))
+    (of_texts wishes fronts ends front_texts end_texts known classes class.front class.end other front_side end_side fronts_in ends_in asked single too c d
+    (not_true _ another))
+
+some_same : (a b : LabelClass) (o : Option LabelClass) → o ≡ Some a → o ≡ Some b → b ≡ a
+some_same a b o one two = let same : Some b ≡ Some a = sym two ∙ one in cc
+
+-- requests with labels of one class are routed alike
+pub classes_alike : (wishes : Option SessionRequests) (fronts ends : TextTree) (front_texts end_texts known : List (List ℕ)) (classes : List LabelClass)
+    → fronts.side ≡ Front → ends.side ≡ End
+    → ((text : List ℕ) → is_among front_texts text ≡ true → is_among fronts.texts.items text ≡ true)
+    → ((text : List ℕ) → is_among end_texts text ≡ true → is_among ends.texts.items text ≡ true)
+    → HaveAsked wishes front_texts end_texts known → AreSingle known classes → AreRoutedAlike wishes fronts ends classes
+classes_alike None fronts ends front_texts end_texts known classes front_side end_side fronts_in ends_in asked single = λ place label other given too is other_is. tt
+classes_alike (Some wishes) fronts ends front_texts end_texts known classes front_side end_side fronts_in ends_in asked single =
+    λ place label other given too is other_is.
+    let same : other_is.class ≡ is.class = some_same is.class other_is.class (slice_get classes place) is.there other_is.there in
+    alike_when wishes fronts ends front_texts end_texts known classes is.class is.class.is_one label other front_side end_side fronts_in ends_in asked single
+    given too is.front is.end
+    (subst (λ (c : LabelClass). IsLongestIn fronts other c.front) same other_is.front)
+    (subst (λ (c : LabelClass). IsLongestIn ends other c.end) same other_is.end)
+    is.own (subst (λ (c : LabelClass). is_own classes c other ≡ true) same other_is.own)
+
+-- ---- all that rules ask for
+
+among_append : (some others : List (List ℕ)) (text : List ℕ) → is_among (some ++ others) text ≡ (is_among some text || is_among others text)
+among_append some others text = list_any-append (λ other. bytes_eq other text) some others
+
+only : (x one : AskedLabel) (k : ℕ) → k < 1 → get_or (x ∷ []) k one ≡ one → x ≡ one
+only x one zero within is = is
+only x one (suc k) within is = absurd (omega (arith, within))
+
+among_map : (f : AskedLabel → List ℕ) (all : List AskedLabel) (one : AskedLabel) → Contains all one → is_among (map f all) (f one) ≡ true
+among_map f [] one there = absurd (let less = there.1 in omega (arith, less))
+among_map f (x ∷ all) one there =
+    elim (Contains-append_cases (x ∷ []) all one there) [
+      | inl here ↦ or_left _ _ ((bytes_eq-Decides (f x) (f one)).1 (ap f (only x one here.0 here.1 here.2)))
+      | inr later ↦ or_right (bytes_eq (f x) (f one)) _ (among_map f all one later)
+    ]
+
+empty_given : (label : List ℕ) → is_among ([] ∷ []) label ≡ true → is_given label ≡ true
+empty_given [] there = refl
+empty_given (b ∷ label) there = cc
+
+-- what both lists' rules ask for
+pub asked_all : (one other : Option SessionRequests) (front_one end_one known_one fronts ends all : List (List ℕ))
+    → front_one ≡ map (λ (asked : AskedLabel). asked.front) (asked_for one) → end_one ≡ map (λ (asked : AskedLabel). asked.end) (asked_for one)
+    → AddsLabels (known_for one) ([] ∷ []) known_one
+    → fronts ≡ front_one ++ map (λ (asked : AskedLabel). asked.front) (asked_for other)
+    → ends ≡ end_one ++ map (λ (asked : AskedLabel). asked.end) (asked_for other)
+    → AddsLabels (known_for other) known_one all → HaveAsked one fronts ends all × HaveAsked other fronts ends all × AreGiven all
+asked_all one other front_one end_one known_one fronts ends all front_is end_is first fronts_are ends_are second = (
+  record {
+    empty = second [] ∙ or_left (is_among known_one []) (is_filled [] && known_for other [])
+        (first [] ∙ or_left (is_among ([] ∷ []) []) (is_filled [] && known_for one []) refl);
+    fronts = λ asked there. ap (λ t. is_among t asked.front) fronts_are ∙ (among_append front_one _ asked.front
+        ∙ or_left _ _ (ap (λ t. is_among t asked.front) front_is ∙ among_map (λ (a : AskedLabel). a.front) (asked_for one) asked there));
+    ends = λ asked there. ap (λ t. is_among t asked.end) ends_are ∙ (among_append end_one _ asked.end
+        ∙ or_left _ _ (ap (λ t. is_among t asked.end) end_is ∙ among_map (λ (a : AskedLabel). a.end) (asked_for one) asked there));
+    known = λ label filled is. second label ∙ or_left _ _ (first label ∙ or_right (is_among ([] ∷ []) label) _ (and_from _ _ filled is));
+  },
+  record {
+    empty = second [] ∙ or_left (is_among known_one []) (is_filled [] && known_for other [])
+        (first [] ∙ or_left (is_among ([] ∷ []) []) (is_filled [] && known_for one []) refl);
+    fronts = λ asked there. ap (λ t. is_among t asked.front) fronts_are ∙ (among_append front_one _ asked.front
+        ∙ or_right (is_among front_one asked.front) _ (among_map (λ (a : AskedLabel). a.front) (asked_for other) asked there));
+    ends = λ asked there. ap (λ t. is_among t asked.end) ends_are ∙ (among_append end_one _ asked.end
+        ∙ or_right (is_among end_one asked.end) _ (among_map (λ (a : AskedLabel). a.end) (asked_for other) asked there));
+    known = λ label filled is. second label ∙ or_right (is_among known_one label) _ (and_from _ _ filled is);
+  },
+  λ label there. elim (or_cases (is_among known_one label) _ (sym (second label) ∙ there)) [
+    | inl before ↦ elim (or_cases (is_among ([] ∷ []) label) _ (sym (first label) ∙ before)) [
+      | inl empty ↦ empty_given label empty
+      | inr filled ↦ (and_parts (is_given label) _ (and_parts (is_filled label) _ filled).0).0
+    ]
+    | inr filled ↦ (and_parts (is_given label) _ (and_parts (is_filled label) _ filled).0).0
+  ],
+)
+
+-- each given text is in a tree that has the text at each place
+pub tree_has : (given texts : List (List ℕ)) → ((k : ℕ) → k < length given → is_among texts (get_or given k []) ≡ true)
+    → (text : List ℕ) → is_among given text ≡ true → is_among texts text ≡ true
+tree_has given texts each text there =
+    let one = Any-from_list_any (λ other. bytes_eq other text) given there in
+    subst (λ t. is_among texts t ≡ true)
+    (get_or_default given one.0 [] one.1 one.2 ∙ (one.3 ∙ (bytes_eq-Decides one.1 text).0 one.4))
+    (each one.0 one.2)
+
+-- the same of texts that are added to none, and of labels that are added to the empty one
+pub asked_them : (one other : Option SessionRequests) (front_zero end_zero known_zero front_one end_one known_first known_one fronts ends all : List (List ℕ)) (empty : List ℕ)
+    → front_zero ≡ [] → end_zero ≡ [] → known_zero ≡ [] → empty ≡ [] → known_first ≡ known_zero ++ empty ∷ []
+    → front_one ≡ front_zero ++ map (λ (asked : AskedLabel). asked.front) (asked_for one)
+    → end_one ≡ end_zero ++ map (λ (asked : AskedLabel). asked.end) (asked_for one) → AddsLabels (known_for one) known_first known_one
+    → fronts ≡ front_one ++ map (λ (asked : AskedLabel). asked.front) (asked_for other)
+    → ends ≡ end_one ++ map (λ (asked : AskedLabel). asked.end) (asked_for other) → AddsLabels (known_for other) known_one all
+    → HaveAsked one fronts ends all × HaveAsked other fronts ends all × AreGiven all
+asked_them one other front_zero end_zero known_zero front_one end_one known_first known_one fronts ends all empty f0 e0 k0 is first front_is end_is adds fronts_are ends_are more =
+    asked_all one other front_one end_one known_one fronts ends all (front_is ∙ ap (λ t. t ++ map (λ (asked : AskedLabel). asked.front) (asked_for one)) f0)
+    (end_is ∙ ap (λ t. t ++ map (λ (asked : AskedLabel). asked.end) (asked_for one)) e0)
+    (subst (λ t. AddsLabels (known_for one) t known_one) (first ∙ (ap (λ t. t ++ empty ∷ []) k0 ∙ ap (λ t. t ∷ []) is)) adds)
+    fronts_are ends_are more

@@ -1,0 +1,7 @@
+pub mod Trees
+pub mod Classes
+pub mod Parts
+pub mod Described
+pub mod Making
+pub mod Rows
+pub mod Witnesses

@@ -1,0 +1,90 @@
+-- How classes are made: which texts rules ask for, which labels they know, and what holds of the classes so far.
+use Rattle.std.specs.Prelude.{◌≡◌, ℕ, ◌<◌, Bool, true, false, ◌&&◌, ◌||◌, not, List, [], nat_eq, Option, Some, None, All, AllPairs, Contains}
+use Rattle.std.specs.List.{list_any, slice_get}
+use Rattle.std.specs.Str.{bytes_eq}
+use Rattle.std.proofs.Common.{◌⊎◌}
+use Rattle.list_labels.specs.Alike.{IsAlike}
+use Rattle.list_labels.specs.GivenLabels.{IsGiven}
+use Rattle.list_labels.specs.KnownLabels.{is_among, is_filled}
+use Rattle.list_labels.specs.Asked.{asked_of, is_given, known}
+use Rattle.list_labels.specs.LabelRanges.{AskedLabel}
+use Rattle.list_labels.specs.declared.session_requests.SessionRequests.{SessionRequests}
+use Rattle.list_classes.specs.Classes.{IsLongestIn, IsOf, is_single}
+use Rattle.list_classes.specs.declared.text_tree.TextTree.{TextTree}
+use Rattle.list_classes.specs.declared.label_class.LabelClass.{LabelClass}
+
+-- the conditions of the rules for requests, if there are requests
+abbrev pub asked_for : Option SessionRequests → List AskedLabel
+asked_for None = []
+asked_for (Some wishes) = asked_of (record { front = []; end = [] }) wishes.list.now wishes.client wishes.service.now
+
+-- a rule for requests knows a label by itself
+abbrev pub known_for : Option SessionRequests → List ℕ → Bool
+known_for None label = false
+known_for (Some wishes) label = known wishes.list.now wishes.client wishes.service.now label
+
+-- a class has the longest texts of its witness, and is one label just if its witness is a known label
+pub record IsMade (fronts ends : TextTree) (known : List (List ℕ)) (class : LabelClass) : Type 0 where
+  pub front : IsLongestIn fronts class.witness class.front
+  pub end : IsLongestIn ends class.witness class.end
+  pub is_one : class.is_one ≡ is_among known class.witness
+
+-- two classes are the same label, or the other labels with the same texts
+abbrev pub is_same_class : LabelClass → LabelClass → Bool
+is_same_class class another =
+    (class.is_one && (another.is_one && bytes_eq class.witness another.witness))
+    || (not class.is_one && (not another.is_one && (nat_eq class.front another.front && nat_eq class.end another.end)))
+
+-- no two of these are the same
+abbrev pub AreApart : List LabelClass → Type 0
+AreApart classes = AllPairs (λ class another. is_same_class class another ≡ false) classes
+
+-- classes are made of two trees and of known labels, each once
+pub record AreMade (fronts ends : TextTree) (known : List (List ℕ)) (classes : List LabelClass) : Type 0 where
+  pub made : All (IsMade fronts ends known) classes
+  pub apart : AreApart classes
+
+-- a class has several labels, and its texts are before those at two places
+pub record IsBefore (front end : ℕ) (class : LabelClass) : Type 0 where
+  pub several : class.is_one ≡ false
+  pub before : (class.front < front) ⊎ ((class.front ≡ front) × (class.end < end))
+
+-- the same, all of them of several labels and before those of two places
+pub record AreMadeBefore (fronts ends : TextTree) (known : List (List ℕ)) (front end : ℕ) (classes : List LabelClass) : Type 0 where
+  pub are : AreMade fronts ends known classes
+  pub before : All (IsBefore front end) classes
+
+-- known labels can be given
+abbrev pub AreGiven : List (List ℕ) → Type 0
+AreGiven known = (label : List ℕ) → is_among known label ≡ true → is_given label ≡ true
+
+-- a label is a class by itself
+abbrev pub has_single : List LabelClass → List ℕ → Bool
+has_single classes label = list_any (is_single label) classes
+
+-- each known label is a class by itself
+abbrev pub AreSingle : List (List ℕ) → List LabelClass → Type 0
+AreSingle known classes = (label : List ℕ) → is_among known label ≡ true → has_single classes label ≡ true
+
+-- the witness of each class is of this class
+abbrev pub HaveWitnesses : TextTree → TextTree → List LabelClass → Type 0
+HaveWitnesses fronts ends classes =
+    (place : ℕ) (class : LabelClass) → slice_get classes place ≡ Some class → IsOf fronts ends classes place class.witness
+
+-- requests with two labels are routed to the same entry by the same rules, if there are requests
+abbrev pub IsAlikeFor : Option SessionRequests → List ℕ → List ℕ → Type 0
+IsAlikeFor None label other = Unit {0}
+IsAlikeFor (Some wishes) label other = IsAlike wishes.list.now wishes.client wishes.service.now label other
+
+-- requests with given labels of one class are routed alike
+abbrev pub AreRoutedAlike : Option SessionRequests → TextTree → TextTree → List LabelClass → Type 0
+AreRoutedAlike wishes fronts ends classes =
+    (place : ℕ) (label other : List ℕ) → IsGiven label → IsGiven other → IsOf fronts ends classes place label
+    → IsOf fronts ends classes place other → IsAlikeFor wishes label other
+
+-- texts and labels have all that the rules for requests ask for and know, and the empty label
+pub record HaveAsked (wishes : Option SessionRequests) (front_texts end_texts known_labels : List (List ℕ)) : Type 0 where
+  pub empty : is_among known_labels [] ≡ true
+  pub fronts : (asked : AskedLabel) → Contains (asked_for wishes) asked → is_among front_texts asked.front ≡ true
+  pub ends : (asked : AskedLabel) → Contains (asked_for wishes) asked → is_among end_texts asked.end ≡ true
+  pub known : (label : List ℕ) → is_filled label ≡ true → known_for wishes label ≡ true → is_among known_labels label ≡ true

@@ -1,0 +1,4 @@
+pub mod Columns
+pub mod Csv
+pub mod Documents
+pub mod Text
