@@ -4,12 +4,12 @@ use Rattle.std.specs.Prelude.{Contains, map, not, if◌then◌else◌}
 use Rattle.std.specs.List.{slice_get}
 use Rattle.std.specs.Global.{Vec}
 use Rattle.std.specs.Str.{bytes_eq}
-use Rattle.std.proofs.lemmas.Bool.{and_from, and_parts, both_ways, cases_lt, false_from_ne_true, or_cases, or_left, or_right}
+use Rattle.std.proofs.lemmas.Bool.{and_from, and_parts, both_ways, cases_lt, eqb-true, false_from_ne_true, or_cases, or_left, or_right}
 use Rattle.std.proofs.lemmas.Bool.Decides.{nat_tests}
 use Rattle.std.proofs.lemmas.List.{get_or_default}
 use Rattle.std.proofs.lemmas.List.Elements.{Contains-append_cases}
 use Rattle.std.proofs.lemmas.List.Folds.{Any-from_list_any, list_any-append}
-use Rattle.std.proofs.lemmas.Option.{get_or_from_slice_get, slice_get_within}
+use Rattle.std.proofs.lemmas.Option.{get_or_from_slice_get, slice_get-get_or, slice_get_within}
 use Rattle.std.proofs.lemmas.Slice.Eq.{bytes_eq-Decides}
 use Rattle.list_labels.specs.Alike.{IsAlike, IsOfTexts}
 use Rattle.list_labels.specs.Asked.{is_given, known}
@@ -19,9 +19,10 @@ use Rattle.list_labels.specs.LabelRanges.{AskedLabel}
 use Rattle.list_labels.specs.declared.session_requests.SessionRequests.{SessionRequests}
 use Rattle.list_labels.proofs.AlikeLemmas.{texts_alike}
 use Rattle.list_labels.proofs.AskedLemmas.{given_is}
+use Rattle.list_classes.proofs.TreeLemmas.{has_longest}
 use Rattle.list_classes.specs.Trees.{IsLongest, has_at, text_at}
-use Rattle.list_classes.specs.Classes.{AreClasses, AreListed, IsLongestIn, is_own, is_single}
-use Rattle.list_classes.specs.Making.{AreApart, AreGiven, AreMade, AreRoutedAlike, AreSingle, HaveAsked, HaveWitnesses, IsMade, asked_for, has_single, is_same_class, known_for}
+use Rattle.list_classes.specs.Classes.{AreClasses, AreListed, IsLongestIn, IsOf, is_own, is_single}
+use Rattle.list_classes.specs.Making.{AreApart, AreGiven, AreLeast, AreMade, AreRoutedAlike, AreSingle, HaveAsked, HaveEach, HaveSeveral, HaveWitnesses, IsMade, asked_for, has_several, has_single, is_same_class, is_several, known_for}
 use Rattle.list_classes.specs.declared.text_tree.TextTree.{TextTree}
 use Rattle.list_classes.specs.declared.text_tree.LabelSide.{LabelSide}
 use Rattle.list_classes.specs.declared.text_tree.LabelSide.TheVariants.{Front, End}
@@ -126,6 +127,102 @@ witnesses_are fronts ends known classes made = λ place class there.
       own = own_when fronts ends known classes class class.is_one made is.is_one refl;
     }
 
+not_true : (b : Bool) → not b ≡ true → b ≡ false
+not_true true is = cc
+not_true false is = refl
+
+some_same : (a b : LabelClass) (o : Option LabelClass) → o ≡ Some a → o ≡ Some b → b ≡ a
+some_same a b o one two = let same : Some b ≡ Some a = sym two ∙ one in cc
+
+-- a label that isn't a class by itself isn't known
+unknown_alone : (known : List (List ℕ)) (classes : List LabelClass) (label : List ℕ) → AreSingle known classes → has_single classes label ≡ false
+    → is_among known label ≡ false
+unknown_alone known classes label single none = false_from_ne_true _ (λ there. both_ways _ none (single label there))
+
+least_when : (fronts ends : TextTree) (known : List (List ℕ)) (classes : List LabelClass) (class : LabelClass) (b : Bool) (label : List ℕ)
+    → AreSingle known classes → IsMade fronts ends known class → class.is_one ≡ b → IsGiven label
+    → IsLongestIn fronts label class.front → IsLongestIn ends label class.end
+    → (if b then bytes_eq class.witness label else not (has_single classes label)) ≡ true
+    → length class.witness ≤ length label
+least_when fronts ends known classes class true label single made is given front_is end_is own =
+    let same = ap length ((bytes_eq-Decides class.witness label).0 own) in
+    omega (arith, same)
+least_when fronts ends known classes class false label single made is given front_is end_is own =
+    made.least is label given front_is end_is (unknown_alone known classes label single (not_true _ own))
+
+-- no given label of a class is shorter than its witness
+pub classes_least : (fronts ends : TextTree) (known : List (List ℕ)) (classes : List LabelClass) → AreMade fronts ends known classes
+    → AreSingle known classes → AreLeast fronts ends classes
+classes_least fronts ends known classes made single = λ place class label there given is.
+    let same : is.class ≡ class = some_same class is.class (slice_get classes place) there is.there in
+    least_when fronts ends known classes class class.is_one label single (made_at fronts ends known classes place class made there) refl given
+    (subst (λ (c : LabelClass). IsLongestIn fronts label c.front) same is.front)
+    (subst (λ (c : LabelClass). IsLongestIn ends label c.end) same is.end)
+    (subst (λ (c : LabelClass). is_own classes c label ≡ true) same is.own)
+
+-- ---- a class for each label
+
+own_one : (classes : List LabelClass) (class : LabelClass) (label : List ℕ) → is_single label class ≡ true → is_own classes class label ≡ true
+own_one classes class label is =
+    let both = and_parts class.is_one (bytes_eq class.witness label) is in
+    ap (λ b. if b then bytes_eq class.witness label else not (has_single classes label)) both.0 ∙ both.1
+
+own_several : (fronts ends : TextTree) (known : List (List ℕ)) (classes : List LabelClass) (class : LabelClass) (label : List ℕ)
+    → AreMade fronts ends known classes → class.is_one ≡ false → is_among known label ≡ false → is_own classes class label ≡ true
+own_several fronts ends known classes class label made several unknown =
+    ap (λ b. if b then bytes_eq class.witness label else not (has_single classes label)) several
+    ∙ ap not (none_alone fronts ends known classes label made unknown)
+
+-- of a known label
+each_known : (fronts ends : TextTree) (known : List (List ℕ)) (classes : List LabelClass) (label : List ℕ) → AreMade fronts ends known classes
+    → has_single classes label ≡ true → (place : ℕ) × IsOf fronts ends classes place label
+each_known fronts ends known classes label made there =
+    let one = Any-from_list_any (is_single label) classes there in
+    let is = subst (λ c. IsMade fronts ends known c) one.3 (made.made one.0 one.1 one.2) in
+    let shown : one.1.witness ≡ label = (bytes_eq-Decides one.1.witness label).0 (and_parts one.1.is_one (bytes_eq one.1.witness label) one.4).1 in (
+      one.0,
+      record {
+        class = one.1;
+        there = slice_get-get_or classes one.0 one.1 one.2 ∙ ap (λ c. Some c) one.3;
+        front = subst (λ l. IsLongestIn fronts l one.1.front) shown is.front;
+        end = subst (λ l. IsLongestIn ends l one.1.end) shown is.end;
+        own = own_one classes one.1 label one.4;
+      },
+    )
+
+-- of another label
+each_other : (fronts ends : TextTree) (known : List (List ℕ)) (classes : List LabelClass) (label : List ℕ) (front end : ℕ) → AreMade fronts ends known classes
+    → IsLongestIn fronts label front → IsLongestIn ends label end → is_among known label ≡ false → has_several classes front end ≡ true
+    → (place : ℕ) × IsOf fronts ends classes place label
+each_other fronts ends known classes label front end made front_is end_is unknown there =
+    let one = Any-from_list_any (is_several front end) classes there in
+    let both = and_parts (not one.1.is_one) (nat_eq one.1.front front && nat_eq one.1.end end) one.4 in
+    let at = and_parts (nat_eq one.1.front front) (nat_eq one.1.end end) both.1 in (
+      one.0,
+      record {
+        class = one.1;
+        there = slice_get-get_or classes one.0 one.1 one.2 ∙ ap (λ c. Some c) one.3;
+        front = subst (λ n. IsLongestIn fronts label n) (sym (eqb-true one.1.front front at.0)) front_is;
+        end = subst (λ n. IsLongestIn ends label n) (sym (eqb-true one.1.end end at.1)) end_is;
+        own = own_several fronts ends known classes one.1 label made (not_true _ both.0) unknown;
+      },
+    )
+
+each_when : (b : Bool) (fronts ends : TextTree) (known : List (List ℕ)) (classes : List LabelClass) (label : List ℕ) → AreMade fronts ends known classes
+    → HaveSeveral fronts ends known classes → AreSingle known classes → IsGiven label → is_among known label ≡ b
+    → (place : ℕ) × IsOf fronts ends classes place label
+each_when true fronts ends known classes label made several single given is =
+    each_known fronts ends known classes label made (single label is)
+each_when false fronts ends known classes label made several single given is =
+    let front = has_longest fronts.side fronts.texts.items label fronts.formed.each in
+    let end = has_longest ends.side ends.texts.items label ends.formed.each in
+    each_other fronts ends known classes label front.0 end.0 made front.1 end.1 is (several front.0 end.0 label given front.1 end.1 is)
+
+pub each_of : (fronts ends : TextTree) (known : List (List ℕ)) (classes : List LabelClass) → AreMade fronts ends known classes
+    → HaveSeveral fronts ends known classes → AreSingle known classes → HaveEach fronts ends classes
+each_of fronts ends known classes made several single = λ label given.
+    each_when (is_among known label) fronts ends known classes label made several single given refl
+
 -- ---- labels of one class
 
 -- a text of a label isn't longer than its longest one
@@ -175,10 +272,6 @@ alike_same : (wishes : SessionRequests) (label other : List ℕ) → label ≡ o
 alike_same wishes label other is =
     subst (λ o. IsAlike wishes.list.now wishes.client wishes.service.now label o) is (record { leads = refl; decided = refl })
 
-not_true : (b : Bool) → not b ≡ true → b ≡ false
-not_true true is = cc
-not_true false is = refl
-
 -- all that holds of one class, by whether it is one label
 alike_when : (wishes : SessionRequests) (fronts ends : TextTree) (front_texts end_texts known : List (List ℕ)) (classes : List LabelClass)
     (class : LabelClass) (b : Bool) (label other : List ℕ) → fronts.side ≡ Front → ends.side ≡ End
@@ -198,9 +291,6 @@ alike_when wishes fronts ends front_texts end_texts known classes class false la
     (not_true _ own))
     (of_texts wishes fronts ends front_texts end_texts known classes class.front class.end other front_side end_side fronts_in ends_in asked single too c d
     (not_true _ another))
-
-some_same : (a b : LabelClass) (o : Option LabelClass) → o ≡ Some a → o ≡ Some b → b ≡ a
-some_same a b o one two = let same : Some b ≡ Some a = sym two ∙ one in cc
 
 -- requests with labels of one class are routed alike
 pub classes_alike : (wishes : Option SessionRequests) (fronts ends : TextTree) (front_texts end_texts known : List (List ℕ)) (classes : List LabelClass)

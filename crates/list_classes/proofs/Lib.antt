@@ -1,4 +1,5 @@
 pub mod TreeLemmas
+pub mod WitnessLemmas
 pub mod MakingLemmas
 pub mod RowLemmas
 pub mod ClassLemmas

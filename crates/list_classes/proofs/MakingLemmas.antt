@@ -1,16 +1,18 @@
 -- Classes that are made one after another.
 use Rattle.std.proofs.Common.{◌≡◌, ℕ, ◌+◌, ◌<◌, ◌≤◌, Bool, true, false, ◌&&◌, ◌||◌, List, [], ◌∷◌, ◌++◌, length, nat_eq, get_or, refl, sym, subst, ap, ◌∙◌, arith, ◌⊎◌, inl, inr}
 use Rattle.std.specs.Prelude.{not}
+use Rattle.std.specs.List.{list_any}
 use Rattle.std.specs.Str.{bytes_eq}
-use Rattle.std.proofs.lemmas.Bool.{and_from, and_parts, both_ways, cases_lt, false_from_ne_true, ne_eqb, or_left, or_right}
+use Rattle.std.proofs.lemmas.Bool.{and_from, and_parts, both_ways, cases_lt, eq-eqb, false_from_ne_true, ne_eqb, or_left, or_right}
 use Rattle.std.proofs.lemmas.List.{get_or_default}
 use Rattle.std.proofs.lemmas.List.Elements.{All-push}
 use Rattle.std.proofs.lemmas.List.Folds.{Any-from_list_any, list_any-append, list_any_at}
 use Rattle.std.proofs.lemmas.List.Quantifiers.{all_pairs_push}
 use Rattle.std.proofs.lemmas.Slice.Eq.{bytes_eq-Decides}
+use Rattle.list_labels.specs.GivenLabels.{IsGiven}
 use Rattle.list_labels.specs.KnownLabels.{is_among}
 use Rattle.list_classes.specs.Classes.{IsLongestIn, is_single}
-use Rattle.list_classes.specs.Making.{AreMade, AreMadeBefore, AreSingle, IsBefore, IsMade, has_single, is_same_class}
+use Rattle.list_classes.specs.Making.{AreMade, AreMadeBefore, AreSingle, HaveSeveral, IsBefore, IsMade, has_several, has_single, is_same_class, is_several}
 use Rattle.list_classes.specs.declared.text_tree.TextTree.{TextTree}
 use Rattle.list_classes.specs.Witnesses.{IsWitness}
 use Rattle.list_classes.specs.declared.label_class.LabelClass.{LabelClass}
@@ -43,12 +45,34 @@ later front end class is =
       before = elim (is.before) [ inl less ↦ inl less | inr both ↦ (let less = both.1 in inr (both.0, omega (arith, less))) ];
     }
 
+several_is : (front end : ℕ) (class : LabelClass) → class.is_one ≡ false → class.front ≡ front → class.end ≡ end → is_several front end class ≡ true
+several_is front end class several at_front at_end =
+    and_from _ _ (ap not several) (and_from _ _ (eq-eqb class.front front at_front) (eq-eqb class.end end at_end))
+
+-- a test that one of some classes passes, or one more
+has_stays : (test : LabelClass → Bool) (old : List LabelClass) (class : LabelClass) → (list_any test old ≡ true) ⊎ (test class ≡ true)
+    → list_any test (old ++ class ∷ []) ≡ true
+has_stays test old class (inl there) = list_any-append test old (class ∷ []) ∙ or_left _ (list_any test (class ∷ [])) there
+has_stays test old class (inr here) = list_any-append test old (class ∷ []) ∙ or_right (list_any test old) _ (or_left _ false here)
+
+-- those before the next pair are before this one, or this one
+pair_cases : (f e front end : ℕ) → (f < front) ⊎ ((f ≡ front) × (e < end + 1)) → ((f < front) ⊎ ((f ≡ front) × (e < end))) ⊎ ((f ≡ front) × (e ≡ end))
+pair_cases f e front end (inl less) = inl (inl less)
+pair_cases f e front end (inr both) =
+    let below = both.1 in
+    elim (cases_lt e end) [
+      | inl less ↦ inl (inr (both.0, less))
+      | inr above ↦ inr (both.0, omega (arith, below, above))
+    ]
+
 -- a class more of several labels
 pub pair_added : (fronts ends : TextTree) (known : List (List ℕ)) (front end : ℕ) (old new : List LabelClass) (class : LabelClass)
     → AreMadeBefore fronts ends known front end old → class.front ≡ front → class.end ≡ end → class.is_one ≡ false
     → IsLongestIn fronts class.witness front → IsLongestIn ends class.witness end → is_among known class.witness ≡ false
+    → ((label : List ℕ) → IsGiven label → IsLongestIn fronts label front → IsLongestIn ends label end → is_among known label ≡ false
+    → length class.witness ≤ length label)
     → new ≡ old ++ class ∷ [] → AreMadeBefore fronts ends known front (end + 1) new
-pair_added fronts ends known front end old new class made at_front at_end several longest_front longest_end unknown is =
+pair_added fronts ends known front end old new class made at_front at_end several longest_front longest_end unknown least is =
     subst (λ n. AreMadeBefore fronts ends known front (end + 1) n) (sym is)
     (record {
       are = record {
@@ -57,6 +81,9 @@ pair_added fronts ends known front end old new class made at_front at_end severa
               front = subst (λ n. IsLongestIn fronts class.witness n) (sym at_front) longest_front;
               end = subst (λ n. IsLongestIn ends class.witness n) (sym at_end) longest_end;
               is_one = several ∙ sym unknown;
+              least = λ is_several label given front_is end_is none.
+                  least label given (subst (λ n. IsLongestIn fronts label n) at_front front_is)
+                  (subst (λ n. IsLongestIn ends label n) at_end end_is) none;
             });
         apart = all_pairs_push (λ class another. is_same_class class another ≡ false) old class made.are.apart
             (λ k d within. let before = made.before k d within in
@@ -69,18 +96,38 @@ pair_added fronts ends known front end old new class made at_front at_end severa
       };
       before = All-push (IsBefore front (end + 1)) old class (λ k d within. later front end (get_or old k d) (made.before k d within))
           (record { several = several; before = inr (at_front, omega (arith, at_end)) });
+      all = λ f e before label given front_is end_is none.
+          has_stays (is_several f e) old class
+          (elim (pair_cases f e front end before) [
+            | inl earlier ↦ inl (made.all f e earlier label given front_is end_is none)
+            | inr same ↦ inr (several_is f e class several (at_front ∙ sym same.0) (at_end ∙ sym same.1))
+          ]);
     })
 
 -- nothing more
 pub pair_none : (fronts ends : TextTree) (known : List (List ℕ)) (front end : ℕ) (classes : List LabelClass)
-    → AreMadeBefore fronts ends known front end classes → AreMadeBefore fronts ends known front (end + 1) classes
-pair_none fronts ends known front end classes made =
-    record { are = made.are; before = λ k d within. later front end (get_or classes k d) (made.before k d within) }
+    → AreMadeBefore fronts ends known front end classes
+    → ((label : List ℕ) → IsGiven label → IsLongestIn fronts label front → IsLongestIn ends label end → is_among known label ≡ false → ⊥)
+    → AreMadeBefore fronts ends known front (end + 1) classes
+pair_none fronts ends known front end classes made none_there =
+    record {
+      are = made.are;
+      before = λ k d within. later front end (get_or classes k d) (made.before k d within);
+      all = λ f e before label given front_is end_is none.
+          elim (pair_cases f e front end before) [
+            | inl earlier ↦ made.all f e earlier label given front_is end_is none
+            | inr same ↦ absurd (none_there label given (subst (λ n. IsLongestIn fronts label n) same.0 front_is)
+                (subst (λ n. IsLongestIn ends label n) same.1 end_is) none)
+          ];
+    }
+
+row_cases : (f front : ℕ) → f < front + 1 → (f < front) ⊎ (f ≡ front)
+row_cases f front below = elim (cases_lt f front) [ inl less ↦ inl less | inr above ↦ inr (omega (arith, below, above)) ]
 
 -- a whole row
-pub row_done : (fronts ends : TextTree) (known : List (List ℕ)) (front end : ℕ) (classes : List LabelClass)
+pub row_done : (fronts ends : TextTree) (known : List (List ℕ)) (front end : ℕ) (classes : List LabelClass) → length ends.texts.items ≤ end
     → AreMadeBefore fronts ends known front end classes → AreMadeBefore fronts ends known (front + 1) 0 classes
-row_done fronts ends known front end classes made =
+row_done fronts ends known front end classes whole made =
     record {
       are = made.are;
       before = λ k d within. let is = made.before k d within in
@@ -88,13 +135,30 @@ row_done fronts ends known front end classes made =
             several = is.several;
             before = elim (is.before) [ inl less ↦ inl (omega (arith, less)) | inr both ↦ (let same = both.0 in inl (omega (arith, same))) ];
           };
+      all = λ f e before label given front_is end_is none.
+          let within = end_is.there in
+          made.all f e
+          (elim (row_cases f front (elim before [ inl less ↦ less | inr both ↦ absurd (let less = both.1 in omega (arith, less)) ])) [
+            | inl earlier ↦ inl earlier
+            | inr same ↦ inr (same, omega (arith, whole, within))
+          ])
+          label given front_is end_is none;
     }
 
-pub none_made : (fronts ends : TextTree) (known : List (List ℕ)) (front end : ℕ) → AreMadeBefore fronts ends known front end []
-none_made fronts ends known front end =
+-- all rows
+pub all_made : (fronts ends : TextTree) (known : List (List ℕ)) (front : ℕ) (classes : List LabelClass) → length fronts.texts.items ≤ front
+    → AreMadeBefore fronts ends known front 0 classes → HaveSeveral fronts ends known classes
+all_made fronts ends known front classes whole made f e label given front_is end_is none =
+    let within = front_is.there in
+    made.all f e (inl (omega (arith, whole, within))) label given front_is end_is none
+
+pub none_made : (fronts ends : TextTree) (known : List (List ℕ)) → AreMadeBefore fronts ends known 0 0 []
+none_made fronts ends known =
     record {
       are = record { made = λ k d within. absurd (omega (arith, within)); apart = λ i j d less within. absurd (omega (arith, within)) };
       before = λ k d within. absurd (omega (arith, within));
+      all = λ f e before label given front_is end_is none.
+          absurd (elim before [ inl less ↦ omega (arith, less) | inr both ↦ (let less = both.1 in omega (arith, less)) ]);
     }
 
 -- ---- classes of one label
@@ -117,6 +181,7 @@ one_added fronts ends known old new class label made one shown longest_front lon
             front = subst (λ l. IsLongestIn fronts l class.front) (sym shown) longest_front;
             end = subst (λ l. IsLongestIn ends l class.end) (sym shown) longest_end;
             is_one = one ∙ (sym there ∙ ap (λ l. is_among known l) (sym shown));
+            least = λ several. absurd (both_ways _ several one);
           });
       apart = all_pairs_push (λ class another. is_same_class class another ≡ false) old class made.apart
           (λ k d within. one_apart (get_or old k d).is_one class.is_one (bytes_eq (get_or old k d).witness class.witness)
@@ -130,6 +195,11 @@ pub single_stays : (old new : List LabelClass) (class : LabelClass) (label : Lis
 single_stays old new class label is there =
     ap (λ n. has_single n label) is
     ∙ (list_any-append (is_single label) old (class ∷ []) ∙ or_left _ (has_single (class ∷ []) label) there)
+
+pub several_stays : (old new : List LabelClass) (class : LabelClass) (front end : ℕ) → new ≡ old ++ class ∷ []
+    → has_several old front end ≡ true → has_several new front end ≡ true
+several_stays old new class front end is there =
+    ap (λ n. has_several n front end) is ∙ has_stays (is_several front end) old class (inl there)
 
 pub single_there : (old new : List LabelClass) (class : LabelClass) (label : List ℕ) → new ≡ old ++ class ∷ []
     → class.is_one ≡ true → class.witness ≡ label → has_single new label ≡ true

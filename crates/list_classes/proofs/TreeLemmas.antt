@@ -1,5 +1,5 @@
 -- Texts at one side of labels: which of them a label has, and the longest one.
-use Rattle.std.proofs.Common.{◌≡◌, ℕ, ◌+◌, ◌<◌, ◌≤◌, Bool, true, false, ◌&&◌, List, [], ◌∷◌, ◌++◌, length, nat_eq, refl, sym, subst, ap, ◌∙◌, arith, inl, inr}
+use Rattle.std.proofs.Common.{◌≡◌, ℕ, zero, suc, ◌+◌, ◌-◌, ◌<◌, ◌≤◌, Bool, true, false, ◌&&◌, List, [], ◌∷◌, ◌++◌, length, nat_eq, refl, sym, subst, ap, ◌∙◌, arith, inl, inr}
 use Rattle.std.specs.Prelude.{not}
 use Rattle.std.specs.Global.{Vec}
 use Rattle.std.specs.List.{list_any}
@@ -119,6 +119,47 @@ longer_stays side texts label found place so_far shorter k below has =
           subst (λ (n : ℕ). length (text_at texts n) ≤ length (text_at texts found)) (sym same)
           (shorter (subst (λ (n : ℕ). has_at side label (text_at texts n) ≡ true) same has))
     ]
+
+longest_next : (side : LabelSide) (texts : List (List ℕ)) (label : List ℕ) (found place : ℕ) (b : Bool) → has_at side label (text_at texts place) ≡ b
+    → place < length texts → found < length texts → has_at side label (text_at texts found) ≡ true
+    → ((k : ℕ) → k < place → has_at side label (text_at texts k) ≡ true → length (text_at texts k) ≤ length (text_at texts found))
+    → (best : ℕ) × (best < length texts) × (has_at side label (text_at texts best) ≡ true)
+    × ((k : ℕ) → k < place + 1 → has_at side label (text_at texts k) ≡ true → length (text_at texts k) ≤ length (text_at texts best))
+longest_next side texts label found place false is within there has so_far =
+    (found, there, has, longer_stays side texts label found place so_far (λ holds. absurd (both_ways _ is holds)))
+longest_next side texts label found place true is within there has so_far =
+    elim (cases_lt (length (text_at texts place)) (length (text_at texts found))) [
+      | inl less ↦ (found, there, has, longer_stays side texts label found place so_far (λ holds. omega (arith, less)))
+      | inr longer ↦ (place, within, is, longer_is side texts label found place so_far longer)
+    ]
+
+-- the longest one of the first texts
+longest_to : (side : LabelSide) (texts : List (List ℕ)) (label : List ℕ) (bound : ℕ) → AreTexts texts → bound < length texts
+    → (place : ℕ) × (place < length texts) × (has_at side label (text_at texts place) ≡ true)
+    × ((k : ℕ) → k < bound + 1 → has_at side label (text_at texts k) ≡ true → length (text_at texts k) ≤ length (text_at texts place))
+longest_to side texts label zero are within = (
+  0,
+  are.some,
+  ap (λ t. has_at side label t) are.first ∙ has_empty side label,
+  λ k below has. let same : k ≡ 0 = omega (arith, below) in (let long = ap (λ n. length (text_at texts n)) same in omega (arith, long)),
+)
+longest_to side texts label (suc bound) are within =
+    let best = longest_to side texts label bound are (omega (arith, within)) in
+    longest_next side texts label best.0 (suc bound) (has_at side label (text_at texts (suc bound))) refl within best.1 best.2
+    (λ k below has. best.3 k (omega (arith, below)) has)
+
+-- a label has a longest text
+pub has_longest : (side : LabelSide) (texts : List (List ℕ)) (label : List ℕ) → AreTexts texts → (place : ℕ) × IsLongest side texts label place
+has_longest side texts label are =
+    let some = are.some in
+    let best = longest_to side texts label (length texts - 1) are (omega (arith, some)) in (
+      best.0,
+      record {
+        there = best.1;
+        has = best.2;
+        longest = λ other within has. best.3 other (omega (arith, within)) has;
+      },
+    )
 
 -- a label that goes to no text below one of its texts has no longer one
 pub longest_from : (side : LabelSide) (texts : List (List ℕ)) (rows : List (Vec ℕ)) (label : List ℕ) (place : ℕ)

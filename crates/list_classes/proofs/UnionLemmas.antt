@@ -15,7 +15,7 @@ use Rattle.list_labels.proofs.KeyLemmas.{same_tests}
 use Rattle.list_classes.specs.Trees.{has_at, has_place, row_at, text_at}
 use Rattle.list_classes.specs.Classes.{AreClasses, IsLongestIn, IsOf, is_between, is_own, is_single, places_at}
 use Rattle.list_classes.specs.Parts.{IsPart, ServeAll, covers, excepts, has_pattern, is_below, is_for_ends, is_in_class, is_in_part, is_inside, is_within, is_within_any, is_within_class, pattern_of, serves, text_unless}
-use Rattle.list_classes.specs.Described.{IsUnionOf}
+use Rattle.list_classes.specs.Described.{AreWhole, IsUnionOf}
 use Rattle.list_classes.specs.declared.class_part.ClassPart.{ClassPart}
 use Rattle.list_classes.specs.declared.label_class.LabelClass.{LabelClass}
 use Rattle.list_classes.specs.declared.label_classes.LabelClasses.{LabelClasses}
@@ -333,9 +333,9 @@ parts_union classes inside parts set all serve has formed place label of =
 pub described_by : {E : Type 0} (classes : LabelClasses) (inside : List Bool) (parts shown : List ClassPart) (result : Result LabelSet E)
     → shown ≡ parts → All (IsPart classes inside) parts → ServeAll classes inside parts
     → IfOk result (λ set. (label : List ℕ) → set_has set label ≡ list_any (is_in_part classes label) shown)
-    → IfOk result (λ set. Formed classes → IsUnionOf classes inside set)
-described_by classes inside parts shown (Ok set) same all serve has =
-    parts_union classes inside parts set all serve (λ label. has label ∙ ap (list_any (is_in_part classes label)) same)
+    → IfOk result (λ set. AreWhole classes → IsUnionOf classes inside set)
+described_by classes inside parts shown (Ok set) same all serve has = λ whole.
+    parts_union classes inside parts set all serve (λ label. has label ∙ ap (list_any (is_in_part classes label)) same) whole.are
 described_by classes inside parts shown (Err error) same all serve has = has
 
 -- so is the set of all labels if all classes are inside

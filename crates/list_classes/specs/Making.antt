@@ -1,5 +1,5 @@
 -- How classes are made: which texts rules ask for, which labels they know, and what holds of the classes so far.
-use Rattle.std.specs.Prelude.{◌≡◌, ℕ, ◌<◌, Bool, true, false, ◌&&◌, ◌||◌, not, List, [], nat_eq, Option, Some, None, All, AllPairs, Contains}
+use Rattle.std.specs.Prelude.{◌≡◌, ℕ, ◌<◌, ◌≤◌, Bool, true, false, ◌&&◌, ◌||◌, not, List, [], length, nat_eq, Option, Some, None, All, AllPairs, Contains}
 use Rattle.std.specs.List.{list_any, slice_get}
 use Rattle.std.specs.Str.{bytes_eq}
 use Rattle.std.proofs.Common.{◌⊎◌}
@@ -23,11 +23,13 @@ abbrev pub known_for : Option SessionRequests → List ℕ → Bool
 known_for None label = false
 known_for (Some wishes) label = known wishes.list.now wishes.client wishes.service.now label
 
--- a class has the longest texts of its witness, and is one label just if its witness is a known label
+-- a class has the longest texts of its witness, and is one label just if its witness is a known label; no other label of it is shorter
 pub record IsMade (fronts ends : TextTree) (known : List (List ℕ)) (class : LabelClass) : Type 0 where
   pub front : IsLongestIn fronts class.witness class.front
   pub end : IsLongestIn ends class.witness class.end
   pub is_one : class.is_one ≡ is_among known class.witness
+  pub least : class.is_one ≡ false → (label : List ℕ) → IsGiven label → IsLongestIn fronts label class.front
+      → IsLongestIn ends label class.end → is_among known label ≡ false → length class.witness ≤ length label
 
 -- two classes are the same label, or the other labels with the same texts
 abbrev pub is_same_class : LabelClass → LabelClass → Bool
@@ -49,10 +51,27 @@ pub record IsBefore (front end : ℕ) (class : LabelClass) : Type 0 where
   pub several : class.is_one ≡ false
   pub before : (class.front < front) ⊎ ((class.front ≡ front) × (class.end < end))
 
--- the same, all of them of several labels and before those of two places
+-- a class has several labels, with a beginning and an ending
+abbrev pub is_several : ℕ → ℕ → LabelClass → Bool
+is_several front end class = not class.is_one && (nat_eq class.front front && nat_eq class.end end)
+
+abbrev pub has_several : List LabelClass → ℕ → ℕ → Bool
+has_several classes front end = list_any (is_several front end) classes
+
+-- if a given label that isn't known has a longest beginning and a longest ending, there is a class for them
+abbrev pub HasSeveral : TextTree → TextTree → List (List ℕ) → List LabelClass → ℕ → ℕ → Type 0
+HasSeveral fronts ends known classes front end =
+    (label : List ℕ) → IsGiven label → IsLongestIn fronts label front → IsLongestIn ends label end → is_among known label ≡ false
+    → has_several classes front end ≡ true
+
+abbrev pub HaveSeveral : TextTree → TextTree → List (List ℕ) → List LabelClass → Type 0
+HaveSeveral fronts ends known classes = (front end : ℕ) → HasSeveral fronts ends known classes front end
+
+-- classes are made of several labels each, for all beginnings and endings before those at two places
 pub record AreMadeBefore (fronts ends : TextTree) (known : List (List ℕ)) (front end : ℕ) (classes : List LabelClass) : Type 0 where
   pub are : AreMade fronts ends known classes
   pub before : All (IsBefore front end) classes
+  pub all : (f e : ℕ) → (f < front) ⊎ ((f ≡ front) × (e < end)) → HasSeveral fronts ends known classes f e
 
 -- known labels can be given
 abbrev pub AreGiven : List (List ℕ) → Type 0
@@ -70,6 +89,16 @@ AreSingle known classes = (label : List ℕ) → is_among known label ≡ true �
 abbrev pub HaveWitnesses : TextTree → TextTree → List LabelClass → Type 0
 HaveWitnesses fronts ends classes =
     (place : ℕ) (class : LabelClass) → slice_get classes place ≡ Some class → IsOf fronts ends classes place class.witness
+
+-- no given label of a class is shorter than its witness
+abbrev pub AreLeast : TextTree → TextTree → List LabelClass → Type 0
+AreLeast fronts ends classes =
+    (place : ℕ) (class : LabelClass) (label : List ℕ) → slice_get classes place ≡ Some class → IsGiven label
+    → IsOf fronts ends classes place label → length class.witness ≤ length label
+
+-- each label that can be given is of a class
+abbrev pub HaveEach : TextTree → TextTree → List LabelClass → Type 0
+HaveEach fronts ends classes = (label : List ℕ) → IsGiven label → (place : ℕ) × IsOf fronts ends classes place label
 
 -- requests with two labels are routed to the same entry by the same rules, if there are requests
 abbrev pub IsAlikeFor : Option SessionRequests → List ℕ → List ℕ → Type 0

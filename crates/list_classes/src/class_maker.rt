@@ -2,24 +2,13 @@
 ghost use Rattle.std.specs.Prelude.{◌≡◌, ◌<◌, ◌+◌, List, ℕ, length, true, false, IfOk, OnOk};
 ghost use Rattle.list_labels.specs.Asked.{is_given};
 ghost use Rattle.list_labels.specs.KnownLabels.{is_among};
-ghost use Rattle.list_classes.specs.Making.{AreGiven, AreMade, AreMadeBefore, AreSingle, has_single};
+ghost use Rattle.list_classes.specs.Making.{AreGiven, AreMade, AreMadeBefore, AreSingle, HaveSeveral, has_several, has_single};
 
+use crate::class_parts::ClassParts;
 use crate::label_class::LabelClass;
-use crate::text_tree::TextTree;
 use crate::witness::TextPair;
 use list_labels::ClientLabel;
 use std::alloc::{AllocError, Global};
-
-/// What classes are made of: beginnings, endings, and the labels that are classes by themselves.
-#[derive(Clone, Copy)]
-pub(crate) struct ClassParts<'a> {
-    /// The beginnings.
-    pub(crate) fronts: &'a TextTree,
-    /// The endings.
-    pub(crate) ends: &'a TextTree,
-    /// The labels.
-    pub(crate) known: &'a [ClientLabel],
-}
 
 /// Returns the classes of known labels, after those of all other labels by their beginnings and endings. Fails if the host is out of
 /// memory.
@@ -30,6 +19,8 @@ pub(crate) fn classes_of(
     requires given { AreGiven parts.known.now }
     ensures made { IfOk result (λ classes.
         AreMade parts.entry.fronts.now parts.entry.ends.now parts.entry.known.now classes.items) }
+    ensures several { IfOk result (λ classes.
+        HaveSeveral parts.entry.fronts.now parts.entry.ends.now parts.entry.known.now classes.items) }
     ensures single { IfOk result (λ classes. AreSingle parts.entry.known.now classes.items) }
 {
     let mut classes = several_of(alloc, parts)?;
@@ -38,10 +29,12 @@ pub(crate) fn classes_of(
 }
 
 // The classes of several labels.
-#[tactic(auto, using(crate::proofs::MakingLemmas::none_made))]
+#[tactic(auto, using(crate::proofs::MakingLemmas::none_made, crate::proofs::MakingLemmas::all_made))]
 fn several_of(alloc: Global, parts: ClassParts<'_>) -> Result<Vec<LabelClass>, AllocError>
-    ensures { IfOk result (λ classes.
+    ensures made { IfOk result (λ classes.
         AreMade parts.entry.fronts.now parts.entry.ends.now parts.entry.known.now classes.items) }
+    ensures several { IfOk result (λ classes.
+        HaveSeveral parts.entry.fronts.now parts.entry.ends.now parts.entry.known.now classes.items) }
 {
     let mut classes = Vec::new(alloc);
     for front in 0..parts.fronts.len() {
@@ -103,6 +96,8 @@ fn add_ones(classes: &mut Vec<LabelClass>, parts: ClassParts<'_>) -> Result<(), 
     requires made { AreMade parts.fronts.now parts.ends.now parts.known.now classes.old.items }
     ensures made { OnOk result (AreMade parts.entry.fronts.now parts.entry.ends.now
         parts.entry.known.now classes.new.items) }
+    ensures several { OnOk result ((front end : ℕ) → has_several classes.old.items front end ≡ true
+        → has_several classes.new.items front end ≡ true) }
     ensures single { OnOk result (AreSingle parts.entry.known.now classes.new.items) }
 {
     for place in 0..parts.known.len() {
@@ -112,7 +107,7 @@ fn add_ones(classes: &mut Vec<LabelClass>, parts: ClassParts<'_>) -> Result<(), 
 }
 
 // Adds the class of a known label, unless it is there.
-#[tactic(auto, using(crate::proofs::MakingLemmas::one_added, crate::proofs::MakingLemmas::single_stays, crate::proofs::MakingLemmas::single_there))]
+#[tactic(auto, using(crate::proofs::MakingLemmas::one_added, crate::proofs::MakingLemmas::several_stays, crate::proofs::MakingLemmas::single_stays, crate::proofs::MakingLemmas::single_there))]
 fn add_one(
     classes: &mut Vec<LabelClass>,
     parts: ClassParts<'_>,
@@ -123,6 +118,8 @@ fn add_one(
     requires made { AreMade parts.fronts.now parts.ends.now parts.known.now classes.old.items }
     ensures made { OnOk result (AreMade parts.entry.fronts.now parts.entry.ends.now
         parts.entry.known.now classes.new.items) }
+    ensures several { OnOk result ((front end : ℕ) → has_several classes.old.items front end ≡ true
+        → has_several classes.new.items front end ≡ true) }
     ensures stays { OnOk result ((other : List ℕ) → has_single classes.old.items other ≡ true
         → has_single classes.new.items other ≡ true) }
     ensures there { OnOk result (has_single classes.new.items label.now ≡ true) }

@@ -3,9 +3,8 @@ ghost use Rattle.std.specs.Prelude.{◌≡◌, ℕ, ◌<◌, ◌≤◌, ◌&&◌
 ghost use Rattle.std.specs.List.{list_all, list_any};
 ghost use Rattle.list_labels.specs.LabelSets.{has_label, is_in, set_has};
 ghost use Rattle.list_classes.specs.Trees.{has_place};
-ghost use Rattle.list_classes.specs.Classes.{AreClasses};
 ghost use Rattle.list_classes.specs.Parts.{AreExceptions, AreMarks, IsPart, ServeAll, covers, has_any_pattern, has_pattern_at, is_below, is_for_ends, is_in_part, is_inside, is_served, is_within, is_within_any};
-ghost use Rattle.list_classes.specs.Described.{IsUnionOf};
+ghost use Rattle.list_classes.specs.Described.{AreWhole, IsUnionOf};
 
 use crate::class_part::ClassPart;
 use crate::label_class::LabelClass;
@@ -19,8 +18,7 @@ pub fn described(
     classes: &LabelClasses,
     inside: &[bool],
 ) -> Result<LabelSet, AllocError>
-    ensures { IfOk result (λ set. AreClasses classes.now.fronts classes.now.ends classes.now.classes.items
-        classes.now.at.items → IsUnionOf classes.now inside.now set) }
+    ensures { IfOk result (λ set. AreWhole classes.now → IsUnionOf classes.now inside.now set) }
 {
     if is_whole(classes, inside) {
         return whole_set(alloc);

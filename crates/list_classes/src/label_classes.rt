@@ -3,12 +3,14 @@
 ghost use Rattle.std.specs.Prelude.{◌≡◌, List, ℕ, true, IfOk};
 ghost use Rattle.list_labels.specs.KnownLabels.{is_among};
 ghost use Rattle.list_classes.specs.Trees.{row_at};
-ghost use Rattle.list_classes.specs.Classes.{AreClasses, places_at};
-ghost use Rattle.list_classes.specs.Making.{AreGiven, AreRoutedAlike, HaveAsked, HaveWitnesses};
+ghost use Rattle.list_classes.specs.Classes.{places_at};
+ghost use Rattle.list_classes.specs.Described.{AreWhole, RouteAlike};
+ghost use Rattle.list_classes.specs.Making.{AreGiven, HaveAsked};
 ghost use Rattle.list_classes.specs.Parts.{pattern_of, text_unless};
 
 use crate::asked_texts::asked_texts;
-use crate::class_maker::{ClassParts, classes_of};
+use crate::class_maker::classes_of;
+use crate::class_parts::ClassParts;
 use crate::class_rows::class_rows;
 use crate::label_class::LabelClass;
 use crate::text_tree::{LabelSide, TextTree};
@@ -27,19 +29,15 @@ pub struct LabelClasses {
 
 impl LabelClasses {
     /// Returns the classes of labels that no rule for the requests on either list separates: on each list, requests with labels of
-    /// one class are routed alike. Fails if the host is out of memory.
+    /// one class are routed alike, and each label is of one class. Fails if the host is out of memory.
     pub fn of(
         alloc: Global,
         one: Option<SessionRequests<'_>>,
         other: Option<SessionRequests<'_>>,
     ) -> Result<LabelClasses, AllocError>
-        ensures classes { IfOk result (λ made.
-            AreClasses made.fronts made.ends made.classes.items made.at.items) }
-        ensures own { IfOk result (λ made. HaveWitnesses made.fronts made.ends made.classes.items) }
-        ensures one { IfOk result (λ made.
-            AreRoutedAlike one.entry made.fronts made.ends made.classes.items) }
-        ensures other { IfOk result (λ made.
-            AreRoutedAlike other.entry made.fronts made.ends made.classes.items) }
+        ensures whole { IfOk result AreWhole }
+        ensures one { IfOk result (RouteAlike one.entry) }
+        ensures other { IfOk result (RouteAlike other.entry) }
     {
         let texts = asked_texts(alloc, one, other)?;
         let fronts = texts.fronts.as_slice();
@@ -65,13 +63,9 @@ impl LabelClasses {
         requires given { AreGiven known.now }
         requires one { HaveAsked one fronts.now ends.now known.now }
         requires other { HaveAsked other fronts.now ends.now known.now }
-        ensures classes { IfOk result (λ made.
-            AreClasses made.fronts made.ends made.classes.items made.at.items) }
-        ensures own { IfOk result (λ made. HaveWitnesses made.fronts made.ends made.classes.items) }
-        ensures one { IfOk result (λ made.
-            AreRoutedAlike one.entry made.fronts made.ends made.classes.items) }
-        ensures other { IfOk result (λ made.
-            AreRoutedAlike other.entry made.fronts made.ends made.classes.items) }
+        ensures whole { IfOk result AreWhole }
+        ensures one { IfOk result (RouteAlike one.entry) }
+        ensures other { IfOk result (RouteAlike other.entry) }
     {
         let fronts = tree_of(alloc, LabelSide::Front, fronts)?;
         let ends = tree_of(alloc, LabelSide::End, ends)?;

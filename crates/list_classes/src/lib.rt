@@ -5,6 +5,7 @@
 mod asked_texts;
 mod class_maker;
 mod class_part;
+mod class_parts;
 mod class_rows;
 mod description;
 mod label_class;

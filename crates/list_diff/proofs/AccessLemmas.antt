@@ -1,37 +1,27 @@
 -- Access that is new, or that is lost, has its row.
-use Rattle.std.proofs.Common.{◌≡◌, ◌≤◌, ◌∙◌, ℕ, Bool, true, false, not, ◌&&◌, ◌||◌, List, length, refl, ap, subst, Option, Some, None, arith}
+use Rattle.std.proofs.Common.{◌≡◌, ◌≤◌, ◌∙◌, ℕ, Bool, true, false, not, ◌&&◌, ◌||◌, List, [], length, refl, ap, subst, Option, Some, None, arith}
 use Rattle.std.specs.Prelude.{Contains, is_some}
-use Rattle.std.specs.Option.{option_map}
-use Rattle.std.proofs.lemmas.List.Elements.{All-contains}
+use Rattle.std.proofs.lemmas.Bool.{both_ways}
 use Rattle.own_model.specs.Listed.{Listed}
-use Rattle.list_reach.specs.Comparisons.{IsRouted, IsShortest, IsWitness, RoutedLabel, is_gained, is_lost, is_to}
+use Rattle.list_labels.specs.GivenLabels.{IsGiven}
+use Rattle.list_labels.specs.LabelSets.{set_has}
+use Rattle.list_reach.specs.Comparisons.{IsShortestBy}
+use Rattle.list_reach.specs.RoutedLabels.{RoutedLabel, is_gained, is_lost, is_to, routes_of}
 use Rattle.list_diff.specs.declared.moved_labels.MovedLabels.{MovedLabels}
 use Rattle.list_diff.specs.Changes.{place_of}
-use Rattle.list_diff.specs.NewAccess.{HasWitness, IsAbout, IsOutOfReach, IsReached, LostAccessIsReported, NewAccessIsReported, reaches}
-use Rattle.list_diff.specs.Reaches.{IsRow, IsRowIf, Shows, moves_some}
+use Rattle.list_diff.specs.NewAccess.{HasCell, HasLabel, IsAbout, IsReached, LostAccessIsReported, NewAccessIsReported, NoRowsAreNoChange, reaches}
+use Rattle.list_diff.specs.Reaches.{AreReachChanges, IsRow, IsRowIf, Shows, moves_some}
 use Rattle.list_diff.specs.Routes.{Pair, routes}
 use Rattle.list_diff.specs.declared.reach_changes.ReachChange.{ReachChange}
 use Rattle.list_diff.specs.declared.reach_changes.ReachSide.{ReachSide}
 use Rattle.list_diff.proofs.PairLemmas.{IsAlike, new_compared, old_compared, shown}
 
--- a request that is routed to a server is routed to some entry, and the server has its number
-target : (child server : Option ℕ) → is_to child server ≡ true → (n : ℕ) × (child ≡ Some n) × (is_to (Some n) server ≡ true)
-target None server is = cc
-target (Some child) server is = (child, refl, is)
-
--- a witness of those that pass is no longer than one that passes
-least_of : (test : RoutedLabel → Bool) (all : List RoutedLabel) (one : RoutedLabel) (witness : Option (List ℕ)) (best : Option RoutedLabel)
-    → IsShortest test all best → witness ≡ option_map (λ (o : RoutedLabel). o.label) best
-    → Contains all one → test one ≡ true → (label : List ℕ) × (witness ≡ Some label) × (length label ≤ length one.label)
-least_of test all one witness None none is there passes =
-    let lost : test one ≡ false = All-contains (λ o. test o ≡ false) all one none there in cc
-least_of test all one witness (Some best) least is there passes =
-    (best.label, is, All-contains (λ o. test o ≡ true → length best.label ≤ length o.label) all one least.least there passes)
-
-witness_least : (test : RoutedLabel → Bool) (all : List RoutedLabel) (one : RoutedLabel) (witness : Option (List ℕ)) → IsWitness test all witness
-    → Contains all one → test one ≡ true → (label : List ℕ) × (witness ≡ Some label) × (length label ≤ length one.label)
-witness_least test all one witness is there passes =
-    least_of test all one witness is.0 is.1 is.2 there passes
+-- a shortest label that passes is no longer than one that passes
+witness_least : (before after : List ℕ → Option ℕ) (test : RoutedLabel → Bool) (witness : Option (List ℕ)) (label : List ℕ)
+    → IsShortestBy before after test witness → IsGiven label → test (routes_of before after label) ≡ true
+    → (shown : List ℕ) × (witness ≡ Some shown) × (length shown ≤ length label)
+witness_least before after test None label none given passes = absurd (both_ways _ (none label given) passes)
+witness_least before after test (Some shown) label least given passes = (shown, refl, least.least label given passes)
 
 -- the row of a pair with a gained or a lost label
 abbrev pub HasRow : ReachSide → ReachSide → Pair → MovedLabels → MovedLabels → Option ReachChange → Type 0
@@ -60,6 +50,7 @@ pub record HasOne (shown : Option ReachChange) (moved : ReachChange → MovedLab
   pub row : ReachChange
   pub shows : shown ≡ Some row
   pub about : IsAbout pair row
+  pub has : set_has (moved row).set.labels label ≡ true
   pub witness : List ℕ
   pub is : (moved row).set.witness ≡ Some witness
   pub short : length witness ≤ length label
@@ -70,55 +61,47 @@ about_pair before after pair gained lost row is =
     record { client = ap (λ e. e.path) is.client; service = is.service; server = ap (λ e. e.path) is.server }
 
 one_gained : (before after : ReachSide) (pair : Pair) (shown : Option ReachChange) (label : List ℕ) → Shows before after pair shown
-    → IsOutOfReach before.list.now pair → IsReached after.list.now pair label → HasOne shown (λ row. row.gained) pair label
+    → reaches before.list.now pair label ≡ false → IsReached after.list.now pair label → HasOne shown (λ row. row.gained) pair label
 one_gained before after pair shown label shows none reached =
+    let b = routes before.list.now pair.client.path pair.service in
+    let a = routes after.list.now pair.client.path pair.service in
     let was = place_of before.list.now pair.server.path in
     let now = place_of after.list.now pair.server.path in
-    let child = target (routes after.list.now pair.client.path pair.service label) now reached.there in
-    let found = shows.is.after_all label child.0 reached.given child.1 in
-    let routed = All-contains (IsRouted (routes before.list.now pair.client.path pair.service) (routes after.list.now pair.client.path pair.service))
-    shows.compared found.0 shows.is.routed found.1 in
-    let here : is_to found.0.after now ≡ true = ap (λ c. is_to c now) (routed.after_is ∙ found.3) ∙ child.2 in
-    let there : is_to found.0.before was ≡ false = ap (λ c. is_to c was) routed.before_is ∙ none found.0.label routed.given in
-    let least = witness_least (is_gained was now) shows.compared found.0 shows.moves.gained.set.witness shows.moves.gains found.1
-    (moved_is (is_to found.0.after now) (is_to found.0.before was) here there) in
-    let short : length found.0.label ≤ length label = found.2 in
-    let less : length least.0 ≤ length found.0.label = least.2 in
-    let row = row_there before after pair shows.moves.gained shows.moves.lost shown
-    (some_gained shows.moves.gained.set.witness shows.moves.lost.set.witness least.0 least.1) shows.moves.is in
+    let passes : is_gained was now (routes_of b a label) ≡ true = moved_is (is_to (a label) now) (is_to (b label) was) reached.there none in
+    let set = shows.gains in
+    let least = witness_least b a (is_gained was now) shows.gained.set.witness label set.witness reached.given passes in
+    let row = row_there before after pair shows.gained shows.lost shown
+    (some_gained shows.gained.set.witness shows.lost.set.witness least.0 least.1) shows.is in
     record {
       row = row.0;
       shows = row.1;
-      about = about_pair before after pair shows.moves.gained shows.moves.lost row.0 row.2;
+      about = about_pair before after pair shows.gained shows.lost row.0 row.2;
+      has = ap (λ (f : MovedLabels). set_has f.set.labels label) row.2.gained ∙ (set.labels label reached.given ∙ passes);
       witness = least.0;
       is = ap (λ (f : MovedLabels). f.set.witness) row.2.gained ∙ least.1;
-      short = omega (arith, short, less);
+      short = least.2;
     }
 
 one_lost : (before after : ReachSide) (pair : Pair) (shown : Option ReachChange) (label : List ℕ) → Shows before after pair shown
-    → IsOutOfReach after.list.now pair → IsReached before.list.now pair label → HasOne shown (λ row. row.lost) pair label
+    → reaches after.list.now pair label ≡ false → IsReached before.list.now pair label → HasOne shown (λ row. row.lost) pair label
 one_lost before after pair shown label shows none reached =
+    let b = routes before.list.now pair.client.path pair.service in
+    let a = routes after.list.now pair.client.path pair.service in
     let was = place_of before.list.now pair.server.path in
     let now = place_of after.list.now pair.server.path in
-    let child = target (routes before.list.now pair.client.path pair.service label) was reached.there in
-    let found = shows.is.before_all label child.0 reached.given child.1 in
-    let routed = All-contains (IsRouted (routes before.list.now pair.client.path pair.service) (routes after.list.now pair.client.path pair.service))
-    shows.compared found.0 shows.is.routed found.1 in
-    let here : is_to found.0.before was ≡ true = ap (λ c. is_to c was) (routed.before_is ∙ found.3) ∙ child.2 in
-    let there : is_to found.0.after now ≡ false = ap (λ c. is_to c now) routed.after_is ∙ none found.0.label routed.given in
-    let least = witness_least (is_lost was now) shows.compared found.0 shows.moves.lost.set.witness shows.moves.loses found.1
-    (moved_is (is_to found.0.before was) (is_to found.0.after now) here there) in
-    let short : length found.0.label ≤ length label = found.2 in
-    let less : length least.0 ≤ length found.0.label = least.2 in
-    let row = row_there before after pair shows.moves.gained shows.moves.lost shown
-    (some_lost shows.moves.gained.set.witness shows.moves.lost.set.witness least.0 least.1) shows.moves.is in
+    let passes : is_lost was now (routes_of b a label) ≡ true = moved_is (is_to (b label) was) (is_to (a label) now) reached.there none in
+    let set = shows.loses in
+    let least = witness_least b a (is_lost was now) shows.lost.set.witness label set.witness reached.given passes in
+    let row = row_there before after pair shows.gained shows.lost shown
+    (some_lost shows.gained.set.witness shows.lost.set.witness least.0 least.1) shows.is in
     record {
       row = row.0;
       shows = row.1;
-      about = about_pair before after pair shows.moves.gained shows.moves.lost row.0 row.2;
+      about = about_pair before after pair shows.gained shows.lost row.0 row.2;
+      has = ap (λ (f : MovedLabels). set_has f.set.labels label) row.2.lost ∙ (set.labels label reached.given ∙ passes);
       witness = least.0;
       is = ap (λ (f : MovedLabels). f.set.witness) row.2.lost ∙ least.1;
-      short = omega (arith, short, less);
+      short = least.2;
     }
 
 -- ---- pairs of the same paths
@@ -129,9 +112,6 @@ reaches_alike list pair other label alike =
     ∙ (ap (λ v. is_to (routes list pair.client.path v label) (place_of list other.server.path)) alike.service
     ∙ ap (λ s. is_to (routes list pair.client.path pair.service label) (place_of list s)) alike.server)
 
-out_alike : (list : Listed) (pair other : Pair) → IsAlike pair other → IsOutOfReach list pair → IsOutOfReach list other
-out_alike list pair other alike out = λ label given. reaches_alike list pair other label alike ∙ out label given
-
 reached_alike : (list : Listed) (pair other : Pair) (label : List ℕ) → IsAlike pair other → IsReached list pair label → IsReached list other label
 reached_alike list pair other label alike reached =
     record { given = reached.given; there = reaches_alike list pair other label alike ∙ reached.there }
@@ -139,7 +119,7 @@ reached_alike list pair other label alike reached =
 -- the row of the other pair is one of the rows
 reported : (moved : ReachChange → MovedLabels) (rows : List ReachChange) (shown : Option ReachChange) (pair other : Pair) (label : List ℕ)
     → ((change : ReachChange) → shown ≡ Some change → Contains rows change) → IsAlike pair other → HasOne shown moved other label
-    → HasWitness rows moved pair label
+    → HasLabel rows moved pair label
 reported moved rows shown pair other label among alike one =
     record {
       row = one.row;
@@ -149,6 +129,7 @@ reported moved rows shown pair other label among alike one =
         service = one.about.service ∙ alike.service;
         server = one.about.server ∙ alike.server;
       };
+      has = one.has;
       witness = one.witness;
       is = one.is;
       short = one.short;
@@ -159,7 +140,7 @@ new_reported before after rows pair label are has none reached =
     let compared = new_compared before after pair has in
     let all = shown before after rows compared.0 are compared.1 in
     reported (λ row. row.gained) rows all.0 pair compared.0 label all.2 compared.2
-    (one_gained before after compared.0 all.0 label all.1 (out_alike before.list.now pair compared.0 compared.2 none)
+    (one_gained before after compared.0 all.0 label all.1 (reaches_alike before.list.now pair compared.0 label compared.2 ∙ none)
     (reached_alike after.list.now pair compared.0 label compared.2 reached))
 
 pub lost_reported : LostAccessIsReported
@@ -167,5 +148,25 @@ lost_reported before after rows pair label are has none reached =
     let compared = old_compared before after pair has in
     let all = shown before after rows compared.0 are compared.1 in
     reported (λ row. row.lost) rows all.0 pair compared.0 label all.2 compared.2
-    (one_lost before after compared.0 all.0 label all.1 (out_alike after.list.now pair compared.0 compared.2 none)
+    (one_lost before after compared.0 all.0 label all.1 (reaches_alike after.list.now pair compared.0 label compared.2 ∙ none)
     (reached_alike before.list.now pair compared.0 label compared.2 reached))
+
+-- ---- no rows
+
+no_row : (moved : ReachChange → MovedLabels) (pair : Pair) (label : List ℕ) → HasLabel [] moved pair label → ⊥
+no_row moved pair label has = let within = has.there.1 in omega (arith, within)
+
+same_when : (b a : Bool) (before after : ReachSide) (pair : Pair) (label : List ℕ) → AreReachChanges before after [] → HasCell before pair
+    → HasCell after pair → IsGiven label → reaches before.list.now pair label ≡ b → reaches after.list.now pair label ≡ a → b ≡ a
+same_when true true before after pair label are old new given was now = refl
+same_when false false before after pair label are old new given was now = refl
+same_when true false before after pair label are old new given was now =
+    absurd (no_row (λ row. row.lost) pair label
+    (lost_reported before after [] pair label are old now (record { given = given; there = was })))
+same_when false true before after pair label are old new given was now =
+    absurd (no_row (λ row. row.gained) pair label
+    (new_reported before after [] pair label are new was (record { given = given; there = now })))
+
+pub same_reported : NoRowsAreNoChange
+same_reported before after pair label are old new given =
+    same_when (reaches before.list.now pair label) (reaches after.list.now pair label) before after pair label are old new given refl refl

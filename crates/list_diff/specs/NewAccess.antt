@@ -1,8 +1,9 @@
 -- Which changes of reach have a row, for all labels.
-use Rattle.std.specs.Prelude.{◌≡◌, ℕ, ◌≤◌, Bool, true, false, List, length, Some, Contains}
+use Rattle.std.specs.Prelude.{◌≡◌, ℕ, ◌≤◌, Bool, true, false, List, [], length, Some, Contains}
 use Rattle.own_model.specs.Listed.{Listed}
 use Rattle.list_labels.specs.GivenLabels.{IsGiven}
-use Rattle.list_reach.specs.Comparisons.{is_to}
+use Rattle.list_labels.specs.LabelSets.{set_has}
+use Rattle.list_reach.specs.RoutedLabels.{is_to}
 use Rattle.list_diff.specs.declared.moved_labels.MovedLabels.{MovedLabels}
 use Rattle.list_reach.specs.declared.reach_cell.ReachCell.{ReachCell}
 use Rattle.list_diff.specs.Changes.{place_of}
@@ -20,10 +21,6 @@ pub record IsReached (list : Listed) (pair : Pair) (label : List ℕ) : Type 0 w
   pub given : IsGiven label
   pub there : reaches list pair label ≡ true
 
--- no label does
-abbrev pub IsOutOfReach : Listed → Pair → Type 0
-IsOutOfReach list pair = (label : List ℕ) → IsGiven label → reaches list pair label ≡ false
-
 -- a table has a cell of a pair
 abbrev pub HasCell : ReachSide → Pair → Type 0
 HasCell side pair = (cell : ReachCell) × Contains side.cells.now cell × (pair_at side cell ≡ Some pair)
@@ -34,25 +31,32 @@ pub record IsAbout (pair : Pair) (row : ReachChange) : Type 0 where
   pub service : row.service.now ≡ pair.service
   pub server : row.server.now.path ≡ pair.server.path
 
--- one of the rows is of a pair, and its set has a witness that is no longer than a label
-pub record HasWitness (rows : List ReachChange) (moved : ReachChange → MovedLabels) (pair : Pair) (label : List ℕ) : Type 0 where
+-- one of the rows is of a pair, its set has a label, and its witness is no longer
+pub record HasLabel (rows : List ReachChange) (moved : ReachChange → MovedLabels) (pair : Pair) (label : List ℕ) : Type 0 where
   pub row : ReachChange
   pub there : Contains rows row
   pub about : IsAbout pair row
+  pub has : set_has (moved row).set.labels label ≡ true
   pub witness : List ℕ
   pub is : (moved row).set.witness ≡ Some witness
   pub short : length witness ≤ length label
 
--- a server that a script reaches after, and didn't reach before
+-- a label with which a script reaches a server after, and didn't before
 abbrev pub NewAccessIsReported : Type 0
 NewAccessIsReported =
     (before after : ReachSide) → (rows : List ReachChange) → (pair : Pair) → (label : List ℕ) → AreReachChanges before after rows
-    → HasCell after pair → IsOutOfReach before.list.now pair → IsReached after.list.now pair label
-    → HasWitness rows (λ row. row.gained) pair label
+    → HasCell after pair → reaches before.list.now pair label ≡ false → IsReached after.list.now pair label
+    → HasLabel rows (λ row. row.gained) pair label
 
--- a server that a script reached before, and doesn't reach after
+-- a label with which a script reached a server before, and doesn't after
 abbrev pub LostAccessIsReported : Type 0
 LostAccessIsReported =
     (before after : ReachSide) → (rows : List ReachChange) → (pair : Pair) → (label : List ℕ) → AreReachChanges before after rows
-    → HasCell before pair → IsOutOfReach after.list.now pair → IsReached before.list.now pair label
-    → HasWitness rows (λ row. row.lost) pair label
+    → HasCell before pair → reaches after.list.now pair label ≡ false → IsReached before.list.now pair label
+    → HasLabel rows (λ row. row.lost) pair label
+
+-- without a row no label reaches a server on one list alone
+abbrev pub NoRowsAreNoChange : Type 0
+NoRowsAreNoChange =
+    (before after : ReachSide) → (pair : Pair) → (label : List ℕ) → AreReachChanges before after [] → HasCell before pair → HasCell after pair
+    → IsGiven label → reaches before.list.now pair label ≡ reaches after.list.now pair label

@@ -3,6 +3,7 @@ use Rattle.std.specs.Prelude.{◌≡◌, ℕ, List, [], ◌∷◌, ◌++◌, map
 use Rattle.std.specs.List.{slice_get}
 use Rattle.std.specs.Option.{option_map, unwrap_or}
 use Rattle.own_model.specs.Listed.{Listed}
+use Rattle.list_policy.specs.BreachTexts.{breach_text}
 use Rattle.list_policy.specs.Demand.{AreBreaches}
 use Rattle.list_policy.specs.Line.{LineAt}
 use Rattle.list_policy.specs.declared.breach.Breach.{Breach}
@@ -20,9 +21,6 @@ pub record BreachAt : Type 0 where
   pub place : BreachPlace
   pub text : List ℕ
 
-abbrev pub place_in : BreachAt → BreachPlace
-place_in breach = breach.place
-
 abbrev pub path_of : Listed → ℕ → List ℕ
 path_of list number = unwrap_or (option_map (λ entry. entry.path) (slice_get list.entries number)) []
 
@@ -30,22 +28,22 @@ abbrev pub paths_of : Listed → Breach → List ℕ × Option (List ℕ)
 paths_of list (Reach breach) = (path_of list breach.client, Some (path_of list breach.server))
 paths_of list (Excess number) = (path_of list number, None)
 
--- of a breach of a line by a list
+-- the place of a breach of a line by a list
 abbrev pub place_at : Listed → LineAt → Breach → BreachPlace
 place_at list line breach =
     record { line = line.number; column = line.column; client = (paths_of list breach).0; server = (paths_of list breach).1 }
 
+-- with its message
+abbrev pub breach_at : Listed → LineAt → Breach → BreachAt
+breach_at list line breach = record { place = place_at list line breach; text = breach_text list line breach }
+
 -- the breaches of a line are added
-abbrev pub AddsBreaches : Listed → LineAt → List BreachPlace → List BreachPlace → Type 0
-AddsBreaches list line old new = (breaches : List Breach) × AreBreaches list line breaches × (new ≡ old ++ map (place_at list line) breaches)
+abbrev pub AddsBreaches : Listed → LineAt → List BreachAt → List BreachAt → Type 0
+AddsBreaches list line old new = (breaches : List Breach) × AreBreaches list line breaches × (new ≡ old ++ map (breach_at list line) breaches)
 
--- the places of all breaches of a policy's lines, line by line
-abbrev pub ArePlaces : Listed → List LineAt → List BreachPlace → Type 0
-ArePlaces list [] found = found ≡ []
-ArePlaces list (line ∷ lines) found =
-    (breaches : List Breach) × (others : List BreachPlace) × (found ≡ map (place_at list line) breaches ++ others)
-    × AreBreaches list line breaches × ArePlaces list lines others
-
--- the breaches at these places, each with some message
+-- all breaches of a policy's lines, line by line, each with its place and its message
 abbrev pub ArePlaced : Listed → List LineAt → List BreachAt → Type 0
-ArePlaced list lines found = ArePlaces list lines (map place_in found)
+ArePlaced list [] found = found ≡ []
+ArePlaced list (line ∷ lines) found =
+    (breaches : List Breach) × (others : List BreachAt) × (found ≡ map (breach_at list line) breaches ++ others)
+    × AreBreaches list line breaches × ArePlaced list lines others

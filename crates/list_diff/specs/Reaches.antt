@@ -4,7 +4,8 @@ use Rattle.std.specs.List.{flat_map, slice_get}
 use Rattle.std.specs.Option.{option_copied, option_map, option_to_list}
 use Rattle.std.specs.Str.{bytes_eq}
 use Rattle.own_model.specs.Listed.{Listed, ListedEntry}
-use Rattle.list_reach.specs.Comparisons.{IsComparison, IsWitness, RoutedLabel, is_gained, is_lost}
+use Rattle.list_reach.specs.Comparisons.{Compares, IsSetBy}
+use Rattle.list_reach.specs.RoutedLabels.{RoutedLabel, is_gained, is_lost}
 use Rattle.list_reach.specs.declared.client_reach.Reach.{Reach}
 use Rattle.list_reach.specs.declared.reach_cell.ReachCell.{ReachCell}
 use Rattle.list_diff.specs.Changes.{place_of}
@@ -18,7 +19,7 @@ use Rattle.list_diff.specs.declared.reach_changes.ServiceComparison.{ServiceComp
 -- the requests of a script for a service are compared on two lists
 abbrev pub IsCompared : Listed → Listed → ServiceComparison → Type 0
 IsCompared before after one =
-    IsComparison (routes before one.client.now.path one.service.now) (routes after one.client.now.path one.service.now) one.compared
+    Compares (routes before one.client.now.path one.service.now) (routes after one.client.now.path one.service.now) one.compared
 
 -- ---- the pairs that are compared
 
@@ -96,21 +97,21 @@ IsRowIf true before after pair gained lost row = (change : ReachChange) × (row 
 abbrev pub IsRowOf : ReachSide → ReachSide → Pair → MovedLabels → MovedLabels → Option ReachChange → Type 0
 IsRowOf before after pair gained lost row = IsRowIf (moves_some gained lost) before after pair gained lost row
 
--- the row of a pair shows which of some labels its server gains and which ones it loses, and how both lists route the witnesses
-pub record ShowsMoves (before after : ReachSide) (compared : List RoutedLabel) (pair : Pair) (row : Option ReachChange) : Type 0 where
+-- labels of a pair are exactly those whose routes on both lists pass a test of the server's numbers, with a shortest one
+abbrev pub IsMovedSet : ReachSide → ReachSide → (Option ℕ → Option ℕ → RoutedLabel → Bool) → Pair → MovedLabels → Type 0
+IsMovedSet before after test pair moved =
+    IsSetBy (routes before.list.now pair.client.path pair.service) (routes after.list.now pair.client.path pair.service)
+    (test (place_of before.list.now pair.server.path) (place_of after.list.now pair.server.path)) moved.set
+
+-- the row of a pair shows exactly which labels its server gains and which ones it loses, and how both lists route the witnesses
+pub record Shows (before after : ReachSide) (pair : Pair) (row : Option ReachChange) : Type 0 where
   pub gained : MovedLabels
   pub lost : MovedLabels
-  pub gains : IsWitness (is_gained (place_of before.list.now pair.server.path) (place_of after.list.now pair.server.path)) compared gained.set.witness
+  pub gains : IsMovedSet before after is_gained pair gained
   pub gained_routes : AreMoved before.list.now after.list.now pair gained
-  pub loses : IsWitness (is_lost (place_of before.list.now pair.server.path) (place_of after.list.now pair.server.path)) compared lost.set.witness
+  pub loses : IsMovedSet before after is_lost pair lost
   pub lost_routes : AreMoved before.list.now after.list.now pair lost
   pub is : IsRowOf before after pair gained lost row
-
--- these labels are routed as both lists route them, and represent all labels on each list
-pub record Shows (before after : ReachSide) (pair : Pair) (row : Option ReachChange) : Type 0 where
-  pub compared : List RoutedLabel
-  pub is : IsComparison (routes before.list.now pair.client.path pair.service) (routes after.list.now pair.client.path pair.service) compared
-  pub moves : ShowsMoves before after compared pair row
 
 -- each pair has its row, if it has one, in order, and there are no others
 abbrev pub HasRows : ReachSide → ReachSide → List Pair → List ReachChange → Type 0

@@ -1,7 +1,7 @@
 //! Labels that a server gains or loses, and the rules by which a request with one of them is routed on both lists.
 ghost use Rattle.std.specs.Prelude.{◌≡◌, ◌<◌, List, ℕ, length, IfOk, IfSome, option_map};
 ghost use Rattle.std.specs.Option.{option_copied};
-ghost use Rattle.list_reach.specs.Comparisons.{routed_on};
+ghost use Rattle.list_reach.specs.RoutedLabels.{routed_on};
 ghost use Rattle.list_reach.specs.RouteQuery.{script_named};
 ghost use Rattle.list_diff.specs.Moves.{AreMoved, IsRoute};
 ghost use Rattle.list_diff.specs.Routes.{routes};

@@ -1,8 +1,9 @@
 //! The breaches of a policy by a start list, with their places in the policy and the paths of their components.
-ghost use Rattle.std.specs.Prelude.{◌≡◌, ◌++◌, map, IfOk, OnOk};
+ghost use Rattle.std.specs.Prelude.{◌≡◌, ◌++◌, map, IfOk, OnOk, string_bytes};
 ghost use Rattle.std.specs.Option.{option_copied};
+ghost use Rattle.list_policy.specs.BreachTexts.{breach_text};
 ghost use Rattle.list_policy.specs.Line.{line_at};
-ghost use Rattle.list_diff.specs.PlacedBreaches.{AddsBreaches, ArePlaced, path_of, paths_of, place_at, place_in};
+ghost use Rattle.list_diff.specs.PlacedBreaches.{AddsBreaches, ArePlaced, breach_at, path_of, paths_of};
 
 use list_parser::StartList;
 use list_policy::{Breach, BreachText, PolicyLine};
@@ -66,8 +67,7 @@ fn add_breaches<'a>(
     line: &PolicyLine,
 ) -> Result<(), AllocError>
     ensures { OnOk result
-        (AddsBreaches list.now (line_at line.now) (map place_in found.old.items)
-        (map place_in found.new.items)) }
+        (AddsBreaches list.now (line_at line.now) found.old.items found.new.items) }
 {
     let breaches = line.breaches(alloc, list)?;
     add_placed(alloc, found, list, line, breaches.as_slice())
@@ -81,8 +81,8 @@ fn add_placed<'a>(
     line: &PolicyLine,
     breaches: &[Breach],
 ) -> Result<(), AllocError>
-    ensures { OnOk result (map place_in found.new.items
-        ≡ map place_in found.old.items ++ map (place_at list.now (line_at line.now)) breaches.now) }
+    ensures { OnOk result (found.new.items
+        ≡ found.old.items ++ map (breach_at list.now (line_at line.now)) breaches.now) }
 {
     for breach in breaches {
         let one = placed(alloc, list, line, breach)?;
@@ -98,7 +98,7 @@ fn placed<'a>(
     line: &PolicyLine,
     breach: &Breach,
 ) -> Result<PlacedBreach<'a>, AllocError>
-    ensures { IfOk result (λ one. one.place ≡ place_at list.now (line_at line.now) breach.now) }
+    ensures { IfOk result (λ one. one ≡ breach_at list.now (line_at line.now) breach.now) }
 {
     let text = message_of(alloc, list, line, breach)?;
     let (client, server) = paths_of(list, breach);
@@ -117,7 +117,10 @@ fn message_of(
     list: &StartList,
     line: &PolicyLine,
     breach: &Breach,
-) -> Result<String, AllocError> {
+) -> Result<String, AllocError>
+    ensures { IfOk result (λ text.
+        string_bytes text ≡ breach_text list.now (line_at line.now) breach.now) }
+{
     BreachText::of(alloc, list, line, breach)?.to_string(alloc)
 }
 

@@ -2,9 +2,9 @@
 ghost use Rattle.std.specs.Prelude.{◌≡◌, ◌++◌, find, IfOk, IfSome, OnOk};
 ghost use Rattle.std.specs.List.{flat_map};
 ghost use Rattle.std.specs.Option.{option_copied, option_map, option_to_list};
-ghost use Rattle.list_reach.specs.Comparisons.{IsComparison};
+ghost use Rattle.list_reach.specs.Comparisons.{Compares};
 ghost use Rattle.list_diff.specs.Changes.{place_of};
-ghost use Rattle.list_diff.specs.Reaches.{AreReachChanges, HasRows, IsCompared, IsRowOf, ShowsMoves, cell_at, compared_pairs, is_cell, moves_some, new_pairs, old_pairs, pair_at, reach_of};
+ghost use Rattle.list_diff.specs.Reaches.{AreReachChanges, HasRows, IsCompared, IsRowOf, Shows, cell_at, compared_pairs, is_cell, moves_some, new_pairs, old_pairs, pair_at, reach_of};
 ghost use Rattle.list_diff.specs.Routes.{routes};
 
 use crate::moved_labels::{MovedLabels, requests_of};
@@ -277,7 +277,7 @@ fn compared(
     client: &ListEntry,
     service: &str,
 ) -> Result<RouteComparison, AllocError>
-    ensures { IfOk result (IsComparison (routes before.now client.now.path service.now)
+    ensures { IfOk result (Compares (routes before.now client.now.path service.now)
         (routes after.now client.now.path service.now)) }
 {
     let was = requests_of(before, client, service);
@@ -306,7 +306,7 @@ fn rows_of<'a>(
     Ok(found)
 }
 
-// The row of a pair, if its server gains or loses some of the compared labels.
+// The row of a pair, if its server gains or loses labels.
 fn row_of<'a>(
     alloc: Global,
     before: ReachSide<'a>,
@@ -314,7 +314,9 @@ fn row_of<'a>(
     pair: &CellPair<'a>,
     compared: &RouteComparison,
 ) -> Result<Option<ReachChange<'a>>, AllocError>
-    ensures { IfOk result (ShowsMoves before.entry after.entry compared.now pair.now) }
+    requires { Compares (routes before.list.now pair.now.client.path pair.now.service)
+        (routes after.list.now pair.now.client.path pair.now.service) compared.now }
+    ensures { IfOk result (Shows before.entry after.entry pair.now) }
 {
     let was = server_in(before.list, pair);
     let now = server_in(after.list, pair);

@@ -1,13 +1,14 @@
 //! What the differences of two start lists report for certain.
-ghost use Rattle.list_diff.specs.NewAccess.{LostAccessIsReported, NewAccessIsReported};
+ghost use Rattle.list_diff.specs.NewAccess.{LostAccessIsReported, NewAccessIsReported, NoRowsAreNoChange};
 ghost use Rattle.list_diff.specs.NewBreaches.{GoneBreachIsReported, NewBreachIsReported, ReportedBreachIsGone, ReportedBreachIsNew, SameBreachesAreNone};
 
-/// Proves which changes of reach are reported, for each cell of a table. If some label of a script's requests reaches a server after
-/// and none reached it before, the rows have one of both paths with a gained label. If some label reached it before and none reaches
-/// it after, they have one with a lost label. That label is no longer than any label that reaches the server.
+/// Proves which changes of reach are reported, for each cell of a table. Each label of a script's requests that reaches a server after
+/// and didn't before is in the gained set of a row of both paths. Each label that reached it before and doesn't after is in a lost set.
+/// The witness of the set is no longer than the label. Without a row each label reaches the same servers on both lists.
 pub fn changed_access_is_reported()
     ensures gained { NewAccessIsReported }
     ensures lost { LostAccessIsReported }
+    ensures same { NoRowsAreNoChange }
 {}
 
 /// Proves which breaches of a policy are reported: as new exactly those of the list after that the list before doesn't have, and as

@@ -6,4 +6,5 @@ pub mod Reading
 pub mod Demand
 pub mod Status
 pub mod Claims
+pub mod BreachTexts
 pub mod Verdict

@@ -1,96 +1,38 @@
--- Labels whose requests are routed to a server on one of two start lists alone.
-use Rattle.std.specs.Prelude.{◌≡◌, ℕ, ◌≤◌, ◌==◌, ◌&&◌, not, Bool, true, false, List, [], length, nat_lt, Option, Some, None, All, Contains}
-use Rattle.std.specs.Option.{option_map}
-use Rattle.list_labels.specs.Closure.{KeptLabel}
-use Rattle.list_labels.specs.GivenLabels.{IsGiven, leads_to}
-use Rattle.list_labels.specs.Representatives.{RepresentAll}
-use Rattle.list_reach.specs.declared.comparison.LabelMove.{LabelMove}
-use Rattle.list_classes.specs.declared.label_class.LabelClass.{LabelClass}
-use Rattle.list_labels.specs.declared.session_requests.SessionRequests.{SessionRequests}
+-- The labels of a client's requests for a service that are routed to a server on one of two start lists alone, as a set.
+use Rattle.std.specs.Prelude.{◌≡◌, ℕ, ◌≤◌, Bool, true, false, List, length, map, Option, Some, None}
+use Rattle.list_labels.specs.GivenLabels.{IsGiven}
+use Rattle.list_labels.specs.LabelSets.{set_has}
+use Rattle.list_classes.specs.Described.{AreWhole, IsIn}
+use Rattle.list_classes.specs.declared.label_classes.LabelClasses.{LabelClasses}
+use Rattle.list_reach.specs.RoutedLabels.{RoutedLabel, class_routes, routes_of}
+use Rattle.list_reach.specs.declared.comparison.RouteComparison.{RouteComparison}
+use Rattle.list_reach.specs.declared.comparison.WitnessedSet.{WitnessedSet}
 
--- the entry to which requests with a label are routed, if the client is there
-abbrev pub routed_on : Option SessionRequests → List ℕ → Option ℕ
-routed_on None label = None
-routed_on (Some wishes) label = leads_to wishes.list.now wishes.client wishes.service.now label
+-- labels of one class are routed alike
+abbrev pub RoutesAlike : (List ℕ → Option ℕ) → LabelClasses → Type 0
+RoutesAlike routes classes =
+    (place : ℕ) (label other : List ℕ) → IsGiven label → IsGiven other → IsIn classes place label → IsIn classes place other
+    → routes label ≡ routes other
 
--- a label, with the entries to which requests with it are routed on both lists
-pub record RoutedLabel : Type 0 where
-  pub label : List ℕ
-  pub before : Option ℕ
-  pub after : Option ℕ
+-- requests are compared by the classes of their labels: each class has the routes of its shortest label on both lists
+pub record Compares (before after : List ℕ → Option ℕ) (comparison : RouteComparison) : Type 0 where
+  pub whole : AreWhole comparison.classes
+  pub before_alike : RoutesAlike before comparison.classes
+  pub after_alike : RoutesAlike after comparison.classes
+  pub routed : comparison.routed.items ≡ map (class_routes before after) comparison.classes.classes.items
 
--- a label as both lists route it
-abbrev pub routes_of : (List ℕ → Option ℕ) → (List ℕ → Option ℕ) → List ℕ → RoutedLabel
-routes_of before after label = record { label = label; before = before label; after = after label }
+-- a given label passes a test of its routes on both lists, and no shorter one does
+pub record IsLeastBy (before after : List ℕ → Option ℕ) (test : RoutedLabel → Bool) (label : List ℕ) : Type 0 where
+  pub given : IsGiven label
+  pub passes : test (routes_of before after label) ≡ true
+  pub least : (other : List ℕ) → IsGiven other → test (routes_of before after other) ≡ true → length label ≤ length other
 
-abbrev pub class_routes : (List ℕ → Option ℕ) → (List ℕ → Option ℕ) → LabelClass → RoutedLabel
-class_routes before after class = routes_of before after class.witness
+-- one of the shortest, or none if no label passes
+abbrev pub IsShortestBy : (List ℕ → Option ℕ) → (List ℕ → Option ℕ) → (RoutedLabel → Bool) → Option (List ℕ) → Type 0
+IsShortestBy before after test None = (label : List ℕ) → IsGiven label → test (routes_of before after label) ≡ false
+IsShortestBy before after test (Some label) = IsLeastBy before after test label
 
-abbrev pub kept_routes : (List ℕ → Option ℕ) → (List ℕ → Option ℕ) → KeptLabel → RoutedLabel
-kept_routes before after kept = routes_of before after kept.label
-
--- kept labels represent all labels of requests, if the client is there
-abbrev pub AreRepresentatives : Option SessionRequests → List KeptLabel → Type 0
-AreRepresentatives None kept = kept ≡ []
-AreRepresentatives (Some wishes) kept = RepresentAll wishes.list.now wishes.client wishes.service.now kept
-
--- a label can be given, and is routed so by the routes of both lists
-pub record IsRouted (before after : List ℕ → Option ℕ) (one : RoutedLabel) : Type 0 where
-  pub given : IsGiven one.label
-  pub before_is : one.before ≡ before one.label
-  pub after_is : one.after ≡ after one.label
-
--- for each label that a list routes to an entry, one of these is no longer and is routed there by this list, too
-abbrev pub Represents : (List ℕ → Option ℕ) → List RoutedLabel → Type 0
-Represents routes compared =
-    (label : List ℕ) → (child : ℕ) → IsGiven label → routes label ≡ Some child
-    → (one : RoutedLabel) × Contains compared one × (length one.label ≤ length label) × (routes one.label ≡ Some child)
-
--- the labels that are compared are routed as both lists route them, and represent all labels on each list
-pub record IsComparison (before after : List ℕ → Option ℕ) (compared : List RoutedLabel) : Type 0 where
-  pub routed : All (IsRouted before after) compared
-  pub before_all : Represents before compared
-  pub after_all : Represents after compared
-
--- a request is routed to a server, if the server is there
-abbrev pub is_to : Option ℕ → Option ℕ → Bool
-is_to None server = false
-is_to (Some child) None = false
-is_to (Some child) (Some server) = child == server
-
--- a server gains a label: its requests are routed to the server after and not before. The server has the number `was` before and
--- the number `now` after, if the list has it.
-abbrev pub is_gained : Option ℕ → Option ℕ → RoutedLabel → Bool
-is_gained was now one = is_to one.after now && not (is_to one.before was)
-
--- a server loses a label
-abbrev pub is_lost : Option ℕ → Option ℕ → RoutedLabel → Bool
-is_lost was now one = is_to one.before was && not (is_to one.after now)
-
-abbrev pub is_moved_by : Bool → Option ℕ → Option ℕ → RoutedLabel → Bool
-is_moved_by true was now one = is_gained was now one
-is_moved_by false was now one = is_lost was now one
-
-abbrev pub is_moved : LabelMove → RoutedLabel → Bool
-is_moved moves one = is_moved_by moves.is_gain moves.was moves.now one
-
--- one of these passes a test, and no shorter one does
-pub record IsLeast (test : RoutedLabel → Bool) (all : List RoutedLabel) (best : RoutedLabel) : Type 0 where
-  pub there : Contains all best
-  pub passes : test best ≡ true
-  pub least : All (λ one. test one ≡ true → length best.label ≤ length one.label) all
-
--- a label is shorter than another one, or there is no other one
-abbrev pub is_shorter : RoutedLabel → Option RoutedLabel → Bool
-is_shorter one None = true
-is_shorter one (Some other) = nat_lt (length one.label) (length other.label)
-
--- a shortest one that passes, or none passes
-abbrev pub IsShortest : (RoutedLabel → Bool) → List RoutedLabel → Option RoutedLabel → Type 0
-IsShortest test all None = All (λ one. test one ≡ false) all
-IsShortest test all (Some best) = IsLeast test all best
-
--- a witness is the label of a shortest one that passes; there is none just if none passes
-abbrev pub IsWitness : (RoutedLabel → Bool) → List RoutedLabel → Option (List ℕ) → Type 0
-IsWitness test all witness =
-    (best : Option RoutedLabel) × IsShortest test all best × (witness ≡ option_map (λ one. one.label) best)
+-- a set has exactly those given labels that pass a test of their routes on both lists, and its witness is one of the shortest
+pub record IsSetBy (before after : List ℕ → Option ℕ) (test : RoutedLabel → Bool) (found : WitnessedSet) : Type 0 where
+  pub labels : (label : List ℕ) → IsGiven label → set_has found.labels label ≡ test (routes_of before after label)
+  pub witness : IsShortestBy before after test found.witness

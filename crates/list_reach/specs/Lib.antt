@@ -17,4 +17,5 @@ pub mod Paths
 pub mod RequestTheorems
 pub mod Deciding
 pub mod DecisionOrder
+pub mod RoutedLabels
 pub mod Comparisons

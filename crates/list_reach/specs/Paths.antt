@@ -1,5 +1,5 @@
 -- Which components a path denotes: a `*` is 42, a `,` is 44 and a `/` is 47.
-use Rattle.std.specs.Prelude.{◌≡◌, ℕ, ◌-◌, ◌&&◌, ◌||◌, ◌==◌, zero, suc, not, Bool, true, false, List, [], ◌∷◌, ◌++◌, length, map, position, take, drop, nat_eq, if◌then◌else◌, Option, Some, None, is_some, IfSome, Result, Ok, Err}
+use Rattle.std.specs.Prelude.{◌≡◌, ℕ, ◌-◌, ◌&&◌, ◌||◌, ◌==◌, zero, suc, not, Bool, false, List, [], ◌∷◌, ◌++◌, length, map, position, take, drop, nat_eq, if◌then◌else◌, Option, Some, None, is_some, IfSome, Result, Ok, Err}
 use Rattle.std.specs.Borrow.{Bor}
 use Rattle.std.specs.Char.{is_ascii_whitespace}
 use Rattle.std.specs.List.{list_any, prefix_len, suffix_len, slice_get, slice_split, starts_with, ends_with}

@@ -1,11 +1,11 @@
 //! Which labels of a client's requests for a service are routed to a server on one of two start lists alone.
-ghost use Rattle.std.specs.Prelude.{◌≡◌, ◌<◌, ◌++◌, ◌∷◌, [], List, length, map, IfOk, IfSome, OnOk};
+ghost use Rattle.std.specs.Prelude.{◌≡◌, ◌<◌, ◌++◌, ◌∷◌, [], ℕ, List, length, map, Option, IfOk, IfSome, OnOk};
 ghost use Rattle.std.specs.Option.{option_copied};
-ghost use Rattle.list_labels.specs.Closure.{KeptLabel};
-ghost use Rattle.list_reach.specs.Comparisons.{AreRepresentatives, IsComparison, IsShortest, IsWitness, RoutedLabel, class_routes, is_gained, is_lost, is_moved, is_shorter, is_to, kept_routes, routed_on, routes_of};
+ghost use Rattle.list_reach.specs.Comparisons.{Compares, IsSetBy};
+ghost use Rattle.list_reach.specs.RoutedLabels.{IsShortest, IsWitness, RoutedLabel, class_routes, is_gained, is_lost, is_moved, is_shorter, is_to, routed_on, routes_of};
 
 use list_classes::{LabelClass, LabelClasses, described};
-use list_labels::{ClientLabel, KeyedLabel, LabelSet, SessionRequests, representatives_of};
+use list_labels::{ClientLabel, LabelSet, SessionRequests};
 use list_routes::route;
 use std::alloc::{AllocError, Global};
 use std::marker::Model;
@@ -28,7 +28,7 @@ struct LabelRoutes {
 }
 
 impl Model for LabelRoutes {
-    ghost use Rattle.list_reach.specs.Comparisons.{RoutedLabel};
+    ghost use Rattle.list_reach.specs.RoutedLabels.{RoutedLabel};
 
     ghost Value = { RoutedLabel };
 
@@ -39,21 +39,11 @@ impl Model for LabelRoutes {
     } };
 }
 
-/// Where requests of a client for a service are routed on two start lists, by a label of each class of labels, and then by labels
-/// that represent all labels on each list.
+/// Where requests of a client for a service are routed on two start lists, by a shortest label of each class of labels.
 #[derive(Drop)]
 pub struct RouteComparison {
     classes: LabelClasses,
     routed: Vec<LabelRoutes>,
-}
-
-impl Model for RouteComparison {
-    ghost use Rattle.std.specs.Prelude.{List};
-    ghost use Rattle.list_reach.specs.Comparisons.{RoutedLabel};
-
-    ghost Value = { List RoutedLabel };
-
-    ghost view = { λ comparison. comparison.routed.items };
 }
 
 /// Whether labels are those that a server gains or those that it loses, by the server's numbers on both lists.
@@ -74,13 +64,11 @@ impl RouteComparison {
     ) -> Result<RouteComparison, AllocError>
         requires before { IfSome before (λ wishes. wishes.client < length wishes.list.now.entries) }
         requires after { IfSome after (λ wishes. wishes.client < length wishes.list.now.entries) }
-        ensures { IfOk result (IsComparison (routed_on before.entry) (routed_on after.entry)) }
+        ensures { IfOk result (Compares (routed_on before.entry) (routed_on after.entry)) }
     {
         let classes = LabelClasses::of(alloc, before, after)?;
         let mut routed = Vec::new(alloc);
         add_classes(&mut routed, before, after, classes.as_slice())?;
-        add_representatives(alloc, &mut routed, before, after, before)?;
-        add_representatives(alloc, &mut routed, before, after, after)?;
         Ok(RouteComparison { classes, routed })
     }
 
@@ -92,7 +80,8 @@ impl RouteComparison {
         was: Option<usize>,
         now: Option<usize>,
     ) -> Result<WitnessedSet, AllocError>
-        ensures { IfOk result (λ found. IsWitness (is_gained was now) self.now found.witness) }
+        ensures { IfOk result (λ found. (before after : List ℕ → Option ℕ)
+            → Compares before after self.now → IsSetBy before after (is_gained was now) found) }
     {
         let is_gain = true;
         self.moved(alloc, LabelMove { is_gain, was, now })
@@ -106,7 +95,8 @@ impl RouteComparison {
         was: Option<usize>,
         now: Option<usize>,
     ) -> Result<WitnessedSet, AllocError>
-        ensures { IfOk result (λ found. IsWitness (is_lost was now) self.now found.witness) }
+        ensures { IfOk result (λ found. (before after : List ℕ → Option ℕ)
+            → Compares before after self.now → IsSetBy before after (is_lost was now) found) }
     {
         let is_gain = false;
         self.moved(alloc, LabelMove { is_gain, was, now })
@@ -114,21 +104,40 @@ impl RouteComparison {
 
     // The labels that a server gains or loses.
     fn moved(&self, alloc: Global, moves: LabelMove) -> Result<WitnessedSet, AllocError>
-        ensures { IfOk result (λ found. IsWitness (is_moved moves) self.now found.witness) }
+        ensures { IfOk result (λ found. (before after : List ℕ → Option ℕ)
+            → Compares before after self.now → IsSetBy before after (is_moved moves) found) }
     {
         let routed = self.routed.as_slice();
-        let mut inside = Vec::new(alloc);
-        for place in 0..self.classes.as_slice().len() {
-            inside.push(is_moved_at(moves, routed, place))?;
-        }
-        let witness = match shortest(routed, moves) {
-            Some(one) => Some(one.label.copy()),
-            None => None,
-        };
+        let inside = moved_classes(alloc, moves, routed)?;
         Ok(WitnessedSet {
             labels: described(alloc, &self.classes, inside.as_slice())?,
-            witness,
+            witness: shortest_label(moves, routed),
         })
+    }
+}
+
+// Of each class whether a server gains or loses its labels.
+fn moved_classes(
+    alloc: Global,
+    moves: LabelMove,
+    routed: &[LabelRoutes],
+) -> Result<Vec<bool>, AllocError>
+    ensures { IfOk result (λ inside. inside.items ≡ map (is_moved moves) routed.now) }
+{
+    let mut inside = Vec::new(alloc);
+    for one in routed {
+        inside.push(is_moved(moves, one))?;
+    }
+    Ok(inside)
+}
+
+// The first of the shortest labels that a server gains or loses.
+fn shortest_label(moves: LabelMove, routed: &[LabelRoutes]) -> Option<ClientLabel>
+    ensures { IsWitness (is_moved moves) routed.now result }
+{
+    match shortest(routed, moves) {
+        Some(one) => Some(one.label.copy()),
+        None => None,
     }
 }
 
@@ -146,50 +155,6 @@ fn add_classes(
 {
     for place in 0..classes.len() {
         add_routed(routed, before, after, &classes[place].witness)?;
-    }
-    Ok(())
-}
-
-// Adds labels that represent all labels of requests on one of the lists, if the client is there.
-fn add_representatives(
-    alloc: Global,
-    routed: &mut Vec<LabelRoutes>,
-    before: Option<SessionRequests<'_>>,
-    after: Option<SessionRequests<'_>>,
-    wishes: Option<SessionRequests<'_>>,
-) -> Result<(), AllocError>
-    requires before { IfSome before (λ wishes. wishes.client < length wishes.list.now.entries) }
-    requires after { IfSome after (λ wishes. wishes.client < length wishes.list.now.entries) }
-    requires wishes { IfSome wishes (λ wishes. wishes.client < length wishes.list.now.entries) }
-    ensures { OnOk result ((kept : List KeptLabel) × (routed.new.items ≡ routed.old.items
-        ++ map (kept_routes (routed_on before.entry) (routed_on after.entry)) kept)
-        × AreRepresentatives wishes.entry kept) }
-{
-    match wishes {
-        Some(wishes) => {
-            let kept = representatives_of(alloc, wishes)?;
-            add_kept(routed, before, after, kept.as_slice())?;
-            Ok(())
-        }
-        None => Ok(()),
-    }
-}
-
-// Adds kept labels.
-fn add_kept(
-    routed: &mut Vec<LabelRoutes>,
-    before: Option<SessionRequests<'_>>,
-    after: Option<SessionRequests<'_>>,
-    kept: &[KeyedLabel],
-) -> Result<(), AllocError>
-    requires before { IfSome before (λ wishes. wishes.client < length wishes.list.now.entries) }
-    requires after { IfSome after (λ wishes. wishes.client < length wishes.list.now.entries) }
-    ensures { OnOk result (routed.new.items ≡ routed.old.items
-        ++ map (kept_routes (routed_on before.entry) (routed_on after.entry)) kept.now) }
-{
-    for place in 0..kept.len() {
-        let one = &kept[place];
-        add_routed(routed, before, after, &one.label)?;
     }
     Ok(())
 }
@@ -236,14 +201,6 @@ fn is_moved(moves: LabelMove, one: &LabelRoutes) -> bool
     }
 }
 
-// Whether the label at a place is one of those.
-fn is_moved_at(moves: LabelMove, routed: &[LabelRoutes], place: usize) -> bool {
-    match routed.get(place) {
-        Some(one) => is_moved(moves, one),
-        None => false,
-    }
-}
-
 // Whether a request is routed to a server, if the server is there.
 fn is_to(child: Option<usize>, server: Option<usize>) -> bool
     ensures { result ≡ is_to child server }
@@ -254,7 +211,7 @@ fn is_to(child: Option<usize>, server: Option<usize>) -> bool
     }
 }
 
-// The first of the shortest labels that a server gains or loses.
+// Its routes.
 fn shortest(routed: &[LabelRoutes], moves: LabelMove) -> Option<&LabelRoutes>
     ensures { IsShortest (is_moved moves) routed.now (option_copied result) }
 {

@@ -1,9 +1,10 @@
 //! Which scripts reach which servers, as a table.
-ghost use Rattle.std.specs.Prelude.{◌≡◌, ◌<◌, [], ◌∷◌, ◌++◌, length, map, All, IfOk, OnOk, Some, string_bytes};
+ghost use Rattle.std.specs.Prelude.{◌≡◌, ◌<◌, [], ◌∷◌, ◌++◌, length, map, All, IfOk, OnOk, None, Some, string_bytes};
 ghost use Rattle.std.specs.Fmt.{WritesOnOk};
 ghost use Rattle.std.specs.List.{enumerate_from, flat_map};
 ghost use Rattle.std.specs.Option.{option_copied};
 ghost use Rattle.own_model.specs.Listed.{services_of};
+ghost use Rattle.list_labels.specs.GivenLabels.{leads_to};
 ghost use Rattle.list_labels.specs.Words.{labels_text};
 ghost use Rattle.list_reach.specs.CellTexts.{cell_text};
 ghost use Rattle.list_reach.specs.Csv.{csv_text, path_of};
@@ -13,6 +14,8 @@ ghost use Rattle.list_reach.specs.Rows.{AddsRows, provider_rows, row_of, rows, s
 ghost use Rattle.list_reach.specs.Table.{IsTrue};
 ghost use Rattle.list_reach.specs.TableTexts.{cell_column, gap_of, head_text, lines_of, margin, next_gap, script_line, server_column, server_text, sets_of, sets_text, shown_in, spaces, start_text, table_at, aligned_table, text_before, width};
 ghost use Rattle.list_reach.specs.ClientReach.{AreRoutes};
+ghost use Rattle.list_reach.specs.Comparisons.{Compares};
+ghost use Rattle.list_reach.specs.RoutedLabels.{routed_on};
 
 use crate::client_reach::{ClientReach, Reach};
 use crate::comparison::RouteComparison;
@@ -206,6 +209,8 @@ fn add_cells<'a>(
 ) -> Result<(), AllocError>
     requires ways { AreRoutes found.now.list.now found.now.client found.now.service.now
         found.now.ways }
+    requires sets { Compares (routed_on None) (leads_to found.now.list.now found.now.client
+        found.now.service.now) found.now.sets }
     requires cells { All (IsTrue found.now.list.now) cells.old.items }
     ensures { OnOk result (AddsRows found.now.list.now cells.old.items
         (flat_map (provider_rows (is_chosen chosen.now.to.items) found.now.client
@@ -229,6 +234,8 @@ fn add_cell<'a>(
 ) -> Result<(), AllocError>
     requires ways { AreRoutes found.now.list.now found.now.client found.now.service.now
         found.now.ways }
+    requires sets { Compares (routed_on None) (leads_to found.now.list.now found.now.client
+        found.now.service.now) found.now.sets }
     requires cells { All (IsTrue found.now.list.now) cells.old.items }
     ensures { OnOk result (AddsRows found.now.list.now cells.old.items
         (record { client = found.now.client; service = found.now.service.now; server = server }

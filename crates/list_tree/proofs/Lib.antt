@@ -1,1 +1,3 @@
+mod ListingLemmas
 pub mod NodeLemmas
+mod PartLemmas

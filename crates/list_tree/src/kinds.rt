@@ -1,59 +1,117 @@
-//! The kinds of objects that declared servers offer, as text and as documents.
+//! Binaries, and the kinds of objects that declared servers offer, as text and as documents.
+ghost use Rattle.std.specs.Prelude.{◌≡◌, IfOk, map};
+ghost use Rattle.std.specs.Fmt.{WritesOnOk};
+ghost use Rattle.std.specs.List.{flat_map};
+ghost use Rattle.std.specs.Option.{option_map};
+ghost use Rattle.list_parser.specs.View.{model_binary};
+ghost use Rattle.view_json.specs.Documents.{list_data, object_of, objects_data, objects_in};
+ghost use Rattle.list_tree.specs.Kinds.{binary_word, kind_object, kind_text, kinds_after, kinds_data, kinds_in, kinds_text, other_kind_text};
 
-use list_parser::{Binary, DeclaredService, ListEntry};
+use list_parser::{Binary, ListEntry};
+use object_kinds::ObjectKind;
 use std::alloc::{AllocError, Global};
 use std::fmt;
 use view_json::{JsonField, ObjectList, ObjectListBuilder};
+
+/// Returns the word for a binary, as a start list has it.
+pub(crate) fn binary_word(binary: &Binary) -> &'static str
+    ensures { result.now ≡ binary_word (model_binary binary.now) }
+{
+    match binary {
+        Binary::Script => "script",
+        Binary::Server(service) => service.binary(),
+        Binary::Declared(_) => "server",
+        Binary::Init => "init",
+    }
+}
+
+// Returns the kinds that a server declares.
+fn declared_kinds(binary: &Binary) -> Option<&[ObjectKind]>
+    ensures { option_map (λ kinds. kinds.now) result ≡ kinds_in (model_binary binary.now) }
+{
+    match binary {
+        Binary::Declared(service) => Some(service.kinds()),
+        Binary::Script | Binary::Server(_) | Binary::Init => None,
+    }
+}
 
 /// Writes a text before the kinds of a declared server, and then the kinds. Writes nothing for other entries.
 pub(crate) fn show_kinds<W: fmt::Write>(
     f: &mut fmt::Formatter<W>,
     before: &str,
     entry: &ListEntry,
-) -> fmt::Result {
-    match entry.binary() {
-        Binary::Declared(service) => {
-            f.write_str(before)?;
-            show_kinds_of(f, service)
+) -> fmt::Result
+    ensures { WritesOnOk W.write_str_gives f.old result
+        (kinds_after before.now (kinds_in entry.now.binary)) f.new }
+{
+    show_kinds_after(f, before, declared_kinds(entry.binary()))
+}
+
+// Writes kinds after a text, if there are any.
+fn show_kinds_after<W: fmt::Write>(
+    f: &mut fmt::Formatter<W>,
+    before: &str,
+    kinds: Option<&[ObjectKind]>,
+) -> fmt::Result
+    ensures { WritesOnOk W.write_str_gives f.old result
+        (kinds_after before.now (option_map (λ kinds. kinds.now) kinds.entry)) f.new }
+{
+    let Some(kinds) = kinds else {
+        return Ok(());
+    };
+    f.write_str(before)?;
+    show_all_kinds(f, kinds)
+}
+
+// Writes the kinds of a declared server.
+fn show_all_kinds<W: fmt::Write>(f: &mut fmt::Formatter<W>, kinds: &[ObjectKind]) -> fmt::Result
+    ensures { WritesOnOk W.write_str_gives f.old result (kinds_text kinds.now) f.new }
+{
+    match kinds.split_first() {
+        Some((kind, others)) => {
+            f.write_str("kinds ")?;
+            show_kind(f, kind)?;
+            show_other_kinds(f, others)
         }
-        Binary::Script | Binary::Server(_) | Binary::Init => Ok(()),
+        None => f.write_str("no kinds"),
     }
 }
 
-// The kinds of a declared server, each with the bytes of a block and of a unit.
-fn show_kinds_of<W: fmt::Write>(
-    f: &mut fmt::Formatter<W>,
-    service: &DeclaredService,
-) -> fmt::Result {
-    if service.kinds().is_empty() {
-        return f.write_str("no kinds");
-    }
-    let mut before = "kinds ";
-    for kind in service.kinds() {
-        write!(
-            f,
-            "{before}{} ({} bytes, {} a unit)",
-            kind.name(),
-            kind.block(),
-            kind.bytes()
-        )?;
-        before = ", ";
+// Writes kinds, each after a comma.
+fn show_other_kinds<W: fmt::Write>(f: &mut fmt::Formatter<W>, kinds: &[ObjectKind]) -> fmt::Result
+    ensures { WritesOnOk W.write_str_gives f.old result (flat_map other_kind_text kinds.now) f.new }
+{
+    for kind in kinds {
+        f.write_str(", ")?;
+        show_kind(f, kind)?;
     }
     Ok(())
 }
 
+// Writes a kind, with the bytes of a block and of a unit.
+fn show_kind<W: fmt::Write>(f: &mut fmt::Formatter<W>, kind: &ObjectKind) -> fmt::Result
+    ensures { WritesOnOk W.write_str_gives f.old result (kind_text kind.now) f.new }
+{
+    let (name, block, bytes) = (kind.name(), kind.block(), kind.bytes());
+    write!(f, "{name} ({block} bytes, {bytes} a unit)")
+}
+
 /// Returns an object for each kind of a declared server, and `None` for other entries. Fails if the host is out of memory.
-pub(crate) fn kinds_of(alloc: Global, entry: &ListEntry) -> Result<Option<ObjectList>, AllocError> {
-    match entry.binary() {
-        Binary::Declared(service) => Ok(Some(kind_objects(alloc, service)?)),
-        Binary::Script | Binary::Server(_) | Binary::Init => Ok(None),
+pub(crate) fn kinds_of(alloc: Global, entry: &ListEntry) -> Result<Option<ObjectList>, AllocError>
+    ensures { IfOk result (λ kinds. option_map list_data kinds ≡ kinds_data entry.now.binary) }
+{
+    match declared_kinds(entry.binary()) {
+        Some(kinds) => Ok(Some(kind_objects(alloc, kinds)?)),
+        None => Ok(None),
     }
 }
 
-// An object for each kind of a declared server.
-fn kind_objects(alloc: Global, service: &DeclaredService) -> Result<ObjectList, AllocError> {
+// Returns an object for each of these kinds.
+fn kind_objects(alloc: Global, kinds: &[ObjectKind]) -> Result<ObjectList, AllocError>
+    ensures { IfOk result (λ list. list_data list ≡ objects_data (map kind_object kinds.now)) }
+{
     let mut list = ObjectListBuilder::new(alloc);
-    for kind in service.kinds() {
+    for kind in kinds {
         list.add(&[
             ("kind", JsonField::Text(kind.name().as_bytes())),
             ("block", JsonField::Number(u64::from(kind.block()))),

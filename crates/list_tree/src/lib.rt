@@ -6,9 +6,13 @@
 //! ```
 #![tactic(auto)]
 
+mod depth;
+mod documents;
+mod edges;
 mod graph;
 mod kinds;
 mod node;
+mod rules_text;
 mod script_decision;
 mod tree;
 

@@ -1,9 +1,12 @@
 //! The components of a start list with their budgets, and the decisions on their session requests.
 ghost use Rattle.std.specs.Prelude.{◌≡◌, ◌<◌, Some, length, IfOk};
-ghost use Rattle.std.specs.List.{slice_get};
+ghost use Rattle.std.specs.Fmt.{WritesOnOk};
+ghost use Rattle.std.specs.List.{list_any, slice_get};
 ghost use Rattle.own_model.specs.Listed.{start_list_of};
 ghost use Rattle.own_model.specs.StartList.{inits_kept};
+ghost use Rattle.list_tree.specs.GraphTexts.{is_denied, is_denied_some};
 ghost use Rattle.list_tree.specs.Nodes.{IsNode, extra_of, numbered};
+ghost use Rattle.list_tree.specs.TreeTexts.{budget_text};
 
 use list_parser::{ListEntry, StartList};
 use list_parts::{InitQuotas, StartQuota, left_of};
@@ -14,8 +17,8 @@ use std::fmt;
 /// A component with its budget at the start, and the decisions on its requests.
 #[derive(Drop)]
 pub(crate) struct TreeNode<'a> {
-    /// The number of the component.
-    pub number: usize,
+    /// The number of the component, at most 31.
+    pub number: u8,
     /// The component.
     pub entry: &'a ListEntry,
     /// The limits of the component's account.
@@ -52,7 +55,7 @@ impl<'a> TreeNode<'a> {
         ensures node { IfOk result (IsNode list.now) }
     {
         Ok(TreeNode {
-            number,
+            number: number as u8,
             entry,
             own: StartQuota {
                 ram: entry.ram(),
@@ -68,7 +71,10 @@ impl<'a> TreeNode<'a> {
         &self,
         f: &mut fmt::Formatter<W>,
         between: &str,
-    ) -> fmt::Result {
+    ) -> fmt::Result
+        ensures { WritesOnOk W.write_str_gives f.old result
+            (budget_text between.now self.now.own self.now.extra) f.new }
+    {
         let own = self.own;
         match self.extra {
             Some(ExtraBudget::Reserve(left)) => write!(f, "{own}{between}reserve {left}"),
@@ -78,7 +84,9 @@ impl<'a> TreeNode<'a> {
     }
 
     /// Returns whether some of the component's requests are denied.
-    pub(crate) fn is_denied_some(&self) -> bool {
+    pub(crate) fn is_denied_some(&self) -> bool
+        ensures { result ≡ is_denied_some self.now }
+    {
         self.requests.as_slice().iter().any(denies)
     }
 }
@@ -99,7 +107,9 @@ fn extra_of(inits: &InitQuotas, number: usize, entry: &ListEntry) -> Option<Extr
 }
 
 // Whether some requests of a script for a service are denied.
-fn denies(one: &ScriptDecisions<'_>) -> bool {
+fn denies(one: &ScriptDecisions<'_>) -> bool
+    ensures { result ≡ list_any is_denied one.now.decisions }
+{
     one.decisions
         .as_slice()
         .iter()

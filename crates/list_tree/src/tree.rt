@@ -1,19 +1,27 @@
 //! The components of a start list, and the servers to which their session requests are routed, as text and as documents.
-ghost use Rattle.std.specs.Prelude.{◌≡◌, ◌<◌, Some, length, All, IfOk, OnOk};
-ghost use Rattle.std.specs.List.{slice_get};
+ghost use Rattle.std.specs.Prelude.{◌≡◌, ◌<◌, Some, length, All, IfOk, OnOk, true, false};
+ghost use Rattle.std.specs.Fmt.{WritesOnOk};
+ghost use Rattle.std.specs.List.{flat_map, slice_get};
+ghost use Rattle.std.specs.Option.{option_copied};
 ghost use Rattle.own_model.specs.Listed.{start_list_of};
 ghost use Rattle.own_model.specs.StartList.{init_at, inits_kept};
+ghost use Rattle.view_json.specs.Documents.{list_text};
+ghost use Rattle.list_tree.specs.Documents.{tree_objects};
 ghost use Rattle.list_tree.specs.Nodes.{AddsNode, AreNodes, IsNode};
+ghost use Rattle.list_tree.specs.TreeTexts.{by_text, component_line, decision_line, label_within, machine_lines, name_text, node_lines, request_lines, server_text, service_text, tree_text};
 
-use crate::kinds::{kinds_of, show_kinds};
-use crate::node::{ExtraBudget, TreeNode};
+use crate::depth::{depth_of, show_indent};
+use crate::documents::{add_kept, add_machine, add_nodes};
+use crate::kinds::{binary_word, show_kinds};
+use crate::node::TreeNode;
 use crate::script_decision::ScriptDecision;
+use list_labels::ClientLabel;
 use list_parser::{ListEntry, StartList};
 use list_parts::{InitQuotas, StartQuota, kept, left_of, show_within};
-use list_reach::ScriptDecisions;
+use list_reach::{RouteDecision, ScriptDecisions};
 use std::alloc::{AllocError, Global};
 use std::fmt;
-use view_json::{JsonField, JsonMember, Listing, ObjectList};
+use view_json::Listing;
 
 /// The tree of a start list: its machine, what inits keep, and each component with its budget below its init. For each script and
 /// service it has the server to which requests are routed, and the rules with their conditions on the label. It has a label, if
@@ -50,45 +58,23 @@ impl<'a> ListTree<'a> {
 
     /// Returns the tree as a JSON list. It has a document for the machine, for what its init keeps, and for each component,
     /// followed by those of its requests. Fails if the host is out of memory.
-    pub fn documents(&self, alloc: Global) -> Result<Vec<u8>, AllocError> {
+    pub fn documents(&self, alloc: Global) -> Result<Vec<u8>, AllocError>
+        ensures { IfOk result (λ text. text.items ≡ list_text (tree_objects self.now)) }
+    {
         let mut listing = Listing::new(alloc);
-        self.add_machine(&mut listing)?;
-        for node in self.nodes.as_slice() {
-            add_component(alloc, &mut listing, node)?;
-            add_decisions(alloc, &mut listing, self.list, node)?;
-        }
+        add_machine(&mut listing, self.list)?;
+        add_kept(&mut listing, self.keeps)?;
+        add_nodes(alloc, &mut listing, self.list, self.nodes.as_slice())?;
         listing.into_text()
-    }
-
-    // Adds the machine, and what its init keeps.
-    fn add_machine(&self, listing: &mut Listing) -> Result<(), AllocError> {
-        listing.add(&[
-            ("kind", JsonField::Word("machine")),
-            ("pages", number_of(self.list.pages())),
-            ("caps", number_of(self.list.caps())),
-        ])?;
-        listing.add(&[
-            ("kind", JsonField::Word("init")),
-            ("keeps_ram", JsonField::Number(self.keeps.ram)),
-            ("keeps_caps", number_of(self.keeps.caps)),
-        ])
     }
 }
 
 impl fmt::Display for ListTree<'_> {
+    ghost output = { λ tree. Some (tree_text tree) };
+
     fn fmt<W: fmt::Write>(&self, f: &mut fmt::Formatter<W>) -> fmt::Result {
-        let keeps = self.keeps;
-        writeln!(
-            f,
-            "machine: {} pages, {} caps\ninit keeps: {keeps}",
-            self.list.pages(),
-            self.list.caps()
-        )?;
-        for node in self.nodes.as_slice() {
-            show_node(f, node)?;
-            show_decisions(f, self.list, node)?;
-        }
-        Ok(())
+        show_machine(f, self.list, self.keeps)?;
+        show_nodes(f, self.list, self.nodes.as_slice())
     }
 }
 
@@ -114,41 +100,111 @@ fn add_node<'a>(
     Ok(())
 }
 
-// A component with its budget, what it provides, and the kinds that it declares.
-fn show_node<W: fmt::Write>(f: &mut fmt::Formatter<W>, node: &TreeNode<'_>) -> fmt::Result {
-    let entry = node.entry;
-    let binary = entry.binary();
-    show_indent(f, entry)?;
-    write!(f, "{} ({}): ", entry.to_name(), binary.as_str())?;
-    node.show_budget(f, ", ")?;
-    match binary.service() {
-        Some(service) if entry.provides() => write!(f, ", provides {service}")?,
-        Some(_) => f.write_str(", provides nothing")?,
-        None => (),
-    }
-    show_kinds(f, ", ", entry)?;
-    f.write_str("\n")
+// The machine, and what its init keeps.
+fn show_machine<W: fmt::Write>(
+    f: &mut fmt::Formatter<W>,
+    list: &StartList,
+    keeps: StartQuota,
+) -> fmt::Result
+    ensures { WritesOnOk W.write_str_gives f.old result (machine_lines list.now keeps) f.new }
+{
+    let (pages, caps) = (list.pages(), list.caps());
+    write!(
+        f,
+        "machine: {pages} pages, {caps} caps\ninit keeps: {keeps}\n"
+    )
 }
 
-// The decisions on the requests of a component, service by service.
-fn show_decisions<'a, W: fmt::Write>(
+// Components, each followed by the decisions on its requests.
+fn show_nodes<'a, W: fmt::Write>(
     f: &mut fmt::Formatter<W>,
     list: &'a StartList,
-    node: &'a TreeNode<'a>,
-) -> fmt::Result {
-    for one in node.requests.as_slice() {
-        show_requests(f, list, one)?;
+    nodes: &'a [TreeNode<'a>],
+) -> fmt::Result
+    ensures { WritesOnOk W.write_str_gives f.old result
+        (flat_map (node_lines list.now) nodes.now) f.new }
+{
+    for node in nodes {
+        show_node(f, list, node)?;
     }
     Ok(())
 }
 
-// The decisions on a script's requests for a service.
+// A component, and the decisions on its requests, service by service.
+fn show_node<'a, W: fmt::Write>(
+    f: &mut fmt::Formatter<W>,
+    list: &'a StartList,
+    node: &'a TreeNode<'a>,
+) -> fmt::Result
+    ensures { WritesOnOk W.write_str_gives f.old result (node_lines list.now node.now) f.new }
+{
+    show_component(f, node)?;
+    show_requests(f, list, node.requests.as_slice())
+}
+
+// A component with its budget, what it provides, and the kinds that it declares.
+fn show_component<W: fmt::Write>(f: &mut fmt::Formatter<W>, node: &TreeNode<'_>) -> fmt::Result
+    ensures { WritesOnOk W.write_str_gives f.old result (component_line node.now) f.new }
+{
+    let entry = node.entry;
+    show_indent(f, depth_of(entry))?;
+    show_name(f, entry)?;
+    node.show_budget(f, ", ")?;
+    show_service(f, entry.provides(), entry.service())?;
+    show_kinds(f, ", ", entry)?;
+    f.write_str("\n")
+}
+
+// The name of a component, and its binary.
+fn show_name<W: fmt::Write>(f: &mut fmt::Formatter<W>, entry: &ListEntry) -> fmt::Result
+    ensures { WritesOnOk W.write_str_gives f.old result (name_text entry.now) f.new }
+{
+    let (name, binary) = (entry.to_name(), binary_word(entry.binary()));
+    write!(f, "{name} ({binary}): ")
+}
+
+// The service of a server, or that the entry provides nothing.
+fn show_service<W: fmt::Write>(
+    f: &mut fmt::Formatter<W>,
+    provides: bool,
+    service: Option<&str>,
+) -> fmt::Result
+    ensures { WritesOnOk W.write_str_gives f.old result
+        (service_text provides (option_copied service.entry)) f.new }
+{
+    match service {
+        Some(service) if provides => write!(f, ", provides {service}"),
+        Some(_) => f.write_str(", provides nothing"),
+        None => Ok(()),
+    }
+}
+
+// The decisions on the requests of a component, service by service.
 fn show_requests<'a, W: fmt::Write>(
     f: &mut fmt::Formatter<W>,
     list: &'a StartList,
+    requests: &'a [ScriptDecisions<'a>],
+) -> fmt::Result
+    ensures { WritesOnOk W.write_str_gives f.old result
+        (flat_map (request_lines list.now) requests.now) f.new }
+{
+    for one in requests {
+        show_decisions(f, list, one, one.decisions.as_slice())?;
+    }
+    Ok(())
+}
+
+// Decisions on a script's requests for a service.
+fn show_decisions<'a, W: fmt::Write>(
+    f: &mut fmt::Formatter<W>,
+    list: &'a StartList,
     one: &'a ScriptDecisions<'a>,
-) -> fmt::Result {
-    for trail in one.decisions.as_slice() {
+    decisions: &'a [RouteDecision],
+) -> fmt::Result
+    ensures { WritesOnOk W.write_str_gives f.old result
+        (flat_map (decision_line list.now one.now) decisions.now) f.new }
+{
+    for trail in decisions {
         show_decision(f, &ScriptDecision::of(list, one, trail))?;
     }
     Ok(())
@@ -158,143 +214,57 @@ fn show_requests<'a, W: fmt::Write>(
 fn show_decision<W: fmt::Write>(
     f: &mut fmt::Formatter<W>,
     decision: &ScriptDecision<'_>,
-) -> fmt::Result {
-    show_indent(f, decision.client)?;
-    write!(f, "  {} -> ", decision.service)?;
-    match decision.server() {
-        Some(server) if decision.trail.rules().len() > 1 => write!(f, "{}", server.to_path())?,
-        Some(server) => write!(f, "{}", server.to_name())?,
-        None => f.write_str("denied")?,
-    }
-    write!(f, " by {}", decision.rules(false))?;
-    if let Some(label) = decision.label {
-        show_within(f, ", with label \"", label, "\"")?;
-    }
+) -> fmt::Result
+    ensures { WritesOnOk W.write_str_gives f.old result (decision_line decision.now.list.now
+        decision.now.one.now decision.now.trail.now) f.new }
+{
+    show_indent(f, depth_of(decision.one.entry))?;
+    write!(f, "  {} -> ", decision.one.service)?;
+    show_server(f, decision)?;
+    show_rules(f, decision)?;
+    show_label(f, ", with label \"", decision.label(), "\"")?;
     f.write_str("\n")
 }
 
-// Two spaces for each init above an entry.
-fn show_indent<W: fmt::Write>(f: &mut fmt::Formatter<W>, entry: &ListEntry) -> fmt::Result {
-    for sign in entry.path() {
-        if *sign == b'/' {
-            f.write_str("  ")?;
-        }
-    }
-    Ok(())
-}
-
-// Adds a component with its budget, the service that it provides, and the kinds that it declares.
-fn add_component(
-    alloc: Global,
-    listing: &mut Listing,
-    node: &TreeNode<'_>,
-) -> Result<(), AllocError> {
-    let kinds = kinds_of(alloc, node.entry)?;
-    add_with_kinds(alloc, listing, node, &kinds)
-}
-
-// Adds a component with its budget, the service that it provides, and these kinds. The service is null if its binary has one
-// and it provides none.
-fn add_with_kinds<'a>(
-    alloc: Global,
-    listing: &mut Listing,
-    node: &'a TreeNode<'a>,
-    kinds: &'a Option<ObjectList>,
-) -> Result<(), AllocError> {
-    let entry = node.entry;
-    let binary = entry.binary();
-    let mut members: Vec<JsonMember<'a>> = vec![in alloc;
-        ("kind", JsonField::Word("component")),
-        ("name", JsonField::Text(entry.path())),
-        ("binary", JsonField::Word(binary.as_str())),
-        ("ram", JsonField::Number(node.own.ram)),
-        ("caps", number_of(node.own.caps)),
-    ]?;
-    match node.extra {
-        Some(ExtraBudget::Reserve(left)) => {
-            members.push(("reserve_ram", JsonField::Number(left.ram)))?;
-            members.push(("reserve_caps", number_of(left.caps)))?;
-        }
-        Some(ExtraBudget::Keeps(left)) => {
-            members.push(("keeps_ram", JsonField::Number(left.ram)))?;
-            members.push(("keeps_caps", number_of(left.caps)))?;
-        }
-        None => {}
-    }
-    match binary.service() {
-        Some(service) if entry.provides() => {
-            members.push(("provides", JsonField::Text(service.as_bytes())))?;
-        }
-        Some(_) => members.push(("provides", JsonField::Nothing))?,
-        None => {}
-    }
-    if let Some(kinds) = kinds {
-        members.push(("kinds", JsonField::List(kinds)))?;
-    }
-    listing.add(members.as_slice())
-}
-
-// Adds the decisions on the requests of a component, service by service.
-fn add_decisions<'a>(
-    alloc: Global,
-    listing: &mut Listing,
-    list: &'a StartList,
-    node: &'a TreeNode<'a>,
-) -> Result<(), AllocError> {
-    for one in node.requests.as_slice() {
-        add_requests(alloc, listing, list, one)?;
-    }
-    Ok(())
-}
-
-// Adds the decisions on a script's requests for a service.
-fn add_requests<'a>(
-    alloc: Global,
-    listing: &mut Listing,
-    list: &'a StartList,
-    one: &'a ScriptDecisions<'a>,
-) -> Result<(), AllocError> {
-    for trail in one.decisions.as_slice() {
-        add_decision(alloc, listing, &ScriptDecision::of(list, one, trail))?;
-    }
-    Ok(())
-}
-
-// Adds a decision.
-fn add_decision(
-    alloc: Global,
-    listing: &mut Listing,
+// A server by its path if several lists decide, else by its name in the client's list.
+fn show_server<W: fmt::Write>(
+    f: &mut fmt::Formatter<W>,
     decision: &ScriptDecision<'_>,
-) -> Result<(), AllocError> {
-    let by = decision.rules(false).to_string(alloc)?;
-    add_request(listing, *decision, by.as_str())
+) -> fmt::Result
+    ensures { WritesOnOk W.write_str_gives f.old result
+        (server_text decision.now.list.now decision.now.trail.now) f.new }
+{
+    match decision.server() {
+        Some(server) if decision.trail.rules().len() > 1 => write!(f, "{}", server.to_path()),
+        Some(server) => write!(f, "{}", server.to_name()),
+        None => f.write_str("denied"),
+    }
 }
 
-// Adds a decision by these rules.
-fn add_request<'a>(
-    listing: &mut Listing,
-    decision: ScriptDecision<'a>,
-    by: &'a str,
-) -> Result<(), AllocError> {
-    let to = match decision.server() {
-        Some(server) => JsonField::Text(server.path()),
-        None => JsonField::Nothing,
-    };
-    let label = match decision.label {
-        Some(label) => JsonField::Text(label.as_bytes()),
-        None => JsonField::Nothing,
-    };
-    listing.add(&[
-        ("kind", JsonField::Word("wish")),
-        ("name", JsonField::Text(decision.client.path())),
-        ("service", JsonField::Text(decision.service.as_bytes())),
-        ("to", to),
-        ("by", JsonField::Text(by.as_bytes())),
-        ("label", label),
-    ])
+// The rules that decide.
+fn show_rules<W: fmt::Write>(
+    f: &mut fmt::Formatter<W>,
+    decision: &ScriptDecision<'_>,
+) -> fmt::Result
+    ensures { WritesOnOk W.write_str_gives f.old result (by_text decision.now.list.now
+        decision.now.one.now decision.now.trail.now) f.new }
+{
+    let rules = decision.rules(false);
+    write!(f, " by {rules}")
 }
 
-// A number of pages or of capabilities as a field.
-fn number_of(count: u32) -> JsonField<'static> {
-    JsonField::Number(u64::from(count))
+/// Writes a label between two texts, if there is one.
+pub(crate) fn show_label<W: fmt::Write>(
+    f: &mut fmt::Formatter<W>,
+    before: &str,
+    label: Option<&ClientLabel>,
+    after: &str,
+) -> fmt::Result
+    ensures { WritesOnOk W.write_str_gives f.old result
+        (label_within before.now (option_copied label.entry) after.now) f.new }
+{
+    match label {
+        Some(label) => show_within(f, before, label, after),
+        None => Ok(()),
+    }
 }

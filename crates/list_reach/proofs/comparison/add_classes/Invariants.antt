@@ -1,5 +1,5 @@
 use Rattle.std.proofs.Common.{◌≡◌, ◌++◌, drop, map}
-use Rattle.list_reach.specs.Comparisons.{class_routes, routed_on}
+use Rattle.list_reach.specs.RoutedLabels.{class_routes, routed_on}
 use Rattle.list_reach.proofs.comparison.add_classes.Given as goal
 
 abbrev pub invariant-loop-place : goal.invariant-loop-place

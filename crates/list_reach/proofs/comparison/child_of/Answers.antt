@@ -1,6 +1,6 @@
 -- By where the label is routed.
 use Rattle.std.proofs.Common.{◌∙◌, ℕ, List, Option, ap, sym}
-use Rattle.list_reach.specs.Comparisons.{routed_on}
+use Rattle.list_reach.specs.RoutedLabels.{routed_on}
 use Rattle.list_labels.specs.GivenLabels.{leads_to}
 use Rattle.list_labels.specs.declared.session_requests.SessionRequests.{SessionRequests}
 use Rattle.list_reach.proofs.comparison.child_of.Goals as goal

@@ -2,7 +2,7 @@
 use Rattle.std.proofs.Common.{◌≡◌, ◌∙◌, ◌+◌, ◌++◌, ◌∷◌, [], ap, subst, sym, take}
 use Rattle.std.specs.Option.{option_copied}
 use Rattle.std.proofs.lemmas.List.{take_more}
-use Rattle.list_reach.specs.Comparisons.{IsShortest, is_moved}
+use Rattle.list_reach.specs.RoutedLabels.{IsShortest, is_moved}
 use Rattle.list_reach.proofs.comparison.shortest.Goals as goal
 
 pub loop-place-preserved : goal.loop-place-preserved

@@ -1,8 +1,11 @@
 -- One cell more.
-use Rattle.std.proofs.Common.{[], ◌∷◌, subst, sym}
+use Rattle.std.proofs.Common.{[], ◌∷◌, None, subst, sym}
+use Rattle.list_labels.specs.GivenLabels.{leads_to}
 use Rattle.list_reach.specs.Rows.{AddsRows, Row, row_of}
+use Rattle.list_reach.specs.RoutedLabels.{routed_on}
 use Rattle.list_reach.specs.Table.{IsTrue}
 use Rattle.list_reach.proofs.AdditionLemmas.{adds_one}
+use Rattle.list_reach.proofs.ComparisonLemmas.{set_of_server}
 use Rattle.list_reach.proofs.reach_table.add_cell.Goals as goal
 
 pub returns : goal.returns
@@ -11,4 +14,8 @@ returns c =
     let row : Row = record { client = found.client; service = found.service.now; server = c.args.server } in
     subst (λ cells. AddsRows found.list.now c.args.cells.now.items (row ∷ []) cells) (sym c.in_ok-push.ensures.items)
     (adds_one row_of (IsTrue found.list.now) c.args.cells.now.items _ c.requires.cells
-    (c.reach-reach.ensures found.list.now found.client found.service.now c.requires.ways))
+    (record {
+      reach = c.reach-reach.ensures found.list.now found.client found.service.now c.requires.ways;
+      labels = set_of_server found.list.now found.client found.service.now c.args.server _
+          (c.in_ok-labels.ensures (routed_on None) (leads_to found.list.now found.client found.service.now) c.requires.sets);
+    }))

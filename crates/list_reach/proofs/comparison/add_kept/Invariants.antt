@@ -1,8 +1,0 @@
-use Rattle.std.proofs.Common.{◌≡◌, ◌++◌, drop, map}
-use Rattle.list_reach.specs.Comparisons.{kept_routes, routed_on}
-use Rattle.list_reach.proofs.comparison.add_kept.Given as goal
-
-abbrev pub invariant-loop-place : goal.invariant-loop-place
-invariant-loop-place l =
-    l.routed.items ++ map (kept_routes (routed_on l.before) (routed_on l.after)) (drop l.place l.kept)
-    ≡ l.initial.routed.items ++ map (kept_routes (routed_on l.before) (routed_on l.after)) l.kept
