@@ -17,12 +17,12 @@ loop-place-init c =
 
 pub loop-place-preserved : goal.loop-place-preserved
 loop-place-preserved c =
-    noted_more (λ (fault : PolicyFault). fault_place (fault_at fault)) c.args.faults.now [] c.loop-place.place _
+    noted_more note_place (λ (fault : PolicyFault). fault_place (fault_at fault)) c.args.faults.now [] c.loop-place.place _
     c.index-faults-place.result _ c.loop-place.notes.items c.push.new.self.items refl c.loop-place-test.true c.index-faults-place.is
     c.in_ok-fault_note.ensures c.in_ok-push.ensures.items c.loop-place.invariant
 
 pub returns : goal.returns
 returns c =
-    noted_all (λ (fault : PolicyFault). fault_place (fault_at fault)) c.args.faults.now [] c.loop-place.place c.loop-place.notes.items
+    noted_all note_place (λ (fault : PolicyFault). fault_place (fault_at fault)) c.args.faults.now [] c.loop-place.place c.loop-place.notes.items
     (omega (arith, c.loop-place-test.false)) c.loop-place.invariant
     ∙ sym (map-map fault_place fault_at c.args.faults.now)
