@@ -6,3 +6,5 @@ pub mod ValueLemmas
 pub mod DonationLemmas
 pub mod ScenarioLemmas
 pub mod SizeLemmas
+pub mod BoundRunLemmas
+pub mod ReadingLemmas

@@ -1,17 +1,23 @@
--- The lines of components, and which of them are left out.
-use Rattle.std.specs.Prelude.{ℕ, ◌||◌, Bool, false, List, [], ◌∷◌, ◌++◌, map, codes, Option, Some, None}
-use Rattle.std.specs.List.{position}
-use Rattle.std.specs.Option.{option_and_then, option_copied, option_map_or}
+-- How the lines of a scenario become the lines of components, and which of them are left out.
+use Rattle.std.specs.Prelude.{◌≡◌, ℕ, ◌||◌, ◌&&◌, ◌==◌, Bool, true, false, not, List, [], ◌∷◌, ◌++◌, codes, is_some, length, map, nat_le, replicate, if◌then◌else◌, Option, Some, None}
+use Rattle.std.specs.List.{position, slice_get, slice_split}
+use Rattle.std.specs.Option.{unwrap_or}
 use Rattle.std.specs.Str.{bytes_eq}
+use Rattle.own_model.specs.Call.{Call, Spoken, parsed_call}
 use Rattle.own_model.specs.Listed.{Listed}
+use Rattle.own_model.specs.Transcript.{longest_line}
 use Rattle.line_friendly.specs.Expected.{is_refusal}
-use Rattle.line_grammar.specs.declared.line.NamedCall.{NamedCall}
-use Rattle.line_steps.specs.declared.resolved_line.ResolvedLine.{ResolvedLine}
-use Rattle.line_steps.specs.declared.resolved_line.ResolvedLine.TheVariants.{Call}
-use Rattle.line_steps.specs.declared.resolved_line.ScenarioCall.{ScenarioCall}
+use Rattle.line_names.specs.Filling.{FilledLine}
+use Rattle.line_steps.specs.ResolvedLines.{ResolvedLine, is_unread, resolved_line}
+use Rattle.line_steps.specs.ResolvedLines.ResolvedLine.{Follow, Call as CallLine}
+use Rattle.line_steps.specs.RunPosition.{RunPosition, arrived, passed, position_following}
 use Rattle.list_parser.specs.Budgets.{changed_at}
 use Rattle.budget_search.specs.declared.component_line.ComponentLine.{ComponentLine}
+use Rattle.budget_least.specs.BoundRuns.{BoundRun, IsAnsweredIf}
+use Rattle.budget_least.specs.declared.binding_run.BindingBudgets.{BindingBudgets}
 use Rattle.budget_least.specs.declared.lines_by_component.LinesByComponent.{LinesByComponent}
+
+-- ---- lines of components
 
 -- a line of a component: the number of the scenario's line, whether it is left out, and its text as the engine parses it
 pub record ReadLine : Type 0 where
@@ -29,30 +35,97 @@ lines_of steps = map line_of steps
 abbrev pub lines_in : LinesByComponent → List (List ReadLine)
 lines_in lines = map (λ steps. lines_of steps.items) lines.steps.items
 
+-- the numbers of lines that aren't measured
+abbrev pub numbers_in : LinesByComponent → List ℕ
+numbers_in lines = map (λ line. line.number) lines.unmeasured.items
+
 -- a line is left out if its refusal is expected: by the token `refused`, or by the text of a refusal. So a line that expects any
 -- reply counts
 abbrev pub expects_refusal : Option (List ℕ) → Bool
 expects_refusal None = false
 expects_refusal (Some expected) = bytes_eq expected (codes "refused") || is_refusal expected
 
--- the component that makes a call: the one whose path the line has
-abbrev pub caller_of : Listed → Option NamedCall → Option ℕ
-caller_of list call = option_and_then (λ said. position (λ entry. bytes_eq entry.path said.name.now) list.entries) call
-
 -- one more line of a component
 abbrev pub with_line : ℕ → ReadLine → List (List ReadLine) → List (List ReadLine)
 with_line component line lines = changed_at (λ steps. steps ++ line ∷ []) lines component
 
--- a call is one more line of its component, and without a component none
-abbrev pub with_call : Listed → ℕ → ScenarioCall → List (List ReadLine) → List (List ReadLine)
-with_call list number call lines =
-    option_map_or (λ component. with_line component (record {
-      number = number;
-      left_out = expects_refusal (option_copied call.reply);
-      text = call.line.now;
-    }) lines) (caller_of list call.call) lines
+-- ---- a reading
 
--- a line of the scenario is one of a component only if it is a call
-abbrev pub with_resolved : Listed → ℕ → ResolvedLine → List (List ReadLine) → List (List ReadLine)
-with_resolved list number (Call call) lines = with_call list number call lines
-with_resolved list number resolved lines = lines
+-- the run of a scenario that is read, the lines of components so far, and the numbers of lines that aren't measured
+pub record Reading : Type 0 where
+  pub run : BoundRun
+  pub lines : List (List ReadLine)
+  pub unmeasured : List ℕ
+
+abbrev pub reading : BoundRun → LinesByComponent → Reading
+reading run lines = record { run = run; lines = lines_in lines; unmeasured = numbers_in lines }
+
+-- before the first line: replies bind names only if a dollar sign, 36, is in the text
+abbrev pub first_reading : Listed → List ℕ → RunPosition → BindingBudgets → Reading
+first_reading list text start budgets = record {
+  run = record {
+    list = list;
+    budgets = budgets;
+    binds = is_some (position (λ b. b == 36) text);
+    position = start;
+    clients = replicate (length list.entries) None;
+  };
+  lines = replicate (length list.entries) [];
+  unmeasured = [];
+}
+
+-- the call that the engine parses of a line
+abbrev pub said_in : List ℕ → Option Spoken
+said_in line = if nat_le (length line) longest_line then parsed_call line else None
+
+-- a call is one more line of the component whose path it has, and is answered unless it is left out
+abbrev pub IsAddedTo : ℕ → FilledLine → List ℕ → Bool → Call → ℕ → Reading → Reading → Type 0
+IsAddedTo number filled line left_out call component old new =
+    (new.lines ≡ with_line component (record { number = number; left_out = left_out; text = line }) old.lines)
+    × ((new.unmeasured ≡ old.unmeasured)
+    × IsAnsweredIf (old.run.binds && not left_out) component (length (unwrap_or (slice_get old.lines component) [])) call filled
+    old.run new.run)
+
+-- a call of no component is no line of one
+abbrev pub IsAddedBy : ℕ → FilledLine → List ℕ → Bool → Spoken → Option ℕ → Reading → Reading → Type 0
+IsAddedBy number filled line left_out said None old new = new ≡ old
+IsAddedBy number filled line left_out said (Some component) old new =
+    IsAddedTo number filled line left_out said.call component old new
+
+abbrev pub IsAdded : ℕ → FilledLine → List ℕ → Bool → Option Spoken → Reading → Reading → Type 0
+IsAdded number filled line left_out None old new = new ≡ old
+IsAdded number filled line left_out (Some said) old new =
+    IsAddedBy number filled line left_out said (position (λ entry. bytes_eq entry.path said.name) old.run.list.entries) old new
+
+-- a reading at another position
+abbrev pub at_position : RunPosition → Reading → Reading
+at_position position reading = record reading { run = record reading.run { position = position } }
+
+-- a line that can't be parsed isn't measured
+abbrev pub leaving : Bool → ℕ → Reading → Reading
+leaving true number reading = record reading { unmeasured = reading.unmeasured ++ number ∷ [] }
+leaving false number reading = reading
+
+-- a resolved line of this number is read: a directive is followed, and a call is added
+abbrev pub IsTaken : ℕ → ResolvedLine → Reading → Reading → Type 0
+IsTaken number (Follow directive) old new = new ≡ at_position (position_following old.run.position directive) old
+IsTaken number (CallLine filled line reply) old new = IsAdded number filled line (expects_refusal reply) (said_in line) old new
+IsTaken number resolved old new = new ≡ leaving (is_unread resolved) number old
+
+-- a line of the text is read at the position of the run, and rounds may begin or end there
+abbrev pub IsRead : List ℕ → Reading → Reading → Type 0
+IsRead line old new =
+    (taken : Reading)
+    × (IsTaken old.run.position.number (resolved_line None old.run.position.known line)
+    (at_position (passed old.run.position) old) taken
+    × (new ≡ at_position (arrived taken.run.position) taken))
+
+-- lines are read, one after another
+abbrev pub AreRead : List (List ℕ) → Reading → Reading → Type 0
+AreRead [] old new = new ≡ old
+AreRead (line ∷ lines) old new = (next : Reading) × (IsRead line old next × AreRead lines next new)
+
+-- these are the lines of components in the lines of a text
+abbrev pub HasRead : Listed → List ℕ → RunPosition → BindingBudgets → LinesByComponent → Type 0
+HasRead list text start budgets lines =
+    (run : BoundRun) × AreRead (slice_split (λ b. b == 10) text) (first_reading list text start budgets) (reading run lines)

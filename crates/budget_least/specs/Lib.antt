@@ -1,6 +1,6 @@
 pub mod InitNeeds
 pub mod MachineSizes
-pub mod Measured
+pub mod BoundRuns
 pub mod ComponentLines
 pub mod Report
 pub mod WrittenList

@@ -1,15 +1,24 @@
 //! The run of a scenario that binds its names.
 
+ghost use Rattle.std.specs.Prelude.{◌≡◌, replicate, IfOk, None};
+ghost use Rattle.std.specs.Option.{option_copied, option_map};
+ghost use Rattle.core_calls.specs.Call.{model_call, IsWellFormed};
+ghost use Rattle.budget_meter.specs.Needs.{amounts_of};
+ghost use Rattle.budget_search.specs.AmpleCalls.{after_step};
+ghost use Rattle.budget_search.specs.Steps.{with_args};
+ghost use Rattle.budget_least.specs.BoundRuns.{args_at, is_own, own_budget};
+
 use budget_meter::Budget;
 use budget_search::{
     AccountBudgets, AmpleClient, BudgetChoice, ComponentLine, LARGEST, ample, funded,
 };
 use core_calls::{Call, Reply};
 use init_core::{RouteTable, boot};
-use line_names::FilledLine;
+use line_names::{Directive, FilledLine, NameTable};
 use line_steps::RunPosition;
 use list_parser::{BootFault, StartList};
 use std::alloc::{AllocError, Global};
+use std::marker::Model;
 
 /// The budgets of a run that binds names.
 #[derive(Clone, Copy)]
@@ -29,8 +38,13 @@ pub(crate) enum BindingBudgets<'b> {
     },
 }
 
-impl<'b> BindingBudgets<'b> {
-    ghost use Rattle.std.specs.Prelude.{◌<◌, length};
+impl BindingBudgets<'_> {
+    ghost use Rattle.std.specs.Prelude.{◌≡◌, ◌<◌, length, IfOk, OnOk};
+    ghost use Rattle.std.specs.Option.{option_map};
+    ghost use Rattle.budget_meter.specs.Needs.{amounts_of};
+    ghost use Rattle.budget_search.specs.Alike.{IsFunded};
+    ghost use Rattle.core_calls.specs.Call.{model_call, IsWellFormed};
+    ghost use Rattle.budget_least.specs.BoundRuns.{budget_in, made_in, written_budget};
 
     // Returns the list of the machine on which a component makes its calls.
     fn machine(
@@ -40,58 +54,141 @@ impl<'b> BindingBudgets<'b> {
         component: usize,
     ) -> Result<StartList, AllocError>
         requires { component < length list.now.entries }
+        ensures { IfOk result (λ machine.
+            IsFunded machine list.now component (budget_in list.now self.entry component)) }
     {
-        match self.budget(component) {
-            Some(budget) if budget.caps <= u64::from(LARGEST) => funded(
-                alloc, list, component, budget,
-            ),
-            _ => ample(alloc, list, component),
+        let Some(budget) = self.budget(component) else {
+            return ample(alloc, list, component);
+        };
+        if budget.caps > u64::from(LARGEST) {
+            return ample(alloc, list, component);
         }
+        funded(alloc, list, component, budget)
     }
 
     // Returns the budget of a component's own account that is written, if the run has it.
-    fn budget(self, component: usize) -> Option<Budget> {
-        let BindingBudgets::Chosen {
-            choice,
-            accounts,
-            ..
-        } = self
-        else {
-            return None;
-        };
-        for account in accounts {
-            if account.session().is_none() && account.component() == component {
-                return account.chosen(choice);
-            }
+    fn budget(self, component: usize) -> Option<Budget>
+        ensures { option_map amounts_of result ≡ written_budget self.entry component }
+    {
+        match self {
+            BindingBudgets::Ample => None,
+            BindingBudgets::AsDonated => None,
+            BindingBudgets::Chosen {
+                choice,
+                accounts,
+                ..
+            } => own_budget(choice, accounts, component),
         }
-        None
     }
 
-    // Returns the arguments with which the line at a place among a component's opens its session, if they were set.
-    fn args(self, component: usize, place: usize) -> Option<&'b [u8]> {
+    // Makes the call of the line at a place among a component's.
+    fn make(
+        self,
+        alloc: Global,
+        client: &mut AmpleClient<RouteTable>,
+        component: usize,
+        place: usize,
+        call: Call<'_>,
+    ) -> Result<(), AllocError>
+        requires { IsWellFormed call }
+        ensures { OnOk result (client.new
+            ≡ made_in self.entry component place (model_call call.entry) client.old) }
+    {
         match self {
-            BindingBudgets::Chosen { steps, .. } => steps.get(component)?.get(place)?.args(),
-            _ => None,
+            BindingBudgets::Ample => client.make(alloc, call),
+            BindingBudgets::AsDonated => {
+                client.step(call);
+                Ok(())
+            }
+            BindingBudgets::Chosen { steps, .. } => {
+                make_with(client, args_at(steps, component, place), call);
+                Ok(())
+            }
         }
     }
+}
+
+// Makes a call, with these arguments if it opens a session and there are some.
+fn make_with(client: &mut AmpleClient<RouteTable>, args: Option<&[u8]>, call: Call<'_>)
+    requires { IsWellFormed call }
+    ensures { client.new
+        ≡ after_step (with_args (option_copied args.entry) (model_call call.entry)) client.old }
+{
+    match args {
+        Some(args) => client.open_with(call, args),
+        None => client.step(call),
+    }
+}
+
+// Returns the arguments with which the line at a place among a component's opens its session, if they were set.
+fn args_at(steps: &[Vec<ComponentLine>], component: usize, place: usize) -> Option<&[u8]>
+    ensures { option_copied result ≡ args_at steps.now component place }
+{
+    let lines = steps.get(component)?;
+    let step = lines.get(place)?;
+    step.args()
+}
+
+// Returns the budget of a component's own account that is written.
+fn own_budget(choice: BudgetChoice, accounts: &[AccountBudgets], component: usize) -> Option<Budget>
+    ensures { option_map amounts_of result ≡ own_budget choice accounts.now component }
+{
+    for account in accounts {
+        if is_own(account, component) {
+            return account.chosen(choice);
+        }
+    }
+    None
+}
+
+// Returns whether an account is a component's own.
+fn is_own(account: &AccountBudgets, component: usize) -> bool
+    ensures { result ≡ is_own component account.now }
+{
+    account.session().is_none() && account.component() == component
 }
 
 /// A run in which each component makes its calls on a machine of its own, and the position of the run in
 /// its scenario. A component's replies depend on its own calls and account alone.
 #[derive(Drop)]
 pub(crate) struct BindingRun<'a, 'b, 'm> {
-    pub(crate) list: &'a StartList,
-    pub(crate) position: RunPosition<'m>,
-    /// The components on their machines, by their numbers. A component has none before its first call.
-    clients: Vec<Option<AmpleClient<RouteTable>>>,
+    list: &'a StartList,
     budgets: BindingBudgets<'b>,
     /// Whether replies may bind names; if not, no line has to be answered.
     binds: bool,
+    position: RunPosition<'m>,
+    /// The components on their machines, by their numbers. A component has none before its first call.
+    clients: Vec<Option<AmpleClient<RouteTable>>>,
+}
+
+impl<'a, 'b, 'm> Model for BindingRun<'a, 'b, 'm> {
+    ghost use Rattle.std.specs.Prelude.{◌≡◌, length};
+    ghost use Rattle.std.specs.Coded.{codes};
+    ghost use Rattle.pd_core.specs.CodedWorld.{coded_world};
+    ghost use Rattle.budget_least.specs.BoundRuns.{BoundRun};
+
+    ghost Value = { BoundRun };
+
+    ghost coded = { Prim.hlevel (codes, coded_world) };
+
+    ghost view = { λ run. record {
+      list = run.list.now;
+      budgets = run.budgets;
+      binds = run.binds;
+      position = run.position;
+      clients = run.clients.items;
+    } };
+
+    ghost invariant = { λ run. length run.clients.items ≡ length run.list.now.entries };
 }
 
 impl<'a, 'b, 'm> BindingRun<'a, 'b, 'm> {
-    ghost use Rattle.std.specs.Prelude.{◌<◌, length};
-    ghost use Rattle.core_calls.specs.Call.{IsWellFormed};
+    ghost use Rattle.std.specs.Prelude.{◌≡◌, ◌<◌, length, replicate, IfOk, None, OnOk};
+    ghost use Rattle.core_calls.specs.Call.{model_call, IsWellFormed};
+    ghost use Rattle.line_names.specs.Learning.{learnt};
+    ghost use Rattle.line_names.specs.Views.{directive_view, filled_view};
+    ghost use Rattle.line_steps.specs.RunPosition.{arrived, passed, position_following};
+    ghost use Rattle.budget_least.specs.BoundRuns.{known_client, with_client, without_client, HasBooted, IsAnswered, IsAnsweredIf, IsClient};
 
     /// Returns a run in which no component has made a call. The error is that the host is out of memory.
     pub(crate) fn new(
@@ -100,22 +197,64 @@ impl<'a, 'b, 'm> BindingRun<'a, 'b, 'm> {
         position: RunPosition<'m>,
         budgets: BindingBudgets<'b>,
         binds: bool,
-    ) -> Result<BindingRun<'a, 'b, 'm>, BootFault> {
-        let mut clients = Vec::new(alloc);
-        for _ in 0..list.count() {
-            clients.push(None)?;
-        }
+    ) -> Result<BindingRun<'a, 'b, 'm>, AllocError>
+        ensures { IfOk result (λ run. run ≡ record {
+          list = list.now;
+          budgets = budgets.entry;
+          binds = binds;
+          position = position.entry;
+          clients = replicate (length list.now.entries) None;
+        }) }
+    {
         Ok(BindingRun {
             list,
-            position,
-            clients,
             budgets,
             binds,
+            position,
+            clients: no_clients(alloc, list.count())?,
         })
     }
 
-    /// Answers the call of the line at a place among a component's, and binds the names of the line. The error is that of the boot of the component's
-    /// machine, or that the host is out of memory.
+    /// Returns the list of the run.
+    pub(crate) fn list(&self) -> &'a StartList
+        ensures { result.now ≡ self.now.list }
+    {
+        self.list
+    }
+
+    /// Moves the position to the next line, and returns the number of the line that it passes.
+    pub(crate) fn pass(&mut self) -> u64
+        ensures number { result ≡ self.old.position.number }
+        ensures passed { self.new ≡ record self.old { position = passed self.old.position } }
+    {
+        self.position.pass()
+    }
+
+    /// Returns the values of names at the position.
+    pub(crate) fn known(&self) -> &NameTable
+        ensures { result.now ≡ self.now.position.known }
+    {
+        self.position.known()
+    }
+
+    /// Follows a directive. The error is that the host is out of memory.
+    pub(crate) fn follow(&mut self, directive: Directive<'_>) -> Result<(), AllocError>
+        ensures { OnOk result (self.new ≡ record self.old {
+          position = position_following self.old.position (directive_view directive.entry);
+        }) }
+    {
+        self.position.follow(directive)
+    }
+
+    /// Enters and leaves the rounds that begin and end before the next line. The error is that the host is out of memory.
+    pub(crate) fn arrive(&mut self) -> Result<(), AllocError>
+        ensures { OnOk result (self.new ≡ record self.old { position = arrived self.old.position }) }
+    {
+        self.position.arrive()
+    }
+
+    /// Answers the call of the line at a place among a component's, and binds the names of the line, if replies bind names. The
+    /// error is that of the boot of the component's machine, or that the host is out of memory.
     pub(crate) fn answer(
         &mut self,
         alloc: Global,
@@ -124,56 +263,120 @@ impl<'a, 'b, 'm> BindingRun<'a, 'b, 'm> {
         call: Call<'_>,
         filled: &FilledLine<'_>,
     ) -> Result<(), BootFault>
-        requires { IsWellFormed call }
+        requires there { component < length self.old.list.entries }
+        requires call { IsWellFormed call }
+        ensures { OnOk result (IsAnsweredIf self.old.binds component place (model_call call.entry)
+            (filled_view filled.now) self.old self.new) }
     {
-        if !self.binds || component >= self.list.count() {
+        if !self.binds() {
             return Ok(());
         }
-        self.start(alloc, component)?;
-        self.make(alloc, component, place, call)?;
-        if let Some(Some(client)) = self.clients.get(component) {
-            self.position.learn(filled, client.text())?;
-        }
-        Ok(())
+        self.answer_bound(alloc, component, place, call, filled)
     }
 
-    // Boots the machine of a component, unless it has one.
-    fn start(&mut self, alloc: Global, component: usize) -> Result<(), BootFault>
-        requires { component < length self.old.list.now.entries }
-    {
-        let Some(client) = self.clients.get_mut(component) else {
-            return Ok(());
-        };
-        if client.is_none() {
-            let reply = Reply::boot(alloc)?;
-            let list = self.budgets.machine(alloc, self.list, component)?;
-            let core = boot(alloc, &list)?;
-            *client = Some(AmpleClient::new(core, component, reply));
-        }
-        Ok(())
-    }
-
-    // Makes a call of a component that has a machine.
-    fn make(
+    // Answers a call whose reply binds the names of its line.
+    fn answer_bound(
         &mut self,
         alloc: Global,
         component: usize,
         place: usize,
         call: Call<'_>,
-    ) -> Result<(), AllocError>
-        requires { IsWellFormed call }
+        filled: &FilledLine<'_>,
+    ) -> Result<(), BootFault>
+        requires there { component < length self.old.list.entries }
+        requires call { IsWellFormed call }
+        ensures { OnOk result (IsAnswered component place (model_call call.entry)
+            (filled_view filled.now) self.old self.new) }
     {
-        let args = self.budgets.args(component, place);
-        let Some(Some(client)) = self.clients.get_mut(component) else {
-            return Ok(());
-        };
-        if matches!(self.budgets, BindingBudgets::Ample) {
-            return client.make(alloc, call);
-        }
-        match args {
-            Some(args) => client.open_with(call, args),
-            None => client.step(call),
-        }
+        let mut client = self.take_client(alloc, component)?;
+        self.budgets()
+            .make(alloc, &mut client, component, place, call)?;
+        self.learn(filled, client.text())?;
+        self.put_client(component, client);
         Ok(())
     }
+
+    // Returns whether replies bind names.
+    fn binds(&self) -> bool
+        ensures { result ≡ self.now.binds }
+    {
+        self.binds
+    }
+
+    // Returns the budgets of the run.
+    fn budgets(&self) -> BindingBudgets<'b>
+        ensures { result ≡ self.now.budgets }
+    {
+        self.budgets
+    }
+
+    // Binds the names of a filled line that its reply binds.
+    fn learn(&mut self, filled: &FilledLine<'_>, reply: &[u8]) -> Result<(), AllocError>
+        ensures { OnOk result (self.new ≡ record self.old {
+          position = record self.old.position {
+            known = learnt self.old.position.known (filled_view filled.now) reply.now;
+          };
+        }) }
+    {
+        self.position.learn(filled, reply)
+    }
+
+    // Takes the client of a component out of the run. A component that has made no call begins on its machine.
+    fn take_client(
+        &mut self,
+        alloc: Global,
+        component: usize,
+    ) -> Result<AmpleClient<RouteTable>, BootFault>
+        requires { component < length self.old.list.entries }
+        ensures client { IfOk result (IsClient self.old component) }
+        ensures taken { OnOk result (self.new ≡ without_client component self.old) }
+    {
+        match self.take_known(component) {
+            Some(client) => Ok(client),
+            None => self.boot(alloc, component),
+        }
+    }
+
+    // Takes the client of a component out of the run, if it has one.
+    fn take_known(&mut self, component: usize) -> Option<AmpleClient<RouteTable>>
+        requires { component < length self.old.list.entries }
+        ensures client { result ≡ known_client component self.old }
+        ensures taken { self.new ≡ without_client component self.old }
+    {
+        self.clients[component].take()
+    }
+
+    // Puts the client of a component into the run.
+    fn put_client(&mut self, component: usize, client: AmpleClient<RouteTable>)
+        requires { component < length self.old.list.entries }
+        ensures { self.new
+            ≡ record self.old { clients = with_client component client self.old.clients } }
+    {
+        self.clients[component] = Some(client);
+    }
+
+    // Returns the client of a component that has made no call.
+    fn boot(&self, alloc: Global, component: usize) -> Result<AmpleClient<RouteTable>, BootFault>
+        requires { component < length self.now.list.entries }
+        ensures { IfOk result (HasBooted self.now.list self.now.budgets component) }
+    {
+        let reply = Reply::boot(alloc)?;
+        let list = self.budgets().machine(alloc, self.list(), component)?;
+        let core = boot(alloc, &list)?;
+        Ok(AmpleClient::new(core, component, reply))
+    }
+}
+
+// Returns no client for each of so many components.
+fn no_clients(
+    alloc: Global,
+    components: usize,
+) -> Result<Vec<Option<AmpleClient<RouteTable>>>, AllocError>
+    ensures { IfOk result (λ clients. clients.items ≡ replicate components None) }
+{
+    let mut clients = Vec::new(alloc);
+    for count in 0..components {
+        clients.push(None)?;
+    }
+    Ok(clients)
 }

@@ -1,12 +1,14 @@
 //! The lines of a scenario, component by component.
-ghost use Rattle.std.specs.Prelude.{◌≡◌};
+ghost use Rattle.std.specs.Prelude.{◌≡◌, ◌==◌, [], is_some, map, replicate, IfOk};
+ghost use Rattle.std.specs.List.{position};
 ghost use Rattle.std.specs.Option.{option_copied};
-ghost use Rattle.budget_least.specs.ComponentLines.{expects_refusal};
+ghost use Rattle.budget_least.specs.ComponentLines.{expects_refusal, lines_of};
 
 use crate::binding_run::{BindingBudgets, BindingRun};
 use crate::line_donations::LineDonations;
 use crate::unmeasured_line::{UnmeasuredLine, UnmeasuredReason};
 use crate::written_donation::can_donate;
+use crate::written_scenario::lines_of;
 use budget_search::{ComponentLine, LineNumbers, SHORTAGES};
 use core_calls::Call;
 use init_core::route;
@@ -35,12 +37,15 @@ pub(crate) struct LinesByComponent {
 }
 
 impl LinesByComponent {
-    ghost use Rattle.std.specs.Prelude.{◌≡◌, OnOk, length, suc};
+    ghost use Rattle.std.specs.Prelude.{◌≡◌, ◌++◌, ◌∷◌, [], ◌<◌, ◌==◌, false, length, map, replicate, IfOk, OnOk};
+    ghost use Rattle.std.specs.List.{slice_get, slice_split};
+    ghost use Rattle.std.specs.Option.{option_copied, unwrap_or};
+    ghost use Rattle.core_calls.specs.Call.{model_call, IsWellFormed};
+    ghost use Rattle.line_grammar.specs.Read.{IsReadAs};
+    ghost use Rattle.line_names.specs.Views.{filled_view};
     ghost use Rattle.line_steps.specs.ResolvedLines.{is_unread};
     ghost use Rattle.line_steps.specs.ResolvedViews.{resolved_view, HasParsedCall};
-    ghost use Rattle.line_grammar.specs.Read.{IsReadAs};
-    ghost use Rattle.budget_least.specs.ComponentLines.{line_of, lines_in, with_call, with_line, with_resolved};
-    ghost use Rattle.budget_least.specs.Measured.{counted};
+    ghost use Rattle.budget_least.specs.ComponentLines.{expects_refusal, line_of, lines_in, numbers_in, reading, said_in, with_line, AreRead, HasRead, IsAdded, IsAddedTo, IsRead, IsTaken};
 
     /// Reads the unfolded text of a scenario, by the components of a list, and fills its lines with what a run with these budgets
     /// binds. The error is that of a boot, or that the host is out of memory.
@@ -50,7 +55,9 @@ impl LinesByComponent {
         text: &[u8],
         start: RunPosition<'_>,
         budgets: BindingBudgets<'_>,
-    ) -> Result<LinesByComponent, BootFault> {
+    ) -> Result<LinesByComponent, BootFault>
+        ensures { IfOk result (HasRead list.now text.now start.entry budgets.entry) }
+    {
         let mut run = BindingRun::new(alloc, list, start, budgets, has_names(text))?;
         let mut lines = LinesByComponent::empty(alloc, list.count())?;
         lines.add_all(alloc, &mut run, text)?;
@@ -111,7 +118,10 @@ impl LinesByComponent {
     }
 
     /// Returns the lines of a component.
-    pub(crate) fn of(&self, component: usize) -> &[ComponentLine] {
+    pub(crate) fn of(&self, component: usize) -> &[ComponentLine]
+        ensures { length result.now
+            ≡ length (unwrap_or (slice_get (lines_in self.now) component) []) }
+    {
         match self.steps.get(component) {
             Some(steps) => steps.as_slice(),
             None => &[],
@@ -119,13 +129,12 @@ impl LinesByComponent {
     }
 
     // Returns no lines for this number of components.
-    fn empty(alloc: Global, components: usize) -> Result<LinesByComponent, AllocError> {
-        let mut steps = Vec::new(alloc);
-        for _ in 0..components {
-            steps.push(Vec::new(alloc))?;
-        }
+    fn empty(alloc: Global, components: usize) -> Result<LinesByComponent, AllocError>
+        ensures lines { IfOk result (λ lines. lines_in lines ≡ replicate components []) }
+        ensures unmeasured { IfOk result (λ lines. numbers_in lines ≡ []) }
+    {
         Ok(LinesByComponent {
-            steps,
+            steps: no_lines(alloc, components)?,
             unmeasured: Vec::new(alloc),
             numbers: LineNumbers::new(alloc),
         })
@@ -137,14 +146,45 @@ impl LinesByComponent {
         alloc: Global,
         run: &mut BindingRun<'_, '_, '_>,
         text: &[u8],
-    ) -> Result<(), BootFault> {
+    ) -> Result<(), BootFault>
+        ensures { OnOk result (AreRead (slice_split (λ b. b == 10) text.now)
+            (reading run.old self.old) (reading run.new self.new)) }
+    {
+        let lines = lines_of(alloc, text)?;
+        self.add_lines(alloc, run, lines.as_slice())
+    }
+
+    // Adds lines.
+    fn add_lines(
+        &mut self,
+        alloc: Global,
+        run: &mut BindingRun<'_, '_, '_>,
+        lines: &[&[u8]],
+    ) -> Result<(), BootFault>
+        ensures { OnOk result (AreRead (map (λ line. line.now) lines.now)
+            (reading run.old self.old) (reading run.new self.new)) }
+    {
         let mut buffers = LineBuffers::new();
-        for line in text.split(|byte| *byte == b'\n') {
-            let number = run.position.pass();
-            let resolved = resolve(None, run.position.known(), line, &mut buffers);
-            self.take(alloc, run, line, number, resolved)?;
-            run.position.arrive()?;
+        for line in lines {
+            self.add_line(alloc, run, line, &mut buffers)?;
         }
+        Ok(())
+    }
+
+    // Adds a line at the position of the run.
+    fn add_line(
+        &mut self,
+        alloc: Global,
+        run: &mut BindingRun<'_, '_, '_>,
+        line: &[u8],
+        buffers: &mut LineBuffers,
+    ) -> Result<(), BootFault>
+        ensures { OnOk result (IsRead line.now (reading run.old self.old) (reading run.new self.new)) }
+    {
+        let number = run.pass();
+        let resolved = resolve(None, run.known(), line, buffers);
+        self.take(alloc, run, line, number, resolved)?;
+        run.arrive()?;
         Ok(())
     }
 
@@ -158,13 +198,11 @@ impl LinesByComponent {
         resolved: ResolvedLine<'_>,
     ) -> Result<(), BootFault>
         requires { HasParsedCall resolved }
-        ensures unmeasured { OnOk result (length self.new.unmeasured.items
-            ≡ counted (is_unread (resolved_view resolved.entry)) (length self.old.unmeasured.items)) }
-        ensures lines { OnOk result (lines_in self.new
-            ≡ with_resolved run.old.list.now number resolved.entry (lines_in self.old)) }
+        ensures { OnOk result (IsTaken number (resolved_view resolved.entry)
+            (reading run.old self.old) (reading run.new self.new)) }
     {
         match resolved.unread() {
-            Some(why) => self.leave(alloc, run.list, line, number, why),
+            Some(why) => self.leave(alloc, run.list(), line, number, why),
             None => self.add(alloc, run, line, number, resolved),
         }
     }
@@ -178,8 +216,7 @@ impl LinesByComponent {
         number: u64,
         why: UnreadReason,
     ) -> Result<(), BootFault>
-        ensures unmeasured { OnOk result (length self.new.unmeasured.items
-            ≡ suc (length self.old.unmeasured.items)) }
+        ensures unmeasured { OnOk result (numbers_in self.new ≡ numbers_in self.old ++ number ∷ []) }
         ensures lines { self.new.steps ≡ self.old.steps }
     {
         let (name, _) = next_word(trimmed_line(line));
@@ -203,22 +240,28 @@ impl LinesByComponent {
         number: u64,
         resolved: ResolvedLine<'_>,
     ) -> Result<(), BootFault>
-        requires { HasParsedCall resolved }
-        ensures unmeasured { OnOk result (self.new.unmeasured ≡ self.old.unmeasured) }
-        ensures lines { OnOk result (lines_in self.new
-            ≡ with_resolved run.old.list.now number resolved.entry (lines_in self.old)) }
+        requires parsed { HasParsedCall resolved }
+        requires read { is_unread (resolved_view resolved) ≡ false }
+        ensures { OnOk result (IsTaken number (resolved_view resolved.entry)
+            (reading run.old self.old) (reading run.new self.new)) }
     {
         match resolved {
             ResolvedLine::Directive(directive) => {
-                run.position.follow(directive)?;
+                run.follow(directive)?;
                 Ok(())
             }
             ResolvedLine::Call(call) => self.add_call(alloc, run, line, number, &call),
-            _ => Ok(()),
+            ResolvedLine::Skipped => Ok(()),
+            ResolvedLine::Nothing => Ok(()),
+            ResolvedLine::Log(_) => Ok(()),
+            ResolvedLine::TooLong => Ok(()),
+            ResolvedLine::BadName(_) => Ok(()),
+            ResolvedLine::Misplaced(_, _) => Ok(()),
+            ResolvedLine::BadLine(_) => Ok(()),
         }
     }
 
-    // Adds a call to the component whose name it has. A call whose refusal is expected isn't made.
+    // Adds a call to the component whose name it has.
     fn add_call(
         &mut self,
         alloc: Global,
@@ -228,36 +271,53 @@ impl LinesByComponent {
         call: &ScenarioCall<'_>,
     ) -> Result<(), BootFault>
         requires { IsReadAs call.now.line.now call.now.call }
-        ensures unmeasured { OnOk result (self.new.unmeasured ≡ self.old.unmeasured) }
-        ensures lines { OnOk result (lines_in self.new
-            ≡ with_call run.old.list.now number call.now (lines_in self.old)) }
+        ensures { OnOk result (IsAdded number (filled_view call.now.filled) call.now.line.now
+            (expects_refusal (option_copied call.now.reply)) (said_in call.now.line.now)
+            (reading run.old self.old) (reading run.new self.new)) }
     {
         let Some(said) = call.call else {
             return Ok(());
         };
-        let Some(component) = run.list.find(said.name) else {
+        let Some(component) = run.list().find(said.name) else {
             return Ok(());
         };
-        let may_be_short = may_be_short(call.reply) && is_routed(run.list, component, said.call);
+        self.add_to(alloc, run, line, number, call, said.call, component)
+    }
+
+    // Adds a call to its component. A call whose refusal is expected isn't made.
+    fn add_to(
+        &mut self,
+        alloc: Global,
+        run: &mut BindingRun<'_, '_, '_>,
+        line: &[u8],
+        number: u64,
+        call: &ScenarioCall<'_>,
+        said: Call<'_>,
+        component: usize,
+    ) -> Result<(), BootFault>
+        requires there { component < length run.old.list.entries }
+        requires formed { IsWellFormed said }
+        ensures { OnOk result (IsAddedTo number (filled_view call.now.filled) call.now.line.now
+            (expects_refusal (option_copied call.now.reply)) (model_call said.entry) component
+            (reading run.old self.old) (reading run.new self.new)) }
+    {
         let is_left_out = expects_refusal(call.reply);
         if !is_left_out {
             let place = self.of(component).len();
-            run.answer(alloc, component, place, said.call, &call.filled)?;
+            run.answer(alloc, component, place, said, &call.filled)?;
         }
         let mut kept = Vec::new(alloc);
         kept.extend_from_slice(call.line)?;
-        self.push(
-            component,
-            ComponentLine {
-                number,
-                is_left_out,
-                may_be_short,
-                line: kept,
-                can_donate: can_donate(line),
-                donation: None,
-                args: None,
-            },
-        )?;
+        let step = ComponentLine {
+            number,
+            is_left_out,
+            may_be_short: may_be_short(call.reply) && is_routed(run.list(), component, said),
+            line: kept,
+            can_donate: can_donate(line),
+            donation: None,
+            args: None,
+        };
+        self.push(component, step)?;
         Ok(())
     }
 
@@ -276,6 +336,18 @@ impl LinesByComponent {
     }
 }
 
+// Returns no lines for each of so many components.
+fn no_lines(alloc: Global, components: usize) -> Result<Vec<Vec<ComponentLine>>, AllocError>
+    ensures { IfOk result (λ steps. map (λ lines. lines_of lines.items) steps.items
+        ≡ replicate components []) }
+{
+    let mut steps = Vec::new(alloc);
+    for count in 0..components {
+        steps.push(Vec::new(alloc))?;
+    }
+    Ok(steps)
+}
+
 // Returns the number of a line, if another reading hasn't the same line at its place.
 fn changed_number(step: Option<&ComponentLine>, other: Option<&ComponentLine>) -> Option<u64> {
     match (step, other) {
@@ -286,7 +358,9 @@ fn changed_number(step: Option<&ComponentLine>, other: Option<&ComponentLine>) -
 }
 
 /// Returns whether names may be in a text.
-pub(crate) fn has_names(text: &[u8]) -> bool {
+pub(crate) fn has_names(text: &[u8]) -> bool
+    ensures { result ≡ is_some (position (λ b. b == 36) text.now) }
+{
     find_byte(b'$', text).is_some()
 }
 

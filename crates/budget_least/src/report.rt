@@ -5,6 +5,7 @@ ghost use Rattle.std.specs.Option.{option_map};
 ghost use Rattle.own_model.specs.Amounts.{more_of};
 ghost use Rattle.budget_meter.specs.Needs.{amounts_of};
 ghost use Rattle.budget_least.specs.Report.{accounts_of, list_of, sum_of, unmeasured_of, HasSmallestMachine};
+ghost use Rattle.budget_least.specs.ComponentLines.{HasRead};
 ghost use Rattle.budget_least.specs.InitNeeds.{capped, is_entry_of, need_of, needed_below, sum_with, AreChanged, AreNeeded, AreNeededFrom};
 ghost use Rattle.budget_least.specs.WrittenList.{has_budget, IsResized, IsWritten};
 ghost use Rattle.budget_least.specs.WrittenScenario.{scenario_of};
@@ -57,7 +58,10 @@ impl BudgetQuery<'_> {
         alloc: Global,
         start: &RunPosition<'_>,
         budgets: BindingBudgets<'_>,
-    ) -> Result<LinesByComponent, BootFault> {
+    ) -> Result<LinesByComponent, BootFault>
+        ensures { IfOk result
+            (HasRead self.entry.list.now self.entry.scenario.now start.now budgets.entry) }
+    {
         let start = start.copy(alloc)?;
         LinesByComponent::read(alloc, self.list, self.scenario, start, budgets)
     }

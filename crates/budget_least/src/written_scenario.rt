@@ -53,8 +53,8 @@ fn add_line(
     }
 }
 
-// Returns the lines of a text. The error is that the host is out of memory.
-fn lines_of(alloc: Global, text: &[u8]) -> Result<Vec<&[u8]>, AllocError>
+/// Returns the lines of a text. The error is that the host is out of memory.
+pub(crate) fn lines_of(alloc: Global, text: &[u8]) -> Result<Vec<&[u8]>, AllocError>
     ensures { IfOk result (λ lines. map (λ line. line.now) lines.items
         ≡ slice_split (λ b. b == 10) text.now) }
 {

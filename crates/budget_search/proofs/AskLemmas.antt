@@ -1,51 +1,37 @@
 -- A request that is made again after each upgrade.
-use Rattle.std.proofs.Common.{◌≡◌, ◌≤◌, ℕ, ◌+◌, Bool, true, false, List, [], ◌∷◌, ◌++◌, length, length-append, arith, refl, ap, ◌∙◌, sym}
+use Rattle.std.proofs.Common.{◌≡◌, ℕ, zero, suc, ◌*◌, List, refl, ap, ◌∙◌, subst, sym}
+use Rattle.std.specs.Prelude.{Option, Some, None, OnOk, Result}
+use Rattle.std.specs.Option.{option_map, option_map_or}
 use Rattle.own_model.specs.Call.{Call}
-use Rattle.own_model.specs.Call.Call.{Upgrade}
-use Rattle.own_model.specs.World.{World}
-use Rattle.budget_search.specs.AmpleCalls.{asked_again, is_session_short, world_after, IsAsked}
+use Rattle.budget_search.specs.AmpleCalls.{asked_again, asked_up, made_with_enough, of_word, upgrade_args, Client}
 
--- so many upgrades were made
-abbrev pub HasAsked : ℕ → ℕ → Call → World → ℕ → World → Type 0
-HasAsked component selector call start made world =
-    (upgrades : List (List ℕ)) × ((length upgrades ≡ made) × (world ≡ asked_again component selector call upgrades start))
+-- an upgrade, and none
+pub asked_some : {X : Type 0} (f : X → List ℕ) (o : Option X) (x : X) (args : List ℕ) (found : Option (List ℕ)) → option_map f o ≡ found → o ≡ Some x → args ≡ f x → found ≡ Some args
+asked_some f o x args found told is same = sym told ∙ ap (option_map f) is ∙ ap Some (sym same)
 
-asked_more : (component selector : ℕ) (call : Call) (upgrades : List (List ℕ)) (args : List ℕ) (world : World) →
-    asked_again component selector call (upgrades ++ args ∷ []) world
-    ≡ world_after component call (world_after component (Upgrade selector args) (asked_again component selector call upgrades world))
-asked_more component selector call [] args world = refl
-asked_more component selector call (first ∷ upgrades) args world =
-    asked_more component selector call upgrades args (world_after component call (world_after component (Upgrade selector first) world))
+pub asked_none : {X : Type 0} (f : X → List ℕ) (o : Option X) (found : Option (List ℕ)) → option_map f o ≡ found → o ≡ None → found ≡ None
+asked_none f o found told is = sym told ∙ ap (option_map f) is
 
--- none, and one more
-pub asked_none : (component selector : ℕ) (call : Call) (start world : World) → world ≡ start → HasAsked component selector call start 0 world
-asked_none component selector call start world is = ([], (refl, is))
+module _ (selector : ℕ) (request : Call) (times : ℕ) (client : Client) where
+  -- one upgrade more
+  pub asked_more : (n left twice : ℕ) (args : List ℕ) (next : Client) → n ≡ suc left → twice ≡ of_word (times * 2) → upgrade_args times client.text ≡ Some args →
+      next ≡ asked_again selector request args client → asked_up selector request left twice next ≡ asked_up selector request n times client
+  asked_more n left twice args next is doubled short again =
+      (λ i. asked_up selector request left (doubled i) (again i))
+      ∙ sym (ap (λ o. option_map_or (λ a. asked_up selector request left (of_word (times * 2)) (asked_again selector request a client)) o client) short)
+      ∙ sym (ap (λ m. asked_up selector request m times client) is)
 
-pub asked_next : (component selector : ℕ) (call : Call) (start : World) (made : ℕ) (was raised world : World) (args : List ℕ) → HasAsked component selector call start made was →
-    raised ≡ world_after component (Upgrade selector args) was → world ≡ world_after component call raised → HasAsked component selector call start (made + 1) world
-asked_next component selector call start made was raised world args asked up again =
-    let longer : length (asked.0 ++ args ∷ []) ≡ made + 1 = omega (arith, length-append asked.0 (args ∷ []), asked.1.0) in (
-      asked.0 ++ args ∷ [],
-      (
-        longer,
-        again ∙ ap (world_after component call) (up ∙ ap (world_after component (Upgrade selector args)) asked.1.1)
-            ∙ sym (asked_more component selector call asked.0 args start),
-      ),
-    )
+  -- the account has enough
+  pub asked_enough : (n : ℕ) → upgrade_args times client.text ≡ None → client ≡ asked_up selector request n times client
+  asked_enough zero enough = refl
+  asked_enough (suc left) enough =
+      sym (ap (λ o. option_map_or (λ a. asked_up selector request left (of_word (times * 2)) (asked_again selector request a client)) o client) enough)
 
-true_false : true ≡ false → ⊥
-true_false is = absurd (cc)
+  -- all upgrades were tried
+  pub asked_most : (n : ℕ) → n ≡ 0 → client ≡ asked_up selector request n times client
+  asked_most n is = sym (ap (λ m. asked_up selector request m times client) is)
 
--- the account has enough
-pub has_enough : (short : Bool) (made : ℕ) → short ≡ false → short ≡ true → made ≡ 32
-has_enough short made quiet loud = absurd (true_false (sym loud ∙ quiet))
-
--- the request is at its end
-pub is_asked : (component selector : ℕ) (call : Call) (old : World) (made : ℕ) (world : World) (text : List ℕ) → made ≤ 32 → HasAsked component selector call (world_after component call old) made world →
-    (is_session_short text ≡ true → made ≡ 32) → IsAsked component selector call old world text
-is_asked component selector call old made world text few asked enough = record {
-  upgrades = asked.0;
-  few = omega (arith, few, asked.1.0);
-  world = asked.1.1;
-  enough = λ short. asked.1.0 ∙ enough short;
-}
+-- a call that is a request
+pub request_made : {T E : Type 0} (r : Result T E) (call request : Call) (old new : Client) → call ≡ request → OnOk r (new ≡ made_with_enough request old) →
+    OnOk r (new ≡ made_with_enough call old)
+request_made r call request old new is made = subst (λ c. OnOk r (new ≡ made_with_enough c old)) (sym is) made

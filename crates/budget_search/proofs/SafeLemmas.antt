@@ -7,7 +7,7 @@ use Rattle.own_model.specs.Amounts.{Amounts}
 use Rattle.budget_theorems.specs.Need.{IsBelow}
 use Rattle.budget_search.proofs.OrderLemmas.{begin_of, first_is_least, least_of, ordered_rest}
 use Rattle.budget_search.specs.BudgetIntervals.{is_below, covers, lowest_of, safe_before, safe_of, serves, AreOrdered, ArePast}
-use Rattle.budget_search.specs.Sufficient.{AllSuffice, HasLeast, HasSafe, IsLeast, IsSafe, IsWithin}
+use Rattle.budget_search.specs.Sufficient.{HasLeast, HasSafe, IsLeast, IsSafe, IsWithin}
 use Rattle.budget_search.specs.declared.budget_intervals.BudgetInterval.{BudgetInterval}
 
 -- ---- tests

@@ -2,7 +2,7 @@
 ghost use Rattle.std.specs.Prelude.{◌≡◌, ◌∷◌, ◌+◌, true, false, length, replicate, List, if◌then◌else◌, None, OnOk, IfOk};
 ghost use Rattle.core_calls.specs.Call.{model_call, IsWellFormed};
 ghost use Rattle.own_model.specs.SessionArgs.{arguments_of};
-ghost use Rattle.budget_search.specs.ReachedSessions.{after_call, after_left_out, came_with, named_in, names, opens, reaches, sessions_of, unopened, Came, Reach, Sessions};
+ghost use Rattle.budget_search.specs.ReachedSessions.{after_call, after_left_out, came_with, followed, followed_from, named_in, names, opens, reaches, sessions_of, unopened, IsFollowed, Reach, Sessions};
 ghost use Rattle.budget_search.specs.declared.component_line.ComponentLine.{ComponentLine};
 
 use crate::ample_client::AmpleClient;
@@ -50,7 +50,8 @@ impl OpenedSessions {
         component: usize,
         steps: &[ComponentLine],
     ) -> Result<OpenedSessions, BootFault>
-        ensures { IfOk result (λ sessions. Reach steps.now 0 unopened (sessions_of sessions)) }
+        ensures { IfOk result (λ sessions.
+            Reach steps.now 0 (followed_from list.now component) (sessions_of sessions)) }
     {
         let mut sessions = OpenedSessions::none(alloc)?;
         let reply = Reply::boot(alloc)?;
@@ -77,7 +78,8 @@ impl OpenedSessions {
         client: &mut AmpleClient<R>,
         steps: &[ComponentLine],
     ) -> Result<(), BootFault>
-        ensures { OnOk result (Reach steps.now 0 (sessions_of self.old) (sessions_of self.new)) }
+        ensures { OnOk result (Reach steps.now 0 (followed client.old (sessions_of self.old))
+            (sessions_of self.new)) }
     {
         for place in 0..steps.len() {
             if !self.goes_on(alloc, client, &steps[place], place)? {
@@ -97,11 +99,12 @@ impl OpenedSessions {
     ) -> Result<bool, BootFault>
         ensures on { IfOk result (λ goes_on. goes_on ≡ true →
             (steps : List ComponentLine) (end : Sessions) →
-            Reach steps (place + 1) (sessions_of self.new) end →
-            Reach (step.now ∷ steps) place (sessions_of self.old) end) }
+            Reach steps (place + 1) (followed client.new (sessions_of self.new)) end →
+            Reach (step.now ∷ steps) place (followed client.old (sessions_of self.old)) end) }
         ensures ends { IfOk result (λ goes_on. goes_on ≡ false →
             (steps : List ComponentLine) →
-            Reach (step.now ∷ steps) place (sessions_of self.old) (sessions_of self.new)) }
+            Reach (step.now ∷ steps) place (followed client.old (sessions_of self.old))
+            (sessions_of self.new)) }
     {
         let Some(call) = step.said() else {
             return Ok(true);
@@ -126,8 +129,9 @@ impl OpenedSessions {
         place: usize,
     ) -> Result<(), BootFault>
         requires { IsWellFormed call }
-        ensures { OnOk result ((came : Came)
-            × (sessions_of self.new ≡ after_call came place (model_call call.entry) (sessions_of self.old))) }
+        ensures { OnOk result (IsFollowed false place (model_call call.entry)
+            (followed client.old (sessions_of self.old))
+            (followed client.new (sessions_of self.new))) }
     {
         client.make(alloc, call)?;
         let (selector, is_done) = (client.selector(), client.is_done());
@@ -208,7 +212,7 @@ impl OpenedSessions {
         step: usize,
     ) -> Result<(), BootFault>
         ensures { OnOk result (sessions_of self.new
-            ≡ opens (arguments_of args.now) selector (sessions_of self.old)) }
+            ≡ opens step (arguments_of args.now) selector (sessions_of self.old)) }
     {
         let Some(donation) = named_by(args) else {
             return Ok(());
@@ -230,7 +234,7 @@ impl OpenedSessions {
 
     // Returns the number of sessions that were opened.
     fn count(&self) -> usize
-        ensures { result ≡ length (sessions_of self.now).places }
+        ensures { result ≡ length (sessions_of self.now).opened }
     {
         self.opened.len()
     }

@@ -1,5 +1,5 @@
 -- One byte more.
-use Rattle.std.proofs.Common.{arith, ◌+◌, ◌++◌, sym, ◌∙◌}
+use Rattle.std.proofs.Common.{arith, ◌++◌, sym, ◌∙◌}
 use Rattle.budget_least.specs.WrittenDonation.{kept_pairs}
 use Rattle.budget_least.proofs.DonationLemmas.{tells_end, tells_more}
 use Rattle.budget_least.proofs.written_donation.add_others.Goals.{then-ends_pair+in_ok-add_other, else-ends_pair}

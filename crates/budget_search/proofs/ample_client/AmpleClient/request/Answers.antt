@@ -1,45 +1,38 @@
 -- One upgrade more, until the account has enough.
-use Rattle.std.proofs.Common.{◌≡◌, ◌∙◌, ap, arith, false, sym, ℕ}
-use Rattle.std.specs.Prelude.{is_some}
-use Rattle.own_model.specs.Call.Call.{CallSession, Upgrade}
-use Rattle.budget_search.specs.AmpleCalls.{is_session_short, world_after}
-use Rattle.budget_search.proofs.AskLemmas.{asked_next, asked_none, has_enough, is_asked}
+use Rattle.std.proofs.Common.{◌≡◌, ◌+◌, ◌-◌, ◌∙◌, ap, arith, suc, sym}
+use Rattle.own_model.specs.Call.Call.{CallSession}
+use Rattle.budget_search.specs.AmpleCalls.{asked_up, upgrade_args, Client}
+use Rattle.budget_search.proofs.AskLemmas.{asked_enough, asked_more, asked_most, asked_none, asked_some}
 use Rattle.budget_search.proofs.ample_client.AmpleClient.request.Goals as goal
 
 pub loop-made-init : goal.loop-made-init
-loop-made-init g c =
-    let component = c.args.self.now.component in
-    let call = CallSession c.args.selector c.args.request.now in
-    record {
-      same = c.step.ensures.same;
-      few = omega arith;
-      asked = asked_none component c.args.selector call (world_after component call c.args.self.now.core) c.step.new.self.core c.step.ensures.core;
-    }
+loop-made-init g c = record {
+  few = omega arith;
+  left = ap (asked_up c.args.selector (CallSession c.args.selector c.args.request.now) 32 1) c.step.ensures;
+}
 
 pub loop-made-preserved : goal.loop-made-preserved
 loop-made-preserved g c =
-    let component = c.args.self.now.component in
-    let call = CallSession c.args.selector c.args.request.now in
-    let up = Upgrade c.args.selector c.as_bytes-args.result.now in
-    let before : c.loop-made.self.component ≡ component = c.loop-made.invariant.same in
-    let between : c.step-in-loop-made.new.self.component ≡ component = c.step-in-loop-made.ensures.same ∙ before in
+    let made = c.loop-made.made in
+    let times = c.loop-made.times in
+    let less : 32 - made ≡ suc (32 - (made + 1)) = omega (arith, c.loop-made-test.true) in
     record {
-      same = c.step-in-loop-made-2.ensures.same ∙ between;
       few = omega (arith, c.loop-made-test.true);
-      asked = asked_next component c.args.selector call (world_after component call c.args.self.now.core) c.loop-made.made c.loop-made.self.core c.step-in-loop-made.new.self.core c.step-in-loop-made-2.new.self.core c.as_bytes-args.result.now
-          c.loop-made.invariant.asked
-          (c.step-in-loop-made.ensures.core ∙ ap (λ (n : ℕ). world_after n up c.loop-made.self.core) before)
-          (c.step-in-loop-made-2.ensures.core ∙ ap (λ (n : ℕ). world_after n call c.step-in-loop-made.new.self.core) between);
+      left =
+          asked_more c.args.selector (CallSession c.args.selector c.args.request.now) times c.loop-made.self (32 - made) (32 - (made + 1)) c.saturating_mul-times.result
+          c.as_slice.result.now c.ask_again.new.self less c.saturating_mul-times.ensures
+          (ap (λ (v : Client). upgrade_args times v.text) (sym c.self.view_is) ∙ ap (upgrade_args times) (sym c.answer.ensures) ∙ asked_some _ _ c.in-Some.args _ _ c.in_ok-args.ensures c.in-Some.is c.as_slice.ensures.value)
+          c.ask_again.ensures
+          ∙ c.loop-made.invariant.left;
     }
 
-pub returns-in-None-clause-asked : goal.returns-in-None-clause-asked
-returns-in-None-clause-asked g c =
-    let quiet : is_session_short c.loop-made.self.reply.text ≡ false =
-    ap is_session_short (sym c.answer.ensures) ∙ sym c.in_ok-args.ensures ∙ ap is_some c.in-None.is in
-    is_asked c.args.self.now.component c.args.selector (CallSession c.args.selector c.args.request.now) c.args.self.now.core c.loop-made.made c.loop-made.self.core c.loop-made.self.reply.text
-    c.loop-made.invariant.few c.loop-made.invariant.asked (has_enough _ _ quiet)
+pub returns-in-None : goal.returns-in-None
+returns-in-None g c =
+    asked_enough c.args.selector (CallSession c.args.selector c.args.request.now) c.loop-made.times c.loop-made.self (32 - c.loop-made.made)
+    (ap (λ (v : Client). upgrade_args c.loop-made.times v.text) (sym c.self.view_is) ∙ ap (upgrade_args c.loop-made.times) (sym c.answer.ensures) ∙ asked_none _ _ _ c.in_ok-args.ensures c.in-None.is)
+    ∙ c.loop-made.invariant.left
 
-pub returns-clause-asked : goal.returns-clause-asked
-returns-clause-asked g c =
-    is_asked c.args.self.now.component c.args.selector (CallSession c.args.selector c.args.request.now) c.args.self.now.core c.loop-made.made c.loop-made.self.core c.loop-made.self.reply.text
-    c.loop-made.invariant.few c.loop-made.invariant.asked (λ short. omega (arith, c.loop-made-test.false, c.loop-made.invariant.few))
+pub returns : goal.returns
+returns g c =
+    asked_most c.args.selector (CallSession c.args.selector c.args.request.now) c.loop-made.times c.loop-made.self (32 - c.loop-made.made)
+    (omega (arith, c.loop-made-test.false)) ∙ c.loop-made.invariant.left

@@ -1,19 +1,19 @@
 -- A line that is left out, and one whose call is made.
-use Rattle.std.proofs.Common.{◌+◌, sym, ◌∙◌}
+use Rattle.std.proofs.Common.{◌+◌, ap, false, sym, true, ◌∙◌}
 use Rattle.core_calls.specs.Call.{model_call}
-use Rattle.budget_search.specs.ReachedSessions.{sessions_of, Reach}
+use Rattle.budget_search.specs.ReachedSessions.{followed, sessions_of, Reach}
 use Rattle.budget_search.specs.Steps.{call_said}
-use Rattle.budget_search.proofs.ReachLemmas.{left_by, made_by}
+use Rattle.budget_search.proofs.ReachLemmas.{steps_by}
 use Rattle.budget_search.proofs.opened_sessions.OpenedSessions.goes_on.Goals as goal
 
 pub returns-then-step-clause-on : goal.returns-then-step-clause-on
 returns-then-step-clause-on g c = λ _ steps end reach.
-    left_by c.args.step.now.is_left_out c.args.place (Reach steps (c.args.place + 1)) (sessions_of c.args.self.now) end (call_said c.args.step.now.line.items)
-    (model_call c.in-Some.call) (sessions_of c.leave_out.new.self) (sym c.in-Some.ensures.call) (sym c.is_exit.ensures ∙ c.if-is_exit.false) reach c.if-step.true
-    c.in_ok-leave_out.ensures
+    steps_by c.args.step.now.is_left_out c.args.place (λ next. Reach steps (c.args.place + 1) next end) (followed c.args.client.now (sessions_of c.args.self.now)) end
+    (call_said c.args.step.now.line.items) (model_call c.in-Some.call) (followed c.args.client.now (sessions_of c.leave_out.new.self)) (sym c.in-Some.ensures.call)
+    (sym c.is_exit.ensures ∙ c.if-is_exit.false) reach true c.if-step.true (ap (followed c.args.client.now) c.in_ok-leave_out.ensures)
 
 pub returns-clause-on : goal.returns-clause-on
 returns-clause-on g c = λ _ steps end reach.
-    made_by c.args.step.now.is_left_out c.args.place (Reach steps (c.args.place + 1)) (sessions_of c.args.self.now) end (call_said c.args.step.now.line.items)
-    (model_call c.in-Some.call) (sessions_of c.go_on.new.self) (sym c.in-Some.ensures.call) (sym c.is_exit.ensures ∙ c.if-is_exit.false) reach c.if-step.false
-    c.in_ok-go_on.ensures
+    steps_by c.args.step.now.is_left_out c.args.place (λ next. Reach steps (c.args.place + 1) next end) (followed c.args.client.now (sessions_of c.args.self.now)) end
+    (call_said c.args.step.now.line.items) (model_call c.in-Some.call) (followed c.go_on.new.client (sessions_of c.go_on.new.self)) (sym c.in-Some.ensures.call)
+    (sym c.is_exit.ensures ∙ c.if-is_exit.false) reach false c.if-step.false c.in_ok-go_on.ensures

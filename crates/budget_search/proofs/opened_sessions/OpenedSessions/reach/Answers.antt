@@ -1,6 +1,6 @@
 -- The session that the selector names, or none.
-use Rattle.std.proofs.Common.{arith, sym, ◌∙◌}
-use Rattle.budget_search.proofs.ReachLemmas.{reaches_at, reaches_past}
+use Rattle.std.proofs.Common.{ap, arith, sym, ◌∙◌}
+use Rattle.budget_search.proofs.ReachLemmas.{one_of, reaches_at, reaches_past}
 use Rattle.budget_search.proofs.opened_sessions.OpenedSessions.reach.Goals as goal
 
 pub returns-then-owner-len : goal.returns-then-owner-len
@@ -12,4 +12,4 @@ pub returns : goal.returns
 returns c =
     reaches_at c.args.self.now.opened.items c.args.self.now.owners.items c.args.selector c.args.place c.in-Some.owner c.index_mut-opened.result.now _
     (sym c.in-Some.is ∙ c.owner.ensures) (omega (arith, c.if-owner-len.false, c.len.ensures, c.args.self.now.opened.ok.0)) c.index_mut-opened.ensures.value
-    c.in_ok-push.ensures.items
+    (ap (one_of c.index_mut-opened.result.now.step c.index_mut-opened.result.now.selector) c.in_ok-push.ensures.items)
