@@ -1,3 +1,4 @@
 pub mod Advice
+pub mod Messages
 pub mod Services
 pub mod Views

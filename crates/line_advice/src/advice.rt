@@ -1,4 +1,10 @@
 //! What is probably not intended in a line.
+ghost use Rattle.std.specs.Prelude.{◌≡◌, Some};
+ghost use Rattle.std.specs.Fmt.{WritesOnOk};
+ghost use Rattle.std.specs.Option.{option_copied};
+ghost use Rattle.line_advice.specs.Messages.{advice_message, found_text, meant_text, unknown_text};
+ghost use Rattle.line_advice.specs.Views.{reason_view};
+
 use crate::key::ArgumentKey;
 use std::fmt;
 
@@ -32,7 +38,10 @@ pub struct LineAdvice<'a> {
 
 impl<'a> AdviceReason<'a> {
     /// Returns the message about this text of the line, which may be empty.
-    pub fn about(self, text: &'a str) -> AdviceMessage<'a> {
+    pub fn about(self, text: &'a str) -> AdviceMessage<'a>
+        ensures reason { result.reason ≡ self.entry }
+        ensures text { result.text.now ≡ text.now }
+    {
         AdviceMessage { reason: self, text }
     }
 }
@@ -45,6 +54,8 @@ pub struct AdviceMessage<'a> {
 }
 
 impl fmt::Display for AdviceMessage<'_> {
+    ghost output = { λ message. Some (advice_message (reason_view message.reason) message.text.now) };
+
     fn fmt<W: fmt::Write>(&self, f: &mut fmt::Formatter<W>) -> fmt::Result {
         match self.reason {
             AdviceReason::UnknownService(near) => show_unknown(f, "service", self.text, near),
@@ -68,8 +79,18 @@ fn show_unknown<W: fmt::Write>(
     kind: &str,
     text: &str,
     near: Option<&str>,
-) -> fmt::Result {
+) -> fmt::Result
+    ensures { WritesOnOk W.write_str_gives f.old result
+        (unknown_text kind.now text.now (option_copied near.entry)) f.new }
+{
     write!(f, "unknown {kind} `{text}`")?;
+    show_meant(f, near)
+}
+
+// The one that may be meant.
+fn show_meant<W: fmt::Write>(f: &mut fmt::Formatter<W>, near: Option<&str>) -> fmt::Result
+    ensures { WritesOnOk W.write_str_gives f.old result (meant_text (option_copied near.entry)) f.new }
+{
     match near {
         Some(near) => write!(f, "; did you mean `{near}`?"),
         None => Ok(()),
@@ -77,7 +98,9 @@ fn show_unknown<W: fmt::Write>(
 }
 
 // The text that was found, or that there is none.
-fn show_found<W: fmt::Write>(f: &mut fmt::Formatter<W>, text: &str) -> fmt::Result {
+fn show_found<W: fmt::Write>(f: &mut fmt::Formatter<W>, text: &str) -> fmt::Result
+    ensures { WritesOnOk W.write_str_gives f.old result (found_text text.now) f.new }
+{
     if text.is_empty() {
         f.write_str(", found nothing")
     } else {

@@ -1,6 +1,7 @@
 //! The keys of session arguments.
 ghost use Rattle.std.specs.Prelude.{◌≡◌};
 ghost use Rattle.line_advice.specs.Advice.{key_named};
+ghost use Rattle.line_advice.specs.Messages.{pair_form};
 
 /// A key of session arguments.
 #[derive(Clone, Copy, PartialEq, Eq)]
@@ -33,7 +34,9 @@ impl ArgumentKey {
     }
 
     /// Returns the form of a pair with this key, or of any pair.
-    pub(crate) fn form_of(key: Option<ArgumentKey>) -> &'static str {
+    pub(crate) fn form_of(key: Option<ArgumentKey>) -> &'static str
+        ensures { result.now ≡ pair_form key }
+    {
         match key {
             Some(ArgumentKey::RamQuota) => "`ram_quota=N` with an amount of bytes",
             Some(ArgumentKey::CapQuota) => "`cap_quota=N` with a number of at most 4294967295",

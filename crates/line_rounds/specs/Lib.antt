@@ -1,4 +1,5 @@
 pub mod Theorems
+pub mod Messages
 pub mod Structure
 pub mod Unfolding
 pub mod Views

@@ -1,6 +1,7 @@
 //! The faults of a scenario's rounds.
 
-ghost use Rattle.std.specs.Prelude.{◌≡◌};
+ghost use Rattle.std.specs.Prelude.{◌≡◌, Some};
+ghost use Rattle.line_rounds.specs.Messages.{rounds_message};
 ghost use Rattle.line_rounds.specs.declared.fault.UnfoldError.TheVariants.{Fault as AFault, NoMemory};
 
 use line_names::NameReason;
@@ -28,7 +29,10 @@ pub enum RoundsReason {
 
 impl RoundsReason {
     /// Returns the message about this text of the line, which begins at the fault's column.
-    pub fn about(self, text: &str) -> RoundsMessage<'_> {
+    pub fn about(self, text: &str) -> RoundsMessage<'_>
+        ensures reason { result.reason ≡ self }
+        ensures text { result.text.now ≡ text.now }
+    {
         RoundsMessage { reason: self, text }
     }
 }
@@ -41,16 +45,18 @@ pub struct RoundsMessage<'a> {
 }
 
 impl fmt::Display for RoundsMessage<'_> {
+    ghost output = { λ message. Some (rounds_message message.reason message.text.now) };
+
     fn fmt<W: fmt::Write>(&self, f: &mut fmt::Formatter<W>) -> fmt::Result {
-        f.write_str(match self.reason {
-            RoundsReason::EndAlone => "`@end` without `@repeat`",
-            RoundsReason::EndTakesNothing => "unexpected argument; expected `@end`",
-            RoundsReason::NoEnd => "`@repeat` without `@end`",
-            RoundsReason::TooDeep => "rounds nest more than 4 deep",
-            RoundsReason::NoCount => "expected `@repeat N [as NAME]`",
-            RoundsReason::TooMany => "more than 1000000 lines with all rounds",
-            RoundsReason::Name(reason) => return write!(f, "{}", reason.about(self.text)),
-        })
+        match self.reason {
+            RoundsReason::EndAlone => f.write_str("`@end` without `@repeat`"),
+            RoundsReason::EndTakesNothing => f.write_str("unexpected argument; expected `@end`"),
+            RoundsReason::NoEnd => f.write_str("`@repeat` without `@end`"),
+            RoundsReason::TooDeep => f.write_str("rounds nest more than 4 deep"),
+            RoundsReason::NoCount => f.write_str("expected `@repeat N [as NAME]`"),
+            RoundsReason::TooMany => f.write_str("more than 1000000 lines with all rounds"),
+            RoundsReason::Name(reason) => write!(f, "{}", reason.about(self.text)),
+        }
     }
 }
 

@@ -4,17 +4,20 @@ use Rattle.std.specs.Borrow.{Bor}
 use Rattle.run_exchanges.specs.Exchange.{Exchange}
 use Rattle.line_names.specs.Learning.{learnt}
 use Rattle.line_steps.specs.ResolvedLines.{ResolvedLine, resolved_line}
-use Rattle.line_steps.specs.ResolvedLines.ResolvedLine.{Follow, Call}
+use Rattle.line_steps.specs.ResolvedLines.ResolvedLine.{Follow, Call, TooLong as LongLine, BadName, Misplaced as MisplacedLine, BadLine}
 use Rattle.line_steps.specs.RunPosition.{RunPosition, arrived, passed, position_following}
 use Rattle.list_diff.specs.declared.line_outcomes.LineOutcome.{LineOutcome}
 use Rattle.list_diff.specs.declared.line_outcomes.LineOutcome.TheVariants.{Answered, Faulty, Silent}
 use Rattle.list_diff.specs.declared.line_outcomes.LineResult.{LineResult}
+use Rattle.list_diff.specs.declared.line_outcomes.ResolutionFault.{ResolutionFault}
+use Rattle.list_diff.specs.declared.line_outcomes.ResolutionFault.TheVariants.{TooLong, Name, Misplaced, Line}
 
--- a line with its number, and its answered call if it makes one
+-- a line with its number, its answered call if it makes one, and its fault if it has one
 pub record LineCall : Type 0 where
   pub number : ℕ
   pub line : List ℕ
   pub made : Option Exchange
+  pub fault : Option ResolutionFault
 
 -- the answered call of a line
 abbrev pub made_in : LineOutcome → Option Exchange
@@ -22,8 +25,15 @@ made_in (Answered exchange) = Some exchange.now
 made_in (Faulty fault) = None
 made_in Silent = None
 
+-- the fault of a line
+abbrev pub fault_in : LineOutcome → Option ResolutionFault
+fault_in (Answered exchange) = None
+fault_in (Faulty fault) = Some fault
+fault_in Silent = None
+
 abbrev pub call_in : LineResult → LineCall
-call_in result = record { number = result.number; line = result.line.now; made = made_in result.outcome }
+call_in result =
+    record { number = result.number; line = result.line.now; made = made_in result.outcome; fault = fault_in result.outcome }
 
 -- a run that is followed line by line: its position, and the answered calls that are ahead
 pub record FollowedRun : Type 0 where
@@ -35,6 +45,14 @@ abbrev pub made_by : ResolvedLine → List Exchange → Option Exchange
 made_by (Call filled line reply) (exchange ∷ ahead) = Some exchange
 made_by (Call filled line reply) [] = None
 made_by resolved ahead = None
+
+-- the fault of a resolved line: it is too long, or a name, the directive or the call in it has one
+abbrev pub fault_by : ResolvedLine → Option ResolutionFault
+fault_by LongLine = Some TooLong
+fault_by (BadName fault) = Some (Name fault)
+fault_by (MisplacedLine column why) = Some (Misplaced why)
+fault_by (BadLine fault) = Some (Line fault)
+fault_by resolved = None
 
 -- the run after a resolved line: a directive is followed, and the reply to a call binds the names of its line
 abbrev pub followed_by : FollowedRun → ResolvedLine → List Exchange → FollowedRun
@@ -54,11 +72,16 @@ run_after run line =
     let next = followed_by (record run { position = passed run.position }) (resolved_on run line) run.ahead in
     record next { position = arrived next.position }
 
--- the lines with their answered calls
+-- the lines with their answered calls and their faults
 abbrev pub line_calls : FollowedRun → List (List ℕ) → List LineCall
 line_calls run [] = []
 line_calls run (line ∷ lines) =
-    record { number = run.position.number; line = line; made = made_by (resolved_on run line) run.ahead }
+    record {
+      number = run.position.number;
+      line = line;
+      made = made_by (resolved_on run line) run.ahead;
+      fault = fault_by (resolved_on run line);
+    }
     ∷ line_calls (run_after run line) lines
 
 -- the bytes of lines

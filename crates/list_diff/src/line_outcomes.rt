@@ -1,7 +1,7 @@
 //! What came of each line of a scenario on one machine.
-ghost use Rattle.std.specs.Prelude.{◌≡◌, IfOk, OnOk, map};
+ghost use Rattle.std.specs.Prelude.{◌≡◌, IfOk, None, OnOk, map};
 ghost use Rattle.line_steps.specs.ResolvedViews.{call_view, resolved_view};
-ghost use Rattle.list_diff.specs.LineResults.{bytes_of, call_in, followed_by, line_calls, made_by, made_in, resolved_on, run_after};
+ghost use Rattle.list_diff.specs.LineResults.{bytes_of, call_in, fault_by, fault_in, followed_by, line_calls, made_by, made_in, resolved_on, run_after};
 
 use line_friendly::FriendlyFault;
 use line_names::{DirectiveFault, NameFault};
@@ -100,6 +100,7 @@ impl<'a> FollowedRun<'_, 'a> {
           number = self.old.position.number;
           line = line.now;
           made = made_by (resolved_on self.old line.now) self.old.ahead;
+          fault = fault_by (resolved_on self.old line.now);
         }) }
         ensures run { OnOk result (self.new ≡ run_after self.old line.now) }
     {
@@ -118,6 +119,7 @@ impl<'a> FollowedRun<'_, 'a> {
     fn take(&mut self, resolved: ResolvedLine<'_>) -> Result<LineOutcome<'a>, AllocError>
         ensures made { IfOk result (λ outcome. made_in outcome
             ≡ made_by (resolved_view resolved.entry) self.old.ahead) }
+        ensures fault { IfOk result (λ outcome. fault_in outcome ≡ fault_by (resolved_view resolved.entry)) }
         ensures run { OnOk result (self.new
             ≡ followed_by self.old (resolved_view resolved.entry) self.old.ahead) }
     {
@@ -143,6 +145,7 @@ impl<'a> FollowedRun<'_, 'a> {
     fn take_call(&mut self, call: &ScenarioCall<'_>) -> Result<LineOutcome<'a>, AllocError>
         ensures made { IfOk result (λ outcome. made_in outcome
             ≡ made_by (call_view call.now) self.old.ahead) }
+        ensures fault { IfOk result (λ outcome. fault_in outcome ≡ None) }
         ensures run { OnOk result (self.new
             ≡ followed_by self.old (call_view call.now) self.old.ahead) }
     {

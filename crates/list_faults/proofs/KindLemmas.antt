@@ -18,7 +18,9 @@ use Rattle.list_parser.specs.Members.{is_object, name_at, whole_at}
 use Rattle.list_parts.specs.Texts.{has}
 use Rattle.list_faults.proofs.ValueLemmas.{left_from}
 use Rattle.list_faults.specs.KindFaults.{BadAt, KindFaultsAreTheEngines, bad_after, bad_or, has_kind, kind_fault, member_fault, taken_fault}
-use Rattle.list_faults.specs.RuleFaults.{Bad}
+use Rattle.list_faults.specs.RuleFaults.{Bad, Fault, bad_member}
+use Rattle.list_faults.specs.declared.expected_value.ExpectedValue.{ExpectedValue}
+use Rattle.list_faults.specs.declared.expected_value.ExpectedValue.TheVariants as expect
 
 -- ---- one value after another
 
@@ -32,16 +34,18 @@ module _ (xs : List Value) (i : ℕ) (x : Value) (inside : i < length xs) (is : 
       ∙ take-suc seen i (view x) (omega (arith, length-map xs view, inside))
       ∙ ap (λ y. take i seen ++ y ∷ []) (get_or-map view xs i x (view x) inside ∙ ap view (sym is))
 
-  here : bad_after (take i seen) i (drop i seen) ≡ bad_or i (kind_fault (take i seen) (view x)) (bad_after (take (i + 1) seen) (i + 1) (drop (i + 1) seen))
+  here : bad_after (take i seen) i (drop i seen)
+      ≡ bad_or i (view x) (kind_fault (take i seen) (view x)) (bad_after (take (i + 1) seen) (i + 1) (drop (i + 1) seen))
   here =
       ap (bad_after (take i seen) i) (left_from view xs i x inside is)
-      ∙ ap (λ before. bad_or i (kind_fault (take i seen) (view x)) (bad_after before (i + 1) (drop (i + 1) seen))) (sym one_more)
+      ∙ ap (λ before. bad_or i (view x) (kind_fault (take i seen) (view x)) (bad_after before (i + 1) (drop (i + 1) seen))) (sym one_more)
 
-  pub bad_here : (member : Option (List ℕ)) → kind_fault (take i seen) (view x) ≡ Some member → bad_after (take i seen) i (drop i seen) ≡ Some (i, member)
-  bad_here member fault = here ∙ ap (λ bad. bad_or i bad (bad_after (take (i + 1) seen) (i + 1) (drop (i + 1) seen))) fault
+  pub bad_here : (fault : Fault) → kind_fault (take i seen) (view x) ≡ Some fault →
+      let bad : BadAt = record { place = i; value = view x; fault = fault } in bad_after (take i seen) i (drop i seen) ≡ Some bad
+  bad_here fault is_bad = here ∙ ap (λ bad. bad_or i (view x) bad (bad_after (take (i + 1) seen) (i + 1) (drop (i + 1) seen))) is_bad
 
   pub bad_later : kind_fault (take i seen) (view x) ≡ None → bad_after (take i seen) i (drop i seen) ≡ bad_after (take (i + 1) seen) (i + 1) (drop (i + 1) seen)
-  bad_later none = here ∙ ap (λ bad. bad_or i bad (bad_after (take (i + 1) seen) (i + 1) (drop (i + 1) seen))) none
+  bad_later none = here ∙ ap (λ bad. bad_or i (view x) bad (bad_after (take (i + 1) seen) (i + 1) (drop (i + 1) seen))) none
 
 -- ---- the engine
 
@@ -78,37 +82,37 @@ module _ (before : List Data) (kinds : List ObjectKind) (same : SameNames before
   rest = bad_after (before ++ d ∷ []) (place + 1) ds
 
   abbrev taken_by : Bool → Bad
-  taken_by b = if b then Some (Some (codes "kind")) else None
+  taken_by b = if b then bad_member (codes "kind") expect.NewKind else None
 
   abbrev kinds_by : Bool → ObjectKind → Option (List ObjectKind)
   kinds_by b kind = if b then None else Some (kinds ++ kind ∷ [])
 
   by_taken : (taken : Bool) (kind : ObjectKind) → name_at (codes "kind") d ≡ Some kind.name
-      → is_some (bad_or place (taken_by taken) rest) ≡ not (is_some (option_and_then (λ ks. kinds_after ks ds) (kinds_by taken kind)))
+      → is_some (bad_or place d (taken_by taken) rest) ≡ not (is_some (option_and_then (λ ks. kinds_after ks ds) (kinds_by taken kind)))
   by_taken true kind is = refl
   by_taken false kind is = later kind is
 
   by_kind : (kind : ObjectKind) → name_at (codes "kind") d ≡ Some kind.name
-      → is_some (bad_or place (taken_fault before (Some kind.name)) rest) ≡ not (is_some (option_and_then (λ ks. kinds_after ks ds) (with_kind kinds kind)))
+      → is_some (bad_or place d (taken_fault before (Some kind.name)) rest) ≡ not (is_some (option_and_then (λ ks. kinds_after ks ds) (with_kind kinds kind)))
   by_kind kind is =
-      ap (λ b. is_some (bad_or place (taken_by b) rest)) (same kind.name) ∙ by_taken (is_some (kind_named kind.name kinds)) kind is
+      ap (λ b. is_some (bad_or place d (taken_by b) rest)) (same kind.name) ∙ by_taken (is_some (kind_named kind.name kinds)) kind is
 
-  abbrev unless_read : {A : Type 0} → List ℕ → Option A → Bad
-  unless_read key o = if is_some o then None else Some (Some key)
+  abbrev unless_read : {A : Type 0} → List ℕ → ExpectedValue → Option A → Bad
+  unless_read key expected o = if is_some o then None else bad_member key expected
 
   abbrev kind_by : Option (List ℕ) → Option ℕ → Option ℕ → Option ObjectKind
   kind_by n b u =
       option_and_then (λ name. option_and_then (λ block. option_and_then (λ bytes. Some (record { name = name; block = block; bytes = bytes })) u) b) n
 
   by_parts : (n : Option (List ℕ)) (b u : Option ℕ) → name_at (codes "kind") d ≡ n
-      → is_some (bad_or place (option_or (option_or (option_or (unless_read (codes "kind") n) (unless_read (codes "block") b)) (unless_read (codes "bytes") u)) (taken_fault before n)) rest)
+      → is_some (bad_or place d (option_or (option_or (option_or (unless_read (codes "kind") expect.Name n) (unless_read (codes "block") expect.BlockBytes b)) (unless_read (codes "bytes") expect.UnitBytes u)) (taken_fault before n)) rest)
       ≡ not (is_some (option_and_then (λ ks. kinds_after ks ds) (option_and_then (with_kind kinds) (kind_by n b u))))
   by_parts None b u is = refl
   by_parts (Some name) None u is = refl
   by_parts (Some name) (Some block) None is = refl
   by_parts (Some name) (Some block) (Some bytes) is = by_kind (record { name = name; block = block; bytes = bytes }) is
 
-  of_object : is_some (bad_or place (member_fault before d) rest) ≡ not (is_some (kinds_after kinds (d ∷ ds)))
+  of_object : is_some (bad_or place d (member_fault before d) rest) ≡ not (is_some (kinds_after kinds (d ∷ ds)))
   of_object =
       by_parts (name_at (codes "kind") d) (whole_at (codes "block") least_node most_kind_bytes d) (whole_at (codes "bytes") 0 most_kind_bytes d) refl
 

@@ -5,3 +5,5 @@ pub mod KindLemmas
 pub mod StartsLemmas
 pub mod ValueLemmas
 pub mod JsonAdviceLemmas
+pub mod MessageLemmas
+pub mod FoundLemmas

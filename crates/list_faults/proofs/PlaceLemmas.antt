@@ -18,7 +18,7 @@ use Rattle.list_parser.specs.Entries as engine
 use Rattle.list_parser.specs.Members.{whole_at}
 use Rattle.list_parser.specs.FaultPlace.{entry_at_fault, place_of_fault, starts_of}
 use Rattle.list_parser.specs.StartText.{fault_of, list_of, machine_of, object_in}
-use Rattle.list_faults.specs.Places.{FaultsHavePlaces, field_of, spot_at, spot_in, spot_of}
+use Rattle.list_faults.specs.Places.{FaultsHavePlaces, field_of, is_taken, spot_at, spot_in, spot_of}
 use Rattle.list_faults.specs.Values.{EntryValue, found_at, found_in, found_within, runs, starts_in, step_down, with_own}
 use Rattle.list_parts.specs.declared.list_part.EntryStep.{EntryStep}
 use Rattle.list_faults.proofs.FaultLemmas.{Fails, OfEntry, bound, done, head_fault, in_entry, value_fault}
@@ -100,30 +100,34 @@ something xs i inside = elim (slice_get_cases xs i).1 [
 
 -- the place of a fault, by that of an entry, if it is an entry's
 abbrev HasPlace : Data → Option ℕ → BootFault → Type 0
-HasPlace list number fault = IsSome (option_and_then (λ bad. spot_at list number bad) (field_of fault))
+HasPlace list number fault = IsSome (option_and_then (λ bad. spot_at list number (is_taken fault) bad) (field_of fault))
 
-member_there : (number : ℕ) (bad : ConfigField) (found : Option EntryValue) → IsSome found → in_entry bad ≡ true → IsSome (option_and_then (spot_in number bad) found)
-member_there number bad None some is = cc
-member_there number field.Size (Some found) some is = cc
-member_there number field.Machine (Some found) some is = cc
-member_there number field.Pages (Some found) some is = cc
-member_there number field.Caps (Some found) some is = refl
-member_there number field.DefaultRoute (Some found) some is = refl
-member_there number field.Start (Some found) some is = refl
-member_there number field.Name (Some found) some is = refl
-member_there number field.Binary (Some found) some is = refl
-member_there number field.Quantum (Some found) some is = refl
-member_there number field.Provides (Some found) some is = refl
-member_there number field.Route (Some found) some is = refl
-member_there number field.Reserve (Some found) some is = refl
-member_there number field.ReserveCaps (Some found) some is = refl
-member_there number field.Config (Some found) some is = refl
-member_there number field.Kinds (Some found) some is = refl
+member_there : (number : ℕ) (taken : Bool) (bad : ConfigField) (found : Option EntryValue) → IsSome found → in_entry bad ≡ true
+    → IsSome (option_and_then (spot_in number taken bad) found)
+member_there number taken bad None some is = cc
+member_there number taken field.Size (Some found) some is = cc
+member_there number taken field.Machine (Some found) some is = cc
+member_there number taken field.Pages (Some found) some is = cc
+member_there number taken field.Caps (Some found) some is = refl
+member_there number taken field.DefaultRoute (Some found) some is = refl
+member_there number taken field.Start (Some found) some is = refl
+member_there number taken field.Name (Some found) some is = refl
+member_there number taken field.Binary (Some found) some is = refl
+member_there number taken field.Quantum (Some found) some is = refl
+member_there number taken field.Provides (Some found) some is = refl
+member_there number taken field.Route (Some found) some is = refl
+member_there number taken field.Reserve (Some found) some is = refl
+member_there number taken field.ReserveCaps (Some found) some is = refl
+member_there number taken field.Config (Some found) some is = refl
+member_there number taken field.Kinds (Some found) some is = refl
 
 entry_there : (list : Data) (number : ℕ) (fault : BootFault) → number < length (found_in list) → OfEntry fault → HasPlace list (Some number) fault
-entry_there list number (BadConfig bad) inside of = member_there number bad (slice_get (found_in list) number) (something (found_in list) number inside) of
-entry_there list number (DuplicateName name) inside of = member_there number field.Name (slice_get (found_in list) number) (something (found_in list) number inside) refl
-entry_there list number (UnknownBinary name) inside of = member_there number field.Binary (slice_get (found_in list) number) (something (found_in list) number inside) refl
+entry_there list number (BadConfig bad) inside of =
+    member_there number false bad (slice_get (found_in list) number) (something (found_in list) number inside) of
+entry_there list number (DuplicateName name) inside of =
+    member_there number true field.Name (slice_get (found_in list) number) (something (found_in list) number inside) refl
+entry_there list number (UnknownBinary name) inside of =
+    member_there number false field.Binary (slice_get (found_in list) number) (something (found_in list) number inside) refl
 entry_there list number BadJson inside of = absurd of
 entry_there list number (QuotaExceeded path) inside of = absurd of
 entry_there list number NoMemory inside of = absurd of

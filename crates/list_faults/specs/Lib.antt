@@ -3,3 +3,5 @@ pub mod RuleFaults
 pub mod KindFaults
 pub mod Values
 pub mod JsonAdvice
+pub mod FoundValues
+pub mod FaultTexts

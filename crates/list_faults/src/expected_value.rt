@@ -1,4 +1,7 @@
 //! The values that are expected in place of bad ones.
+ghost use Rattle.std.specs.Prelude.{◌≡◌, Some};
+ghost use Rattle.list_faults.specs.FaultTexts.{expected_of_text, expected_text};
+
 use std::fmt;
 
 /// The value that is expected of a member, or of a whole entry, rule or kind.
@@ -52,9 +55,12 @@ pub enum ExpectedValue {
     OneTarget,
 }
 
-impl fmt::Display for ExpectedValue {
-    fn fmt<W: fmt::Write>(&self, f: &mut fmt::Formatter<W>) -> fmt::Result {
-        f.write_str(match self {
+impl ExpectedValue {
+    // The text of the value.
+    fn text(self) -> &'static str
+        ensures { result.now ≡ expected_text self }
+    {
+        match self {
             ExpectedValue::Object => "an object",
             ExpectedValue::MachineSize => "a whole number from 16 to 4096",
             ExpectedValue::Rules => "a list of at most 32 rules",
@@ -83,6 +89,24 @@ impl fmt::Display for ExpectedValue {
             ExpectedValue::Text => "a text",
             ExpectedValue::OneService => "one of `service` and `any-service`",
             ExpectedValue::OneTarget => "one of `child`, `any-child` and `parent`",
-        })
+        }
+    }
+
+    /// Returns the text of the value that is expected in place of a text. An amount is a text, so its suffixes are said.
+    pub(crate) fn text_for_text(self) -> &'static str
+        ensures { result.now ≡ expected_of_text self }
+    {
+        match self {
+            ExpectedValue::Amount => "an amount with K, M, G or no suffix",
+            other => other.text(),
+        }
+    }
+}
+
+impl fmt::Display for ExpectedValue {
+    ghost output = { λ expected. Some (expected_text expected) };
+
+    fn fmt<W: fmt::Write>(&self, f: &mut fmt::Formatter<W>) -> fmt::Result {
+        f.write_str(self.text())
     }
 }

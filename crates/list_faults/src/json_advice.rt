@@ -1,5 +1,6 @@
 //! What a text that is no JSON has and other formats allow.
-ghost use Rattle.std.specs.Prelude.{◌≡◌, ◌≤◌, length};
+ghost use Rattle.std.specs.Prelude.{◌≡◌, ◌≤◌, Some, length};
+ghost use Rattle.list_faults.specs.FaultTexts.{advice_text};
 ghost use Rattle.list_faults.specs.JsonAdvice.{ends_in_comma, is_space, line_start};
 
 use std::fmt;
@@ -49,6 +50,8 @@ impl JsonAdvice {
 }
 
 impl fmt::Display for JsonAdvice {
+    ghost output = { λ advice. Some (advice_text advice) };
+
     fn fmt<W: fmt::Write>(&self, f: &mut fmt::Formatter<W>) -> fmt::Result {
         f.write_str(match self {
             JsonAdvice::ByteOrderMark => "JSON has no byte order mark",

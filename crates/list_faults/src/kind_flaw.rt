@@ -1,12 +1,13 @@
 //! The value of a list of kinds of objects that is no kind.
 ghost use Rattle.std.specs.Prelude.{◌≡◌, ◌≤◌, [], codes, is_some, map};
-ghost use Rattle.std.specs.Option.{option_copied, option_map};
+ghost use Rattle.std.specs.Option.{option_map};
 ghost use Rattle.std.specs.Str.{bytes_eq};
 ghost use Rattle.serde_json.specs.View.{view};
 ghost use Rattle.list_parser.specs.DeclaredServers.{listed_in};
 ghost use Rattle.list_parser.specs.Members.{name_at, whole_at, whole_in};
 ghost use Rattle.list_parts.specs.Texts.{has};
 ghost use Rattle.list_faults.specs.KindFaults.{KindFaultsAreTheEngines, bad_after, bad_kind, fault_of_bad, has_kind, kind_fault, name_fault, taken_fault, whole_fault};
+ghost use Rattle.list_faults.specs.RuleFaults.{fault_at};
 
 use crate::expected_value::ExpectedValue;
 use crate::values::name_at;
@@ -86,7 +87,7 @@ fn first_bad_kind(kinds: &[Value]) -> Option<BadKind<'_>>
 // The first member for which a value is no kind or has the name of an earlier kind, or no member for the whole value, and what
 // is expected.
 fn kind_flaw(before: &[Value], kind: &Value) -> Option<(Option<&'static str>, ExpectedValue)>
-    ensures { option_map (λ flaw. option_copied flaw.0) result
+    ensures { option_map fault_at result
         ≡ kind_fault (map view before.now) (view kind.now) }
 {
     if !kind.is_object() {
@@ -100,7 +101,7 @@ fn kind_flaw(before: &[Value], kind: &Value) -> Option<(Option<&'static str>, Ex
 
 // The same for the name.
 fn name_flaw(kind: &Value) -> Option<(Option<&'static str>, ExpectedValue)>
-    ensures { option_map (λ flaw. option_copied flaw.0) result ≡ name_fault (view kind.now) }
+    ensures { option_map fault_at result ≡ name_fault (view kind.now) }
 {
     match name_at(kind, "kind") {
         Some(_) => None,
@@ -115,8 +116,8 @@ fn whole_flaw(
     least: u64,
     expected: ExpectedValue,
 ) -> Option<(Option<&'static str>, ExpectedValue)>
-    ensures { option_map (λ flaw. option_copied flaw.0) result
-        ≡ whole_fault member.now least (view kind.now) }
+    ensures { option_map fault_at result
+        ≡ whole_fault member.now least expected (view kind.now) }
 {
     if has_whole(kind, member, least) {
         None
@@ -147,7 +148,7 @@ fn is_whole(value: &Value, least: u64) -> bool
 
 // The same for a name that an earlier kind has.
 fn taken_flaw(before: &[Value], kind: &Value) -> Option<(Option<&'static str>, ExpectedValue)>
-    ensures { option_map (λ flaw. option_copied flaw.0) result
+    ensures { option_map fault_at result
         ≡ taken_fault (map view before.now) (name_at (codes "kind") (view kind.now)) }
 {
     match name_at(kind, "kind") {

@@ -1,16 +1,17 @@
 //! Why a start list isn't read, or doesn't boot, and the place of the fault.
-ghost use Rattle.std.specs.Prelude.{◌≡◌};
+ghost use Rattle.std.specs.Prelude.{◌≡◌, Some, codes};
 ghost use Rattle.list_parser.specs.declared.fault.BootFault.TheVariants.{NoMemory};
+ghost use Rattle.list_faults.specs.FaultTexts.{fault_text, place_text, reason_text, text_before};
 
 use crate::json_advice::JsonAdvice;
 use crate::value_flaw::ValueFlaw;
 use arrayvec::ArrayString;
 use list_parser::BootFault;
-use list_parts::{EntryShortfall, show_within};
+use list_parts::EntryShortfall;
 use serde_json::Error;
 use std::alloc::AllocError;
 use std::fmt;
-use std::fmt::Write;
+use std::fmt::{Display, Write};
 
 /// The maximum number of bytes of the JSON parser's message: its reason, the line and the column.
 const MOST_TOLD: usize = 80;
@@ -35,17 +36,25 @@ impl JsonReason {
 }
 
 /// Writes the reason without the line and the column, which are printed before it, and advice if there is any.
-impl fmt::Display for JsonReason {
+impl Display for JsonReason {
+    ghost output = { λ reason. Some (reason_text reason) };
+
     fn fmt<W: fmt::Write>(&self, f: &mut fmt::Formatter<W>) -> fmt::Result {
-        let told = self.told.as_str();
-        match told.split_once(" at line ") {
-            Some((reason, _)) => f.write_str(reason)?,
-            None => f.write_str(told)?,
-        }
+        f.write_str(reason_in(self.told.as_str()))?;
         match self.advice {
             Some(advice) => write!(f, "; {advice}"),
             None => Ok(()),
         }
+    }
+}
+
+// The text before the line and the column of the parser's message.
+fn reason_in(told: &str) -> &str
+    ensures { result.now ≡ text_before (codes " at line ") told.now }
+{
+    match told.split_once(" at line ") {
+        Some((reason, _)) => reason,
+        None => told,
     }
 }
 
@@ -84,18 +93,26 @@ impl From<AllocError> for ListFault {
     }
 }
 
-impl fmt::Display for ListFault {
+impl Display for ListFault {
+    ghost output = { fault_text ⟦<BootFault as Display>⟧.output };
+
     fn fmt<W: fmt::Write>(&self, f: &mut fmt::Formatter<W>) -> fmt::Result {
-        write!(f, "{}", self.fault)?;
-        match &self.place {
+        write!(f, "{}{}", self.fault, self.place)
+    }
+}
+
+/// Writes the place after the text of the fault, if it is anywhere.
+impl Display for FaultPlace {
+    ghost output = { λ place. Some (place_text place) };
+
+    fn fmt<W: fmt::Write>(&self, f: &mut fmt::Formatter<W>) -> fmt::Result {
+        match self {
             FaultPlace::Text(line, column, reason) => {
                 write!(f, ": line {line}, column {column}: {reason}")
             }
-            FaultPlace::List(flaw) => show_within(f, ": ", flaw, ""),
-            FaultPlace::Budget(lack) => show_within(f, ": ", lack, ""),
-            FaultPlace::Size(size) => {
-                show_within(f, ": expected at most 65536 bytes, found ", size, "")
-            }
+            FaultPlace::List(flaw) => write!(f, ": {flaw}"),
+            FaultPlace::Budget(lack) => write!(f, ": {lack}"),
+            FaultPlace::Size(size) => { write!(f, ": expected at most 65536 bytes, found {size}") }
             FaultPlace::Nowhere => Ok(()),
         }
     }

@@ -1,13 +1,13 @@
 //! The part of a value that makes it no rule.
 ghost use Rattle.std.specs.Prelude.{◌≡◌, codes, is_some, map, not};
 ghost use Rattle.std.specs.List.{enumerate_from, find};
-ghost use Rattle.std.specs.Option.{option_copied, option_map};
+ghost use Rattle.std.specs.Option.{option_map};
 ghost use Rattle.serde_json.specs.Find.{get};
 ghost use Rattle.serde_json.specs.View.{view};
 ghost use Rattle.list_parser.specs.Members.{short_list};
 ghost use Rattle.list_parser.specs.Rules.{rule_of};
 ghost use Rattle.list_faults.specs.Places.{bad_rule};
-ghost use Rattle.list_faults.specs.RuleFaults.{FaultsAreTheEngines, name_fault, rule_fault, service_fault, target_fault, text_fault, true_fault};
+ghost use Rattle.list_faults.specs.RuleFaults.{FaultsAreTheEngines, fault_at, name_fault, rule_fault, service_fault, target_fault, text_fault, true_fault};
 
 use crate::expected_value::ExpectedValue;
 use list_parser::Name;
@@ -41,7 +41,6 @@ pub fn faults_of_rules_are_the_engines()
 {}
 
 // Whether a value is no rule.
-#[tactic(auto, using(crate::proofs::RuleLemmas::faults_are_the_engines))]
 fn is_bad(rule: &Value) -> bool
     ensures { result ≡ not (is_some (rule_of (view rule.now))) }
 {
@@ -63,7 +62,7 @@ fn short_list(value: &Value) -> Option<&[Value]>
 /// Returns the first member for which a value is no rule, or no member for the whole value, and what is expected. Returns none
 /// for a rule.
 pub(crate) fn rule_flaw(rule: &Value) -> Option<(Option<&'static str>, ExpectedValue)>
-    ensures { option_map (λ flaw. option_copied flaw.0) result ≡ rule_fault (view rule.now) }
+    ensures { option_map fault_at result ≡ rule_fault (view rule.now) }
 {
     if !rule.is_object() {
         return Some((None, ExpectedValue::Object));
@@ -77,7 +76,7 @@ pub(crate) fn rule_flaw(rule: &Value) -> Option<(Option<&'static str>, ExpectedV
 
 // The same for the service.
 fn service_flaw(rule: &Value) -> Option<(Option<&'static str>, ExpectedValue)>
-    ensures { option_map (λ flaw. option_copied flaw.0) result
+    ensures { option_map fault_at result
         ≡ service_fault (get (codes "service") (view rule.now))
         (get (codes "any-service") (view rule.now)) }
 {
@@ -90,7 +89,7 @@ fn service_flaw(rule: &Value) -> Option<(Option<&'static str>, ExpectedValue)>
 
 // The same for the target.
 fn target_flaw(rule: &Value) -> Option<(Option<&'static str>, ExpectedValue)>
-    ensures { option_map (λ flaw. option_copied flaw.0) result
+    ensures { option_map fault_at result
         ≡ target_fault (get (codes "child") (view rule.now))
         (get (codes "any-child") (view rule.now)) (get (codes "parent") (view rule.now)) }
 {
@@ -104,7 +103,7 @@ fn target_flaw(rule: &Value) -> Option<(Option<&'static str>, ExpectedValue)>
 
 // The same for a member that is to be a name.
 fn name_flaw(value: &Value, member: &'static str) -> Option<(Option<&'static str>, ExpectedValue)>
-    ensures { option_map (λ flaw. option_copied flaw.0) result
+    ensures { option_map fault_at result
         ≡ name_fault member.now (view value.now) }
 {
     match value.as_str() {
@@ -115,7 +114,7 @@ fn name_flaw(value: &Value, member: &'static str) -> Option<(Option<&'static str
 
 // The same for a member that is to be `true`.
 fn true_flaw(value: &Value, member: &'static str) -> Option<(Option<&'static str>, ExpectedValue)>
-    ensures { option_map (λ flaw. option_copied flaw.0) result
+    ensures { option_map fault_at result
         ≡ true_fault member.now (view value.now) }
 {
     if value.as_bool() == Some(true) {
@@ -127,7 +126,7 @@ fn true_flaw(value: &Value, member: &'static str) -> Option<(Option<&'static str
 
 // The same for a member that is to be a text, if it is there.
 fn text_flaw(rule: &Value, member: &'static str) -> Option<(Option<&'static str>, ExpectedValue)>
-    ensures { option_map (λ flaw. option_copied flaw.0) result
+    ensures { option_map fault_at result
         ≡ text_fault member.now (view rule.now) }
 {
     match rule.get(member) {

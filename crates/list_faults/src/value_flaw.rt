@@ -1,13 +1,16 @@
 //! The flaw of a value: the part of the start list that has it, the value that was found, and what is expected.
-ghost use Rattle.std.specs.Prelude.{◌≡◌, IfErr, IfOk, None, Some, codes};
-ghost use Rattle.std.specs.Option.{option_and_then, option_copied, option_map, unwrap_or};
+ghost use Rattle.std.specs.Prelude.{◌≡◌, IfErr, IfOk, Some, codes};
+ghost use Rattle.std.specs.Fmt.{WritesOnOk};
+ghost use Rattle.std.specs.Option.{option_copied, option_map};
 ghost use Rattle.serde_json.specs.Find.{get};
 ghost use Rattle.serde_json.specs.View.{view};
 ghost use Rattle.list_parser.specs.FaultPlace.{entry_at_fault};
 ghost use Rattle.list_parser.specs.declared.fault.BootFault.TheVariants.{NoMemory};
-ghost use Rattle.list_faults.specs.Places.{FaultsHavePlaces, bad_rule, field_of, inner_rules_spot, kinds_spot, member_in, member_of, own_rules_spot, rules_spot, spot_at, spot_before, spot_in, spot_of, spot_of_flaw, start_spot, whole};
-ghost use Rattle.list_faults.specs.RuleFaults.{rule_fault};
+ghost use Rattle.list_faults.specs.FaultTexts.{contrast_text, flaw_text, member_text};
+ghost use Rattle.list_faults.specs.FoundValues.{found_at};
+ghost use Rattle.list_faults.specs.Places.{FaultsHavePlaces, binary_expected, config_expected, expected_of, field_of, if_script, inner_rules_spot, is_taken, kinds_spot, member_in, member_of, own_rules_spot, provides_expected, rule_spot, rules_spot, spot_at, spot_before, spot_in, spot_of, spot_of_flaw, start_spot, whole};
 ghost use Rattle.list_faults.specs.Values.{seen};
+ghost use Rattle.list_faults.specs.declared.expected_value.ExpectedValue.TheVariants.{MachineSize};
 
 use crate::expected_value::ExpectedValue;
 use crate::kind_flaw::bad_kind;
@@ -15,7 +18,7 @@ use crate::rule_flaw::{bad_rule, rule_flaw};
 use crate::value_kind::ValueKind;
 use crate::values::{EntryValue, find_entries, member, runs};
 use list_parser::{BootFault, ConfigField, entry_at_fault};
-use list_parts::{EntrySteps, ListPart, RuleOwner, rule_at, show_within};
+use list_parts::{EntrySteps, ListPart, RuleOwner, rule_at};
 use serde_json::Value;
 use std::alloc::{AllocError, Global};
 use std::fmt;
@@ -34,21 +37,37 @@ pub struct ValueFlaw {
 }
 
 impl fmt::Display for ValueFlaw {
+    ghost output = { λ flaw. Some (flaw_text flaw) };
+
     fn fmt<W: fmt::Write>(&self, f: &mut fmt::Formatter<W>) -> fmt::Result {
-        show_within(f, "", &self.part, ": ")?;
-        if let Some(member) = self.member {
-            show_within(f, "", &member, ": ")?;
-        }
-        match (self.sort, self.expected) {
-            (ValueKind::Text(_), ExpectedValue::Amount) => show_within(
-                f,
-                "expected an amount with K, M, G or no suffix, found ",
-                &self.sort,
-                "",
-            ),
-            (ValueKind::Missing, _) => write!(f, "missing; expected {}", self.expected),
-            _ => write!(f, "expected {}, found {}", self.expected, self.sort),
-        }
+        write!(f, "{}: ", self.part)?;
+        show_member(f, self.member)?;
+        show_contrast(f, &self.sort, self.expected)
+    }
+}
+
+// Writes a member, if there is one.
+fn show_member<W: fmt::Write>(f: &mut fmt::Formatter<W>, member: Option<&str>) -> fmt::Result
+    ensures { WritesOnOk W.write_str_gives f.old result (member_text (option_copied member.entry)) f.new }
+{
+    match member {
+        Some(member) => write!(f, "{member}: "),
+        None => Ok(()),
+    }
+}
+
+// Writes the expected value, and the one that was found.
+fn show_contrast<W: fmt::Write>(
+    f: &mut fmt::Formatter<W>,
+    sort: &ValueKind,
+    expected: ExpectedValue,
+) -> fmt::Result
+    ensures { WritesOnOk W.write_str_gives f.old result (contrast_text (found_at sort.now) expected) f.new }
+{
+    match sort {
+        ValueKind::Missing => write!(f, "missing; expected {expected}"),
+        ValueKind::Text(_) => write!(f, "expected {}, found {sort}", expected.text_for_text()),
+        _ => write!(f, "expected {expected}, found {sort}"),
     }
 }
 
@@ -94,7 +113,9 @@ fn field_of(fault: &BootFault) -> Option<ConfigField>
 }
 
 // Whether a fault is that an earlier entry has the name.
-fn is_taken(fault: &BootFault) -> bool {
+fn is_taken(fault: &BootFault) -> bool
+    ensures { result ≡ is_taken fault.now }
+{
     match fault {
         BootFault::DuplicateName(_) => true,
         _ => false,
@@ -139,7 +160,9 @@ fn flaw_of_list(
 
 // The flaw of the machine's member.
 fn in_machine(value: &Value, member: &'static str) -> ValueFlaw
-    ensures { spot_of_flaw result ≡ member_in ListPart.Machine member.now }
+    ensures { spot_of_flaw result
+        ≡ member_in ListPart.Machine (get (codes "machine") (view value.now)) member.now
+        MachineSize }
 {
     let machine = value.get("machine");
     at(
@@ -152,6 +175,7 @@ fn in_machine(value: &Value, member: &'static str) -> ValueFlaw
 
 // The flaw of a list of rules, which is a member of a part. It is the flaw of the first value that is no rule, or of the list
 // itself.
+#[tactic(auto, unfolding(crate::specs::Places::rules_spot))]
 fn in_rules(
     alloc: Global,
     owner: RuleOwner,
@@ -161,9 +185,8 @@ fn in_rules(
     key: &'static str,
 ) -> Result<ValueFlaw, AllocError>
     ensures { IfOk result (λ flaw. spot_of_flaw flaw
-        ≡ rules_spot owner steps.now part key.now
-        (bad_rule (option_and_then (get key.now) (option_map (λ value. view value.now)
-        object.entry)))) }
+        ≡ rules_spot owner steps.now part (option_map (λ value. view value.now) object.entry)
+        key.now) }
 {
     match bad_rule(member(object, key)) {
         Some((rule, bad)) => Ok(flaw_of_rule(rule_at(alloc, owner, steps, rule)?, bad)),
@@ -180,7 +203,7 @@ fn flaw_of_entry(
     taken: bool,
 ) -> Result<Option<ValueFlaw>, AllocError>
     ensures { IfOk result (λ flaw. option_map spot_of_flaw flaw
-        ≡ spot_at (view value.now) (Some number) field) }
+        ≡ spot_at (view value.now) (Some number) taken field) }
 {
     let entries = find_entries(alloc, value)?;
     match entries.get(number) {
@@ -198,7 +221,7 @@ fn flaw_in(
     taken: bool,
 ) -> Result<Option<ValueFlaw>, AllocError>
     ensures { IfOk result
-        (λ flaw. option_map spot_of_flaw flaw ≡ spot_in number field (seen found.now)) }
+        (λ flaw. option_map spot_of_flaw flaw ≡ spot_in number taken field (seen found.now)) }
 {
     let value = found.value;
     Ok(match field {
@@ -239,7 +262,9 @@ fn member_of(field: ConfigField) -> &'static str
 }
 
 // The value that is expected of this member; for a name that an earlier entry has, another one.
-fn expected_of(entry: &Value, field: ConfigField, taken: bool) -> ExpectedValue {
+fn expected_of(entry: &Value, field: ConfigField, taken: bool) -> ExpectedValue
+    ensures { result ≡ expected_of taken (view entry.now) field }
+{
     match field {
         ConfigField::Name if taken => ExpectedValue::NewName,
         ConfigField::Name => ExpectedValue::Name,
@@ -345,7 +370,9 @@ fn in_kinds(
 }
 
 // The value that is expected of `binary`. An entry that has kinds may be meant to declare its service.
-fn binary_expected(entry: &Value) -> ExpectedValue {
+fn binary_expected(entry: &Value) -> ExpectedValue
+    ensures { result ≡ binary_expected (view entry.now) }
+{
     if entry.get("kinds").is_some() {
         ExpectedValue::BinaryWithKinds
     } else {
@@ -354,7 +381,9 @@ fn binary_expected(entry: &Value) -> ExpectedValue {
 }
 
 // The value that is expected of `provides`: a server that declares its service names it.
-fn provides_expected(entry: &Value) -> ExpectedValue {
+fn provides_expected(entry: &Value) -> ExpectedValue
+    ensures { result ≡ provides_expected (view entry.now) }
+{
     if runs(entry, "server") {
         ExpectedValue::DeclaredService
     } else {
@@ -363,7 +392,9 @@ fn provides_expected(entry: &Value) -> ExpectedValue {
 }
 
 // What is expected of a member that only a script's entry has.
-fn if_script(entry: &Value, expected: ExpectedValue) -> ExpectedValue {
+fn if_script(entry: &Value, expected: ExpectedValue) -> ExpectedValue
+    ensures { result ≡ if_script (view entry.now) expected }
+{
     if runs(entry, "script") {
         expected
     } else {
@@ -372,7 +403,9 @@ fn if_script(entry: &Value, expected: ExpectedValue) -> ExpectedValue {
 }
 
 // The value that is expected of an init's `config`: if it is an object, the init nests too deep.
-fn config_expected(entry: &Value) -> ExpectedValue {
+fn config_expected(entry: &Value) -> ExpectedValue
+    ensures { result ≡ config_expected (view entry.now) }
+{
     match entry.get("config") {
         Some(config) if config.is_object() => ExpectedValue::NoInit,
         _ => ExpectedValue::Object,
@@ -386,8 +419,8 @@ fn at(
     key: &'static str,
     expected: ExpectedValue,
 ) -> ValueFlaw
-    ensures part { result.part ≡ part }
-    ensures member { option_copied result.member ≡ Some key.now }
+    ensures { spot_of_flaw result
+        ≡ member_in part (option_map (λ value. view value.now) object.entry) key.now expected }
 {
     ValueFlaw {
         part,
@@ -399,8 +432,7 @@ fn at(
 
 // The flaw of a value that is no rule.
 fn flaw_of_rule(part: ListPart, rule: &Value) -> ValueFlaw
-    ensures part { result.part ≡ part }
-    ensures member { option_copied result.member ≡ unwrap_or (rule_fault (view rule.now)) None }
+    ensures { spot_of_flaw result ≡ rule_spot part (view rule.now) }
 {
     match rule_flaw(rule) {
         Some((Some(member), expected)) => at(part, Some(rule), member, expected),
@@ -411,8 +443,7 @@ fn flaw_of_rule(part: ListPart, rule: &Value) -> ValueFlaw
 
 // The flaw of a whole value.
 fn whole(part: ListPart, value: &Value, expected: ExpectedValue) -> ValueFlaw
-    ensures part { result.part ≡ part }
-    ensures member { option_copied result.member ≡ None }
+    ensures { spot_of_flaw result ≡ whole part (view value.now) expected }
 {
     ValueFlaw {
         part,

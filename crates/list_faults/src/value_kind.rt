@@ -1,4 +1,9 @@
 //! The kinds of values, as far as diagnostics print them.
+ghost use Rattle.std.specs.Prelude.{◌≡◌, Some};
+ghost use Rattle.std.specs.Option.{option_map};
+ghost use Rattle.serde_json.specs.View.{number_view, view};
+ghost use Rattle.list_faults.specs.FoundValues.{found_at, found_number, found_of, found_string, found_text};
+
 use arrayvec::ArrayString;
 use list_parts::{show_quoted, show_within};
 use serde_json::{Number, Value};
@@ -34,20 +39,33 @@ pub enum ValueKind {
 
 impl ValueKind {
     /// Returns the kind of a value that may be missing.
-    pub(crate) fn of(value: Option<&Value>) -> ValueKind {
+    pub(crate) fn of(value: Option<&Value>) -> ValueKind
+        ensures { found_at result ≡ found_of (option_map (λ value. view value.now) value.entry) }
+    {
         match value {
             None => ValueKind::Missing,
-            Some(Value::Null) => ValueKind::Null,
-            Some(Value::Bool(value)) => ValueKind::Boolean(*value),
-            Some(Value::Number(number)) => ValueKind::of_number(number),
-            Some(Value::String(text)) => ValueKind::of_text(text.as_str()),
-            Some(Value::Array(list)) => ValueKind::List(list.len()),
-            Some(Value::Object(_)) => ValueKind::Object,
+            Some(value) => ValueKind::of_value(value),
+        }
+    }
+
+    // The kind of a value.
+    fn of_value(value: &Value) -> ValueKind
+        ensures { found_at result ≡ found_of (Some (view value.now)) }
+    {
+        match value {
+            Value::Null => ValueKind::Null,
+            Value::Bool(value) => ValueKind::Boolean(*value),
+            Value::Number(number) => ValueKind::of_number(number),
+            Value::String(text) => ValueKind::of_text(text.as_str()),
+            Value::Array(list) => ValueKind::List(list.len()),
+            Value::Object(_) => ValueKind::Object,
         }
     }
 
     // The kind of a number.
-    fn of_number(number: &Number) -> ValueKind {
+    fn of_number(number: &Number) -> ValueKind
+        ensures { found_at result ≡ found_number (number_view number.now) }
+    {
         match (number.as_u64(), number.as_i64()) {
             (Some(whole), _) => ValueKind::Whole(whole),
             (None, Some(below)) => ValueKind::Negative(below),
@@ -56,7 +74,9 @@ impl ValueKind {
     }
 
     // The kind of a text.
-    fn of_text(text: &str) -> ValueKind {
+    fn of_text(text: &str) -> ValueKind
+        ensures { found_at result ≡ found_string text.now }
+    {
         match ArrayString::from(text) {
             Ok(short) => ValueKind::Text(short),
             Err(_) => ValueKind::LongText(text.len()),
@@ -65,6 +85,8 @@ impl ValueKind {
 }
 
 impl fmt::Display for ValueKind {
+    ghost output = { λ kind. Some (found_text (found_at kind)) };
+
     fn fmt<W: fmt::Write>(&self, f: &mut fmt::Formatter<W>) -> fmt::Result {
         match self {
             ValueKind::Missing => f.write_str("missing"),

@@ -1,9 +1,11 @@
 //! The budgets of servers that nothing uses.
 ghost use Rattle.std.specs.Prelude.{◌≡◌, ◌++◌, IfOk, OnOk, Some};
-ghost use Rattle.list_findings.specs.Spare.{spare_in, spare_of, spare_text};
+ghost use Rattle.std.specs.Fmt.{WritesOnOk};
+ghost use Rattle.std.specs.List.{flat_map};
+ghost use Rattle.list_findings.specs.Spare.{advice_text, other_spare_text, spare_in, spare_of, spare_text};
 
 use list_parser::{ListEntry, Path, StartList};
-use list_parts::{Amount, show_within};
+use list_parts::Amount;
 use std::alloc::{AllocError, Global};
 use std::fmt;
 
@@ -39,14 +41,28 @@ pub struct Advice<'a> {
 }
 
 impl fmt::Display for Advice<'_> {
+    ghost output = { λ advice. Some (advice_text advice) };
+
     fn fmt<W: fmt::Write>(&self, f: &mut fmt::Formatter<W>) -> fmt::Result {
         f.write_str("servers use no budget of their own: ")?;
-        for (place, spare) in self.servers.iter().enumerate() {
-            let before = if place > 0 { ", " } else { "" };
-            show_within(f, before, spare, "")?;
+        match self.servers.split_first() {
+            Some((spare, others)) => {
+                write!(f, "{spare}")?;
+                show_others(f, others)
+            }
+            None => Ok(()),
         }
-        Ok(())
     }
+}
+
+// Writes unused budgets, each after a comma.
+fn show_others<W: fmt::Write>(f: &mut fmt::Formatter<W>, servers: &[UnusedBudget]) -> fmt::Result
+    ensures { WritesOnOk W.write_str_gives f.old result (flat_map other_spare_text servers.now) f.new }
+{
+    for spare in servers {
+        write!(f, ", {spare}")?;
+    }
+    Ok(())
 }
 
 /// Returns the unused budget of each server of a list that has RAM or capabilities. Fails if the host is out of memory.

@@ -1,3 +1,4 @@
+pub mod Kinds
 pub mod Left
 pub mod PartTexts
 pub mod QuotedTexts

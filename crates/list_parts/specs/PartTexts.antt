@@ -1,9 +1,10 @@
 -- The texts of amounts, of budgets, and of parts of a start list.
-use Rattle.std.specs.Prelude.{ℕ, ◌%◌, ◌/◌, ◌==◌, ◌&&◌, nat_lt, List, [], ◌∷◌, ◌++◌, codes, decimal, if◌then◌else◌, Option, Some, None}
+use Rattle.std.specs.Prelude.{ℕ, ◌+◌, ◌%◌, ◌/◌, ◌==◌, ◌&&◌, nat_lt, List, [], ◌∷◌, ◌++◌, codes, decimal, if◌then◌else◌, Option, Some, None}
 use Rattle.list_parts.specs.declared.budget_amount.BudgetAmount.{BudgetAmount}
 use Rattle.list_parts.specs.declared.list_part.EntryStep.{EntryStep}
 use Rattle.list_parts.specs.declared.list_part.ListPart.{ListPart}
 use Rattle.list_parts.specs.declared.list_part.ListPart.TheVariants as parts
+use Rattle.list_parts.specs.declared.start_quota.EntryShortfall.{EntryShortfall}
 
 -- RAM in K if it is a whole number of these, else in bytes
 abbrev pub amount_text : ℕ → List ℕ
@@ -60,3 +61,16 @@ part_text (parts.DefaultRule rule) = codes "default-route[" ++ decimal rule ++ c
 part_text (parts.Rule number steps rule) = element_text steps (codes ": route") rule
 part_text (parts.InnerRule number steps rule) = element_text steps (codes ": config: default-route") rule
 part_text (parts.Kind number steps kind) = element_text steps (codes ": kinds") kind
+
+-- what the entry at some steps asks for is more than its init has left
+abbrev pub excess_text : List EntryStep → List ℕ → List ℕ → ℕ → List ℕ
+excess_text steps asked unit left =
+    steps_text steps
+    ++ (codes ": " ++ (asked ++ (codes " " ++ (unit ++ (codes " are more than the " ++ (decimal left ++ codes " that init has left"))))))
+
+-- of the RAM if that isn't covered, else of the capabilities
+abbrev pub shortfall_text : EntryShortfall → List ℕ
+shortfall_text lack =
+    if nat_lt lack.ram_left (lack.ram + lack.reserve_ram)
+    then excess_text lack.steps (asked_ram lack.ram lack.reserve_ram) (codes "bytes") lack.ram_left
+    else excess_text lack.steps (asked_caps lack.caps lack.reserve_caps) (codes "capabilities") lack.caps_left

@@ -1,5 +1,6 @@
 //! The RAM and the capabilities that inits have left while a machine starts.
 ghost use Rattle.std.specs.Prelude.{◌≡◌, ◌+◌, ◌<◌, ◌∷◌, ◌++◌, [], IfOk, IfSome, Some, length, nat_lt, not};
+ghost use Rattle.std.specs.Fmt.{WritesOnOk};
 ghost use Rattle.std.specs.Option.{is_some, option_map};
 ghost use Rattle.own_model.specs.Account.{parted_with, shortage};
 ghost use Rattle.own_model.specs.Listed.{start_list_of, start_of};
@@ -7,7 +8,7 @@ ghost use Rattle.own_model.specs.StartList.{init_account, init_at, inits_kept, m
 ghost use Rattle.list_parser.specs.Quota.{quota_fault};
 ghost use Rattle.list_parser.specs.declared.fault.BootFault.TheVariants.{QuotaExceeded};
 ghost use Rattle.list_parts.specs.Left.{budget_of, first_shortfall, lack_of};
-ghost use Rattle.list_parts.specs.PartTexts.{amount_text, quota_text};
+ghost use Rattle.list_parts.specs.PartTexts.{amount_text, asked_text, excess_text, quota_text, shortfall_text};
 
 use crate::budget_amount::BudgetAmount;
 use crate::list_part::{EntrySteps, steps_to};
@@ -185,20 +186,40 @@ pub struct EntryShortfall {
 }
 
 impl fmt::Display for EntryShortfall {
+    ghost output = { λ lack. Some (shortfall_text lack) };
+
     fn fmt<W: fmt::Write>(&self, f: &mut fmt::Formatter<W>) -> fmt::Result {
-        let (asked, left, unit) = if covers_both(self.ram_left, self.ram, self.reserve_ram) {
+        if covers_both(self.ram_left, self.ram, self.reserve_ram) {
             let asked = BudgetAmount::caps(self.caps, self.reserve_caps);
-            (asked, u64::from(self.caps_left), "capabilities")
+            show_excess(
+                f,
+                &self.steps,
+                asked,
+                "capabilities",
+                u64::from(self.caps_left),
+            )
         } else {
             let asked = BudgetAmount::ram(self.ram, self.reserve_ram);
-            (asked, self.ram_left, "bytes")
-        };
-        write!(
-            f,
-            "{}: {asked} {unit} are more than the {left} that init has left",
-            self.steps
-        )
+            show_excess(f, &self.steps, asked, "bytes", self.ram_left)
+        }
     }
+}
+
+// Writes that what the entry at some steps asks for is more than its init has left.
+fn show_excess<W: fmt::Write>(
+    f: &mut fmt::Formatter<W>,
+    steps: &EntrySteps,
+    asked: BudgetAmount,
+    unit: &str,
+    left: u64,
+) -> fmt::Result
+    ensures { WritesOnOk W.write_str_gives f.old result
+        (excess_text steps.now (asked_text asked) unit.now left) f.new }
+{
+    write!(
+        f,
+        "{steps}: {asked} {unit} are more than the {left} that init has left"
+    )
 }
 
 /// Returns the first entry whose budget its init doesn't cover, or none if the list boots. Fails if the host is out of memory.

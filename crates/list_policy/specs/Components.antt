@@ -1,5 +1,5 @@
 -- The components that the paths of a line denote, path by path.
-use Rattle.std.specs.Prelude.{ℕ, ◌+◌, Bool, false, List, [], ◌∷◌, ◌++◌, length, Option, Some, Result, Ok, Err}
+use Rattle.std.specs.Prelude.{ℕ, ◌+◌, Bool, false, List, [], ◌∷◌, ◌++◌, length, Option, Some, None, Result, Ok, Err}
 use Rattle.std.specs.List.{slice_get}
 use Rattle.std.specs.Option.{option_map, unwrap_or}
 use Rattle.own_model.specs.Listed.{Listed}
@@ -37,7 +37,7 @@ abbrev pub any_for : Listed → List ℕ → List ℕ
 any_for list path = numbers_below (any_at list path) (length list.entries)
 
 abbrev pub any_of : Listed → List ℕ → Result (List ℕ) PathFault
-any_of list path = some_of (any_for list path) (NobodyHas path)
+any_of list path = some_of (any_for list path) (NobodyHas path None)
 
 -- the numbers that a path denotes, of a kind, or why it denotes none
 abbrev pub named_at : Listed → NamedKind → List ℕ → Result (List ℕ) PathFault

@@ -1,6 +1,7 @@
 pub mod Cuts
 pub mod Line
 pub mod Statement
+pub mod FlawTexts
 pub mod Components
 pub mod Reading
 pub mod Demand

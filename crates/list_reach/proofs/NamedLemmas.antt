@@ -1,8 +1,12 @@
--- The components that several texts denote, text by text.
-use Rattle.std.proofs.Common.{Bor, ◌≡◌, ◌≤◌, ℕ, ◌<◌, ◌+◌, suc, Bool, List, [], ◌∷◌, ◌++◌, length, drop, map, get_or, Option, Some, None, Result, Ok, Err, refl, sym, subst, ap, ◌∙◌, arith}
-use Rattle.std.specs.Prelude.{IfSome, if◌then◌else◌}
+-- The components that several texts denote, text by text; paths as text, and paths that may have been meant.
+use Rattle.std.proofs.Common.{Bor, ◌≡◌, ◌≤◌, ℕ, ◌<◌, ◌+◌, suc, Bool, true, false, List, [], ◌∷◌, ◌++◌, length, drop, map, get_or, Option, Some, None, Result, Ok, Err, refl, sym, subst, ap, ◌∙◌, arith}
+use Rattle.std.specs.Prelude.{IfSome, find, if◌then◌else◌}
+use Rattle.std.specs.Str.{IsUtf8, is_utf8}
 use Rattle.std.proofs.lemmas.List.{append-nil, append_assoc, drop_all, drop_more}
-use Rattle.list_reach.specs.Paths.{PathFault, joined, joined_all, numbers_below}
+use Rattle.std.proofs.lemmas.Str.{IsUtf8-from_is_utf8, is_utf8-from_IsUtf8}
+use Rattle.own_model.specs.Listed.{ListedEntry}
+use Rattle.list_reach.specs.Paths.{PathFault, as_text, is_sought, joined, joined_all, numbers_below, paths_of}
+use Rattle.list_reach.specs.declared.component_numbers.ComponentKind.{ComponentKind}
 
 next : (n : ℕ) → suc n ≡ n + 1
 next n = omega arith
@@ -62,3 +66,22 @@ pub first_fault : (one two : Result (List ℕ) PathFault) (fault : Option PathFa
     → IfSome fault (λ why. joined one two ≡ Err why)
 first_fault one two None why = why
 first_fault one two (Some fault) why = ap (λ r. joined r two) why
+
+-- a path that is UTF-8, and one that isn't
+pub is_text : (path : List ℕ) → IsUtf8 path → path ≡ as_text path
+is_text path valid = rw (is_utf8-from_IsUtf8 path valid) refl
+
+pub is_no_text : (path : List ℕ) → ¬ (IsUtf8 path) → [] ≡ as_text path
+is_no_text path never = elim (is_utf8 path) as (λ b. is_utf8 path ≡ b → [] ≡ (if b then path else [])) [
+  | true ↦ λ is. absurd (never (IsUtf8-from_is_utf8 path is))
+  | false ↦ λ is. refl
+] refl
+
+-- the first path that is meant is that of the entry at a place, if this is of the kind and none before it is meant
+pub path_found : (meant : List ℕ → Bool) (sought : ComponentKind) (entries : List ListedEntry) (i : ℕ) (entry : ListedEntry) → i < length entries
+    → entry ≡ get_or entries i entry → is_sought entry sought ≡ true → meant entry.path ≡ true
+    → Some entry.path ≡ find meant (paths_of sought (drop i entries))
+path_found meant sought entries i entry within at kind is =
+    sym (ap (λ (es : List ListedEntry). find meant (paths_of sought es))
+    (drop_more entries i entry within ∙ ap (λ (e : ListedEntry). e ∷ drop (i + 1) entries) (sym at))
+    ∙ rw (kind, is) refl)

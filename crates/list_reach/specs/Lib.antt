@@ -11,9 +11,11 @@ pub mod TableTexts
 pub mod RouteQuery
 pub mod RuleTexts
 pub mod RouteTexts
+pub mod PathTexts
 pub mod ScriptDecisions
 pub mod AllPaths
 pub mod Paths
+pub mod UnnamedTexts
 pub mod RequestTheorems
 pub mod Deciding
 pub mod DecisionOrder

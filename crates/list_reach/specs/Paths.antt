@@ -4,8 +4,9 @@ use Rattle.std.specs.Borrow.{Bor}
 use Rattle.std.specs.Char.{is_ascii_whitespace}
 use Rattle.std.specs.List.{list_any, prefix_len, suffix_len, slice_get, slice_split, starts_with, ends_with}
 use Rattle.std.specs.Option.{option_map, unwrap_or}
-use Rattle.std.specs.Str.{bytes_eq}
+use Rattle.std.specs.Str.{bytes_eq, is_utf8}
 use Rattle.own_model.specs.Listed.{Listed, ListedEntry}
+use Rattle.text_near_words.specs.Near.{nearest}
 use Rattle.list_parser.specs.Depth.{runs_script, runs_server}
 use Rattle.list_reach.specs.declared.component_numbers.ComponentKind.{ComponentKind}
 use Rattle.list_reach.specs.declared.component_numbers.ComponentKind.TheVariants.{Script as Scripts, Server as Servers}
@@ -59,9 +60,18 @@ numbers_below passes (suc n) = numbers_below passes n ++ (if passes n then n ∷
 abbrev pub numbers_for : Listed → ComponentKind → List ℕ → List ℕ
 numbers_for list sought path = numbers_below (denotes_at list sought path) (length list.entries)
 
--- why a path denotes no entry of the kind: no entry has it, or its entry is no script or no server
+-- a path as text, which is empty if it isn't UTF-8
+abbrev pub as_text : List ℕ → List ℕ
+as_text path = if is_utf8 path then path else []
+
+-- the paths of the entries that are of a kind
+abbrev pub paths_of : ComponentKind → List ListedEntry → List (List ℕ)
+paths_of sought [] = []
+paths_of sought (entry ∷ entries) = if is_sought entry sought then entry.path ∷ paths_of sought entries else paths_of sought entries
+
+-- why a path denotes no entry of the kind: no entry has it, and perhaps another path was meant; or its entry is no script or no server
 pub data PathFault : Type 0 where
-  NobodyHas : List ℕ → PathFault
+  NobodyHas : List ℕ → Option (List ℕ) → PathFault
   IsNoScript : List ℕ → PathFault
   IsNoServer : List ℕ → PathFault
 
@@ -71,7 +81,8 @@ other_than Servers path = IsNoServer path
 
 abbrev pub why_unnamed : Listed → ComponentKind → List ℕ → PathFault
 why_unnamed list sought path =
-    if is_some (position (λ entry. bytes_eq entry.path path) list.entries) then other_than sought path else NobodyHas path
+    if is_some (position (λ entry. bytes_eq entry.path path) list.entries) then other_than sought path
+    else NobodyHas path (nearest (paths_of sought list.entries) (as_text path))
 
 -- some numbers, or why there are none
 abbrev pub some_of : List ℕ → PathFault → Result (List ℕ) PathFault
@@ -113,7 +124,7 @@ numbers_of_all list sought texts = joined_all (numbers_of list sought) (map (λ 
 
 -- the fault of a path; none if the host is out of memory
 abbrev pub fault_of : Unnamed → Option PathFault
-fault_of (Nobody path near) = Some (NobodyHas path.now)
+fault_of (Nobody path near) = Some (NobodyHas path.now near)
 fault_of (NoScript path) = Some (IsNoScript path.now)
 fault_of (NoServer path) = Some (IsNoServer path.now)
 fault_of NoMemory = None

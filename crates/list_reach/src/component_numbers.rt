@@ -1,6 +1,8 @@
 //! The numbers of scripts and servers, by the paths that people write.
-ghost use Rattle.std.specs.Prelude.{◌≡◌, Ok, IfErr, IfOk, IfSome};
-ghost use Rattle.list_reach.specs.Paths.{GivesReason, denotes, denotes_at, fault_of, is_sought, numbers_for, numbers_of, numbers_of_path, why_unnamed};
+ghost use Rattle.std.specs.Prelude.{◌≡◌, Ok, Some, IfErr, IfOk, IfSome};
+ghost use Rattle.std.specs.Fmt.{WritesOnOk};
+ghost use Rattle.list_reach.specs.Paths.{GivesReason, as_text, denotes, denotes_at, fault_of, is_sought, numbers_for, numbers_of, numbers_of_path, why_unnamed};
+ghost use Rattle.list_reach.specs.UnnamedTexts.{meant_text, unnamed_text};
 ghost use Rattle.list_reach.specs.declared.component_numbers.Unnamed.TheVariants.{NoMemory as NoRoom};
 
 use crate::near_path::near_path;
@@ -32,14 +34,13 @@ pub enum Unnamed<'a> {
 }
 
 impl fmt::Display for Unnamed<'_> {
+    ghost output = { λ fault. Some (unnamed_text fault) };
+
     fn fmt<W: fmt::Write>(&self, f: &mut fmt::Formatter<W>) -> fmt::Result {
         match self {
             Unnamed::Nobody(path, near) => {
                 write!(f, "unknown component `{}`", as_text(*path))?;
-                match near {
-                    Some(near) => write!(f, "; did you mean `{near}`?"),
-                    None => Ok(()),
-                }
+                show_meant(f, near)
             }
             Unnamed::NoScript(path) => write!(f, "expected a script, found `{}`", as_text(*path)),
             Unnamed::NoServer(path) => write!(
@@ -60,8 +61,21 @@ impl<'a> From<AllocError> for Unnamed<'a> {
     }
 }
 
-// A path as text, if it is UTF-8.
-fn as_text(path: &[u8]) -> &str {
+// Writes the path that may have been meant.
+fn show_meant<W: fmt::Write>(f: &mut fmt::Formatter<W>, near: &Option<Path>) -> fmt::Result
+    ensures { WritesOnOk W.write_str_gives f.old result (meant_text near.now) f.new }
+{
+    match near {
+        Some(near) => write!(f, "; did you mean `{}`?", near.as_str()),
+        None => Ok(()),
+    }
+}
+
+// A path as text, which is empty if it isn't UTF-8.
+#[tactic(auto, using(crate::proofs::NamedLemmas::is_text, crate::proofs::NamedLemmas::is_no_text))]
+fn as_text(path: &[u8]) -> &str
+    ensures { result.now ≡ as_text path.now }
+{
     match str::from_utf8(path) {
         Ok(text) => text,
         Err(_) => "",
@@ -153,7 +167,7 @@ fn why_unnamed<'a>(
     match (list.find(path), sought) {
         (Some(_), ComponentKind::Script) => Unnamed::NoScript(path),
         (Some(_), ComponentKind::Server) => Unnamed::NoServer(path),
-        (None, _) => match near_path(alloc, list, as_text(path), sought) {
+        (None, _) => match near_path(alloc, list.entries(), as_text(path), sought) {
             Ok(near) => Unnamed::Nobody(path, near),
             Err(_) => Unnamed::NoMemory,
         },

@@ -10,6 +10,7 @@ ghost use Rattle.list_faults.specs.Places.{IsPlaced, fault_in, fault_of};
 ghost use Rattle.list_findings.specs.Repeated.{repeated_in};
 ghost use Rattle.list_findings.specs.Spare.{if_any, spare_of};
 ghost use Rattle.list_findings.specs.Unread.{unread_of};
+ghost use Rattle.list_tree.specs.Nodes.{IsTreeOf};
 
 use list_faults::{FaultPlace, JsonReason, ListFault, ValueFlaw};
 use list_findings::{
@@ -94,12 +95,16 @@ impl Review {
     }
 
     /// Returns the components and the servers to which their requests are routed, as text. Fails if the host is out of memory.
-    pub fn tree(&self, alloc: Global) -> Result<ListTree<'_>, AllocError> {
+    pub fn tree(&self, alloc: Global) -> Result<ListTree<'_>, AllocError>
+        ensures { IfOk result (IsTreeOf self.now.list) }
+    {
         ListTree::of(alloc, &self.list)
     }
 
     /// Returns the components and the servers to which their requests are routed, as a graph. Fails if the host is out of memory.
-    pub fn graph(&self, alloc: Global) -> Result<ListGraph<'_>, AllocError> {
+    pub fn graph(&self, alloc: Global) -> Result<ListGraph<'_>, AllocError>
+        ensures { IfOk result (λ graph. IsTreeOf self.now.list graph.tree) }
+    {
         ListGraph::of(alloc, &self.list)
     }
 }

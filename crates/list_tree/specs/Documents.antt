@@ -9,7 +9,7 @@ use Rattle.list_reach.specs.Deciding.{DecisionAt}
 use Rattle.list_reach.specs.declared.script_decisions.ScriptDecisions.{ScriptDecisions}
 use Rattle.view_json.specs.Documents.{Member, number_data, text_data, text_or_null}
 use Rattle.list_tree.specs.DecisionTexts.{rules_text}
-use Rattle.list_tree.specs.Kinds.{binary_word, kinds_data}
+use Rattle.list_parts.specs.Kinds.{binary_word, kinds_data}
 use Rattle.list_tree.specs.Nodes.{label_of, server_of}
 use Rattle.list_tree.specs.declared.node.ExtraBudget.{ExtraBudget}
 use Rattle.list_tree.specs.declared.node.ExtraBudget.TheVariants.{Reserve, Keeps}

@@ -13,6 +13,7 @@ use Rattle.list_reach.specs.declared.script_decisions.ScriptDecisions.{ScriptDec
 use Rattle.list_tree.specs.declared.node.ExtraBudget.{ExtraBudget}
 use Rattle.list_tree.specs.declared.node.ExtraBudget.TheVariants.{Reserve, Keeps}
 use Rattle.list_tree.specs.declared.node.TreeNode.{TreeNode}
+use Rattle.list_tree.specs.declared.tree.ListTree.{ListTree}
 
 -- the entry of a node, with its number
 abbrev pub numbered : TreeNode → ℕ × ListedEntry
@@ -41,6 +42,12 @@ pub record AddsNode (list : Listed) (old : List TreeNode) (entry : ℕ × Listed
 pub record AreNodes (list : Listed) (nodes : List TreeNode) : Type 0 where
   pub entries : map numbered nodes ≡ enumerate_from 0 list.entries
   pub each : All (IsNode list) nodes
+
+-- a tree is that of a list, with what the machine's init keeps
+pub record IsTreeOf (list : Listed) (tree : ListTree) : Type 0 where
+  pub list_is : tree.list.now ≡ list
+  pub keeps : tree.keeps ≡ init_at (inits_kept (start_list_of list)) 0
+  pub nodes : AreNodes list tree.nodes.items
 
 -- ---- what is printed of a decision
 

@@ -7,7 +7,7 @@ use Rattle.list_parts.specs.PartTexts.{quota_text}
 use Rattle.list_reach.specs.Deciding.{DecisionAt}
 use Rattle.list_reach.specs.declared.script_decisions.ScriptDecisions.{ScriptDecisions}
 use Rattle.list_tree.specs.DecisionTexts.{rules_text}
-use Rattle.list_tree.specs.Kinds.{binary_word, kinds_after, kinds_in}
+use Rattle.list_parts.specs.Kinds.{binary_word, kinds_after, kinds_in}
 use Rattle.list_tree.specs.Nodes.{label_of, server_of}
 use Rattle.list_tree.specs.declared.node.ExtraBudget.{ExtraBudget}
 use Rattle.list_tree.specs.declared.node.ExtraBudget.TheVariants.{Reserve, Keeps}

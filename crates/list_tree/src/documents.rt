@@ -5,15 +5,14 @@ ghost use Rattle.std.specs.Option.{option_copied, option_map};
 ghost use Rattle.view_json.specs.Documents.{field_data, list_data, members_data, number_data, text_or_null};
 ghost use Rattle.list_tree.specs.DecisionTexts.{rules_text};
 ghost use Rattle.list_tree.specs.Documents.{budget_members, component_object, decision_object, extra_members, init_object, kinds_members, machine_object, node_objects, request_objects, service_members};
-ghost use Rattle.list_tree.specs.Kinds.{kinds_data};
+ghost use Rattle.list_parts.specs.Kinds.{kinds_data};
 ghost use Rattle.list_tree.specs.Listings.{Extends};
 
-use crate::kinds::{binary_word, kinds_of};
 use crate::node::{ExtraBudget, TreeNode};
 use crate::script_decision::ScriptDecision;
 use list_labels::ClientLabel;
 use list_parser::{ListEntry, StartList};
-use list_parts::StartQuota;
+use list_parts::{StartQuota, binary_word, kinds_of};
 use list_reach::{RouteDecision, ScriptDecisions};
 use std::alloc::{AllocError, Global};
 use view_json::{JsonField, JsonMember, Listing, ObjectList};
@@ -92,7 +91,7 @@ fn add_component(
 ) -> Result<(), AllocError>
     ensures { OnOk result (Extends listing.old listing.new (component_object node.now ∷ [])) }
 {
-    let kinds = kinds_of(alloc, node.entry)?;
+    let kinds = kinds_of(alloc, node.entry.binary())?;
     let members = component_members(alloc, node, kinds.as_ref())?;
     add_object(listing, members.as_slice())
 }

@@ -4,15 +4,14 @@ ghost use Rattle.std.specs.Fmt.{WritesOnOk};
 ghost use Rattle.std.specs.List.{flat_map, list_any};
 ghost use Rattle.std.specs.Option.{option_copied};
 ghost use Rattle.list_tree.specs.GraphTexts.{box_start, box_text, boxes_after, component_text, denied_name, denied_node, denied_text, denies_within, ends_text, graph_head, graph_text, leaf_start, leaf_text, margin, node_text, nodes_text, path_text, provided_text, shape_of};
-ghost use Rattle.list_tree.specs.Nodes.{AreNodes};
+ghost use Rattle.list_tree.specs.Nodes.{IsTreeOf};
 
 use crate::depth::{depth_of, show_indent};
 use crate::edges::show_edges;
-use crate::kinds::{binary_word, show_kinds};
 use crate::node::TreeNode;
 use crate::tree::ListTree;
 use list_parser::{ListEntry, StartList};
-use list_parts::StartQuota;
+use list_parts::{KindsText, StartQuota, binary_word};
 use std::alloc::{AllocError, Global};
 use std::fmt;
 
@@ -27,8 +26,7 @@ pub struct ListGraph<'a> {
 impl<'a> ListGraph<'a> {
     /// Returns the graph of a start list. Fails if the host is out of memory.
     pub fn of(alloc: Global, list: &'a StartList) -> Result<ListGraph<'a>, AllocError>
-        ensures list { IfOk result (λ graph. graph.tree.list.now ≡ list.now) }
-        ensures nodes { IfOk result (λ graph. AreNodes list.now graph.tree.nodes.items) }
+        ensures { IfOk result (λ graph. IsTreeOf list.now graph.tree) }
     {
         Ok(ListGraph {
             tree: ListTree::of(alloc, list)?,
@@ -243,7 +241,7 @@ fn show_text<W: fmt::Write>(f: &mut fmt::Formatter<W>, node: &TreeNode<'_>) -> f
     show_path(f, entry)?;
     node.show_budget(f, "\\n")?;
     show_provided(f, entry.provides(), entry.service())?;
-    show_kinds(f, "\\n", entry)
+    write!(f, "{}", KindsText::of("\\n", entry.binary()))
 }
 
 // The path of a component, and its binary.

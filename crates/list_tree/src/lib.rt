@@ -10,7 +10,6 @@ mod depth;
 mod documents;
 mod edges;
 mod graph;
-mod kinds;
 mod node;
 mod rules_text;
 mod script_decision;

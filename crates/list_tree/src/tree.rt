@@ -4,20 +4,19 @@ ghost use Rattle.std.specs.Fmt.{WritesOnOk};
 ghost use Rattle.std.specs.List.{flat_map, slice_get};
 ghost use Rattle.std.specs.Option.{option_copied};
 ghost use Rattle.own_model.specs.Listed.{start_list_of};
-ghost use Rattle.own_model.specs.StartList.{init_at, inits_kept};
+ghost use Rattle.own_model.specs.StartList.{inits_kept};
 ghost use Rattle.view_json.specs.Documents.{list_text};
 ghost use Rattle.list_tree.specs.Documents.{tree_objects};
-ghost use Rattle.list_tree.specs.Nodes.{AddsNode, AreNodes, IsNode};
+ghost use Rattle.list_tree.specs.Nodes.{AddsNode, IsNode, IsTreeOf};
 ghost use Rattle.list_tree.specs.TreeTexts.{by_text, component_line, decision_line, label_within, machine_lines, name_text, node_lines, request_lines, server_text, service_text, tree_text};
 
 use crate::depth::{depth_of, show_indent};
 use crate::documents::{add_kept, add_machine, add_nodes};
-use crate::kinds::{binary_word, show_kinds};
 use crate::node::TreeNode;
 use crate::script_decision::ScriptDecision;
 use list_labels::ClientLabel;
 use list_parser::{ListEntry, StartList};
-use list_parts::{InitQuotas, StartQuota, kept, left_of, show_within};
+use list_parts::{InitQuotas, KindsText, StartQuota, binary_word, kept, left_of, show_within};
 use list_reach::{RouteDecision, ScriptDecisions};
 use std::alloc::{AllocError, Global};
 use std::fmt;
@@ -37,10 +36,7 @@ pub struct ListTree<'a> {
 impl<'a> ListTree<'a> {
     /// Returns the tree of a start list. Fails if the host is out of memory.
     pub fn of(alloc: Global, list: &'a StartList) -> Result<ListTree<'a>, AllocError>
-        ensures list { IfOk result (λ tree. tree.list.now ≡ list.now) }
-        ensures keeps { IfOk result
-            (λ tree. tree.keeps ≡ init_at (inits_kept (start_list_of list.now)) 0) }
-        ensures nodes { IfOk result (λ tree. AreNodes list.now tree.nodes.items) }
+        ensures { IfOk result (IsTreeOf list.now) }
     {
         let inits = kept(list);
         let count = list.count();
@@ -151,7 +147,7 @@ fn show_component<W: fmt::Write>(f: &mut fmt::Formatter<W>, node: &TreeNode<'_>)
     show_name(f, entry)?;
     node.show_budget(f, ", ")?;
     show_service(f, entry.provides(), entry.service())?;
-    show_kinds(f, ", ", entry)?;
+    write!(f, "{}", KindsText::of(", ", entry.binary()))?;
     f.write_str("\n")
 }
 

@@ -1,3 +1,2 @@
-mod ListingLemmas
+pub mod ListingLemmas
 mod PartLemmas
-mod WordLemmas

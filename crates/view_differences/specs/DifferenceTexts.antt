@@ -3,11 +3,11 @@ use Rattle.std.specs.Prelude.{ℕ, Bool, List, [], ◌∷◌, ◌++◌, codes, d
 use Rattle.std.specs.List.{flat_map, slice_get}
 use Rattle.own_model.specs.Amounts.{Amounts}
 use Rattle.own_model.specs.Listed.{Listed, ListedEntry, service_in}
-use Rattle.own_model.specs.ObjectKinds.{ObjectKind}
+use Rattle.list_parts.specs.Kinds.{binary_word, kinds_after, kinds_in}
 use Rattle.view_json.specs.Documents.{Member}
 use Rattle.view_differences.specs.BreachTexts.{breach_line, breach_objects}
 use Rattle.list_diff.specs.Differences.{same_machine}
-use Rattle.view_differences.specs.Documents.{binary_word, change_objects, kinds_in, machine_objects}
+use Rattle.view_differences.specs.Documents.{change_objects, machine_objects}
 use Rattle.view_differences.specs.NeedTexts.{need_line, need_objects}
 use Rattle.view_differences.specs.ReachTexts.{reach_line, reach_objects}
 use Rattle.view_differences.specs.ReplyTexts.{reply_line, reply_objects}
@@ -46,23 +46,12 @@ abbrev pub service_text : Bool → Option (List ℕ) → List ℕ
 service_text provides None = []
 service_text provides (Some service) = codes ", provides " ++ (if provides then service else codes "nothing")
 
--- a kind, with the bytes of a block and of a unit
-abbrev pub kind_text : ObjectKind → List ℕ
-kind_text kind =
-    kind.name ++ (codes " (" ++ (decimal kind.block ++ (codes " bytes, " ++ (decimal kind.bytes ++ codes " a unit)"))))
-
-abbrev pub other_kind_text : ObjectKind → List ℕ
-other_kind_text kind = codes ", " ++ kind_text kind
-
-abbrev pub kinds_text : Option (List ObjectKind) → List ℕ
-kinds_text None = []
-kinds_text (Some []) = codes ", no kinds"
-kinds_text (Some (kind ∷ kinds)) = codes ", kinds " ++ (kind_text kind ++ flat_map other_kind_text kinds)
-
 -- the binary of an entry, its budget, its reserve, its service and its kinds
 abbrev pub means_text : ListedEntry → List ℕ
 means_text entry =
-    budget_text entry ++ (reserve_text entry.reserve ++ (service_text entry.provides (service_in entry.binary) ++ kinds_text (kinds_in entry.binary)))
+    budget_text entry
+    ++ (reserve_text entry.reserve
+    ++ (service_text entry.provides (service_in entry.binary) ++ kinds_after (codes ", ") (kinds_in entry.binary)))
 
 abbrev pub entry_text : List ℕ → ListedEntry → List ℕ
 entry_text sign entry = sign ++ (entry.path ++ (codes ": " ++ means_text entry))

@@ -4,11 +4,9 @@ use Rattle.std.specs.List.{slice_get}
 use Rattle.std.specs.Option.{option_map}
 use Rattle.serde_json.specs.Data.{Data, null}
 use Rattle.own_model.specs.Amounts.{Amounts}
-use Rattle.own_model.specs.Listed.{Binary, Listed, ListedEntry, service_in}
-use Rattle.own_model.specs.Listed.Binary.{Script, Server, Init}
-use Rattle.own_model.specs.ObjectKinds.{ObjectKind}
-use Rattle.own_model.specs.Offer.Offer.{OffersLog, OffersFiles, OffersObjects}
-use Rattle.view_json.specs.Documents.{Member, number_data, objects_data, text_data}
+use Rattle.own_model.specs.Listed.{Listed, ListedEntry, service_in}
+use Rattle.list_parts.specs.Kinds.{binary_word, kinds_data}
+use Rattle.view_json.specs.Documents.{Member, number_data, text_data}
 use Rattle.list_diff.specs.Differences.{same_machine}
 use Rattle.view_differences.specs.declared.entry_documents.EntryNames.{EntryNames}
 use Rattle.list_diff.specs.declared.entry_changes.EntryChange.{EntryChange}
@@ -30,30 +28,6 @@ abbrev pub machine_objects : Listed → Listed → List (List Member)
 machine_objects was now = if same_machine was now then [] else machine_object was now ∷ []
 
 -- ---- entries
-
--- the word of a binary, as a list has it
-abbrev pub binary_word : Binary → List ℕ
-binary_word Script = codes "script"
-binary_word (Server service OffersLog) = codes "log"
-binary_word (Server service OffersFiles) = codes "files"
-binary_word (Server service (OffersObjects kinds)) = codes "server"
-binary_word Init = codes "init"
-
--- the kinds that a server declares
-abbrev pub kinds_in : Binary → Option (List ObjectKind)
-kinds_in Script = None
-kinds_in (Server service OffersLog) = None
-kinds_in (Server service OffersFiles) = None
-kinds_in (Server service (OffersObjects kinds)) = Some kinds
-kinds_in Init = None
-
-abbrev pub kind_object : ObjectKind → List Member
-kind_object kind =
-    (codes "kind", text_data kind.name) ∷ (codes "block", number_data kind.block) ∷ (codes "bytes", number_data kind.bytes) ∷ []
-
--- the kinds as the value of a member, if a server declares some
-abbrev pub kinds_data : Binary → Option Data
-kinds_data binary = option_map (λ kinds. objects_data (map kind_object kinds)) (kinds_in binary)
 
 -- the names of an entry's members
 pub record Names : Type 0 where

@@ -2,18 +2,18 @@
 ghost use Rattle.std.specs.Prelude.{◌≡◌, ◌∷◌, ◌++◌, [], map, IfOk, OnOk};
 ghost use Rattle.std.specs.Option.{option_copied, option_map};
 ghost use Rattle.core_calls.specs.Quotas.{reserve_amounts};
-ghost use Rattle.list_parser.specs.View.{model_binary};
-ghost use Rattle.view_json.specs.Documents.{list_data, members_data, object_of, objects_data, objects_in};
-ghost use Rattle.view_differences.specs.Documents.{binary_word, both_objects, budget_members, change_objects, entry_members, kind_object, kinds_data, kinds_in, kinds_members, names_in, one_objects, reserve_members, service_members};
+ghost use Rattle.list_parts.specs.Kinds.{kinds_data};
+ghost use Rattle.view_json.specs.Documents.{list_data, members_data};
+ghost use Rattle.view_differences.specs.Documents.{both_objects, budget_members, change_objects, entry_members, kinds_members, names_in, one_objects, reserve_members, service_members};
 ghost use Rattle.view_differences.specs.Listings.{Extends};
 
 use crate::documents::{add_object, front};
 use core_calls::Reserve;
 use list_diff::EntryChange;
-use list_parser::{Binary, ListEntry, StartList};
-use object_kinds::ObjectKind;
+use list_parser::{ListEntry, StartList};
+use list_parts::{binary_word, kinds_of};
 use std::alloc::{AllocError, Global};
-use view_json::{JsonField, JsonMember, Listing, ObjectList, ObjectListBuilder};
+use view_json::{JsonField, JsonMember, Listing, ObjectList};
 
 /// The names of the members for an entry's binary, budget, reserve, service and kinds.
 #[derive(Clone, Copy)]
@@ -83,7 +83,7 @@ fn add_one(
     let Some(entry) = entry else {
         return Ok(());
     };
-    let kinds = kinds_of(alloc, entry)?;
+    let kinds = kinds_of(alloc, entry.binary())?;
     let first = front(alloc, "entry", sign)?;
     let members = with_entry(first, names, entry, kinds.as_ref())?;
     add_object(listing, members.as_slice())
@@ -103,7 +103,10 @@ fn add_both(
     let (Some(was), Some(now)) = (was, now) else {
         return Ok(());
     };
-    let (old_kinds, kinds) = (kinds_of(alloc, was)?, kinds_of(alloc, now)?);
+    let (old_kinds, kinds) = (
+        kinds_of(alloc, was.binary())?,
+        kinds_of(alloc, now.binary())?,
+    );
     let first = front(alloc, "entry", "~")?;
     let more = with_entry(first, OLD_NAMES, was, old_kinds.as_ref())?;
     let members = with_entry(more, NEW_NAMES, now, kinds.as_ref())?;
@@ -137,18 +140,10 @@ fn with_budget<'a>(
         ≡ members_data members.entry.items ++ budget_members (names_in names) entry.now) }
 {
     members.push(("name", JsonField::Text(entry.path())))?;
-    members.push((names.binary, JsonField::Word(binary_word(entry))))?;
+    members.push((names.binary, JsonField::Word(binary_word(entry.binary()))))?;
     members.push((names.ram, JsonField::Number(entry.ram())))?;
     members.push((names.caps, JsonField::Number(u64::from(entry.caps()))))?;
     Ok(members)
-}
-
-/// Returns the word for an entry's binary, as a start list has it.
-#[tactic(auto, using(crate::proofs::WordLemmas::word_is))]
-pub(crate) fn binary_word(entry: &ListEntry) -> &'static str
-    ensures { result.now ≡ binary_word entry.now.binary }
-{
-    entry.binary().as_str()
 }
 
 // Returns the members followed by those of a reserve, if there is one.
@@ -204,39 +199,4 @@ fn with_kinds<'a>(
         members.push((names.kinds, JsonField::List(kinds)))?;
     }
     Ok(members)
-}
-
-// Returns an object for each kind that an entry declares, or none if it declares no service.
-fn kinds_of(alloc: Global, entry: &ListEntry) -> Result<Option<ObjectList>, AllocError>
-    ensures { IfOk result (λ kinds. option_map list_data kinds ≡ kinds_data entry.now.binary) }
-{
-    match declared_kinds(entry.binary()) {
-        Some(kinds) => Ok(Some(kind_documents(alloc, kinds)?)),
-        None => Ok(None),
-    }
-}
-
-/// Returns the kinds that a server declares.
-pub(crate) fn declared_kinds(binary: &Binary) -> Option<&[ObjectKind]>
-    ensures { option_map (λ kinds. kinds.now) result ≡ kinds_in (model_binary binary.now) }
-{
-    match binary {
-        Binary::Declared(service) => Some(service.kinds()),
-        Binary::Script | Binary::Server(_) | Binary::Init => None,
-    }
-}
-
-// Returns an object for each of these kinds.
-fn kind_documents(alloc: Global, kinds: &[ObjectKind]) -> Result<ObjectList, AllocError>
-    ensures { IfOk result (λ list. list_data list ≡ objects_data (map kind_object kinds.now)) }
-{
-    let mut list = ObjectListBuilder::new(alloc);
-    for kind in kinds {
-        list.add(&[
-            ("kind", JsonField::Text(kind.name().as_bytes())),
-            ("block", JsonField::Number(u64::from(kind.block()))),
-            ("bytes", JsonField::Number(u64::from(kind.bytes()))),
-        ])?;
-    }
-    Ok(list.into_list())
 }

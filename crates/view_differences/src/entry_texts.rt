@@ -1,15 +1,13 @@
 //! Changes of entries as lines.
-ghost use Rattle.std.specs.Prelude.{◌≡◌, ◌++◌, IfOk, OnOk, List};
-ghost use Rattle.std.specs.List.{flat_map};
+ghost use Rattle.std.specs.Prelude.{◌≡◌, ◌++◌, OnOk};
 ghost use Rattle.std.specs.Option.{option_copied, option_map};
 ghost use Rattle.core_calls.specs.Quotas.{reserve_amounts};
-ghost use Rattle.view_differences.specs.DifferenceTexts.{both_line, budget_text, change_line, entry_text, kind_text, kinds_text, means_text, one_line, other_kind_text, reserve_text, service_text};
+ghost use Rattle.view_differences.specs.DifferenceTexts.{both_line, budget_text, change_line, entry_text, means_text, one_line, reserve_text, service_text};
 
-use crate::entry_documents::{binary_word, declared_kinds};
 use core_calls::Reserve;
 use list_diff::EntryChange;
 use list_parser::{ListEntry, StartList};
-use object_kinds::ObjectKind;
+use list_parts::{KindsText, binary_word};
 use std::alloc::{AllocError, Global};
 
 /// Adds the line of a change of an entry: the entry, and after a changed one how it was. Fails if the host is out of memory.
@@ -89,14 +87,15 @@ fn add_means(alloc: Global, out: &mut Vec<u8>, entry: &ListEntry) -> Result<(), 
     add_budget(alloc, out, entry)?;
     add_reserve(alloc, out, entry.reserve())?;
     add_service(out, entry.provides(), entry.service())?;
-    add_kinds(alloc, out, declared_kinds(entry.binary()))
+    let kinds = format!(in alloc; "{}", KindsText::of(", ", entry.binary()))?;
+    out.extend_from_slice(kinds.as_bytes())
 }
 
 // Adds the binary of an entry and its budget.
 fn add_budget(alloc: Global, out: &mut Vec<u8>, entry: &ListEntry) -> Result<(), AllocError>
     ensures { OnOk result (out.new.items ≡ out.old.items ++ budget_text entry.now) }
 {
-    let (word, ram, caps) = (binary_word(entry), entry.ram(), entry.caps());
+    let (word, ram, caps) = (binary_word(entry.binary()), entry.ram(), entry.caps());
     let text = format!(in alloc; "{word}, {ram} bytes, {caps} caps")?;
     out.extend_from_slice(text.as_bytes())
 }
@@ -128,47 +127,4 @@ fn add_service(out: &mut Vec<u8>, provides: bool, service: Option<&str>) -> Resu
     } else {
         out.extend_from_slice(b"nothing")
     }
-}
-
-// Adds the kinds of a server, if it declares some, each with the bytes of a block and of a unit.
-fn add_kinds(
-    alloc: Global,
-    out: &mut Vec<u8>,
-    kinds: Option<&[ObjectKind]>,
-) -> Result<(), AllocError>
-    ensures { OnOk result (out.new.items
-        ≡ out.old.items ++ kinds_text (option_map (λ kinds. kinds.now) kinds.entry)) }
-{
-    let Some(kinds) = kinds else {
-        return Ok(());
-    };
-    match kinds.split_first() {
-        Some((kind, others)) => {
-            out.extend_from_slice(b", kinds ")?;
-            add_kind(alloc, out, kind)?;
-            add_other_kinds(alloc, out, others)
-        }
-        None => out.extend_from_slice(b", no kinds"),
-    }
-}
-
-// Adds kinds, each after a comma.
-fn add_other_kinds(alloc: Global, out: &mut Vec<u8>, kinds: &[ObjectKind]) -> Result<(), AllocError>
-    ensures { OnOk result
-        (out.new.items ≡ out.old.items ++ flat_map other_kind_text kinds.now) }
-{
-    for kind in kinds {
-        out.extend_from_slice(b", ")?;
-        add_kind(alloc, out, kind)?;
-    }
-    Ok(())
-}
-
-// Adds a kind.
-fn add_kind(alloc: Global, out: &mut Vec<u8>, kind: &ObjectKind) -> Result<(), AllocError>
-    ensures { OnOk result (out.new.items ≡ out.old.items ++ kind_text kind.now) }
-{
-    let (name, block, bytes) = (kind.name(), kind.block(), kind.bytes());
-    let text = format!(in alloc; "{name} ({block} bytes, {bytes} a unit)")?;
-    out.extend_from_slice(text.as_bytes())
 }

@@ -4,7 +4,7 @@ use Rattle.std.specs.Option.{option_copied}
 use Rattle.own_model.specs.Listed.{service_in}
 use Rattle.view_json.specs.Documents.{members_data}
 use Rattle.list_tree.specs.Documents.{budget_members, extra_members, kinds_members, service_members}
-use Rattle.list_tree.specs.Kinds.{kinds_data}
+use Rattle.list_parts.specs.Kinds.{kinds_data}
 use Rattle.list_tree.proofs.PartLemmas.{if_ok, in_parts}
 use Rattle.list_tree.proofs.documents.component_members.Goals as goal
 

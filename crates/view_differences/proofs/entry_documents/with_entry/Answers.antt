@@ -2,8 +2,9 @@
 use Rattle.std.proofs.Common.{◌≡◌, ◌∙◌, ◌++◌, ap}
 use Rattle.std.specs.Option.{option_copied}
 use Rattle.own_model.specs.Listed.{service_in}
+use Rattle.list_parts.specs.Kinds.{kinds_data}
 use Rattle.view_json.specs.Documents.{members_data}
-use Rattle.view_differences.specs.Documents.{budget_members, kinds_data, kinds_members, names_in, reserve_members, service_members}
+use Rattle.view_differences.specs.Documents.{budget_members, kinds_members, names_in, reserve_members, service_members}
 use Rattle.view_differences.proofs.PartLemmas.{if_ok, joined}
 use Rattle.view_differences.proofs.entry_documents.with_entry.Goals as goal
 

@@ -1,4 +1,4 @@
--- Binaries, and the kinds of objects that declared servers offer, as text and as objects of JSON.
+-- Words of binaries, and the kinds of objects that declared servers offer, as text and as objects of JSON.
 use Rattle.std.specs.Prelude.{ℕ, List, [], ◌∷◌, ◌++◌, codes, decimal, map, Option, Some, None}
 use Rattle.std.specs.List.{flat_map}
 use Rattle.std.specs.Option.{option_map}
@@ -7,7 +7,9 @@ use Rattle.own_model.specs.Listed.{Binary}
 use Rattle.own_model.specs.Listed.Binary.{Script, Server, Init}
 use Rattle.own_model.specs.ObjectKinds.{ObjectKind}
 use Rattle.own_model.specs.Offer.Offer.{OffersLog, OffersFiles, OffersObjects}
+use Rattle.list_parser.specs.View.{model_binary}
 use Rattle.view_json.specs.Documents.{Member, number_data, objects_data, text_data}
+use Rattle.list_parts.specs.declared.kinds.KindsText.{KindsText}
 
 -- the word of a binary, as a list has it
 abbrev pub binary_word : Binary → List ℕ
@@ -44,6 +46,10 @@ kinds_text (kind ∷ kinds) = codes "kinds " ++ (kind_text kind ++ flat_map othe
 abbrev pub kinds_after : List ℕ → Option (List ObjectKind) → List ℕ
 kinds_after before None = []
 kinds_after before (Some kinds) = before ++ kinds_text kinds
+
+-- the text of a `KindsText`
+abbrev pub shown_kinds : KindsText → List ℕ
+shown_kinds text = kinds_after text.before.now (kinds_in (model_binary text.binary.now))
 
 -- ---- objects
 

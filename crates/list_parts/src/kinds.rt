@@ -1,20 +1,20 @@
-//! Binaries, and the kinds of objects that declared servers offer, as text and as documents.
-ghost use Rattle.std.specs.Prelude.{◌≡◌, IfOk, map};
+//! Words of binaries, and the kinds of objects that declared servers offer, as text and as documents.
+ghost use Rattle.std.specs.Prelude.{◌≡◌, IfOk, Some, map};
 ghost use Rattle.std.specs.Fmt.{WritesOnOk};
 ghost use Rattle.std.specs.List.{flat_map};
 ghost use Rattle.std.specs.Option.{option_map};
 ghost use Rattle.list_parser.specs.View.{model_binary};
 ghost use Rattle.view_json.specs.Documents.{list_data, object_of, objects_data, objects_in};
-ghost use Rattle.list_tree.specs.Kinds.{binary_word, kind_object, kind_text, kinds_after, kinds_data, kinds_in, kinds_text, other_kind_text};
+ghost use Rattle.list_parts.specs.Kinds.{binary_word, kind_object, kind_text, kinds_after, kinds_data, kinds_in, kinds_text, other_kind_text, shown_kinds};
 
-use list_parser::{Binary, ListEntry};
+use list_parser::Binary;
 use object_kinds::ObjectKind;
 use std::alloc::{AllocError, Global};
 use std::fmt;
 use view_json::{JsonField, ObjectList, ObjectListBuilder};
 
 /// Returns the word for a binary, as a start list has it.
-pub(crate) fn binary_word(binary: &Binary) -> &'static str
+pub fn binary_word(binary: &Binary) -> &'static str
     ensures { result.now ≡ binary_word (model_binary binary.now) }
 {
     match binary {
@@ -35,16 +35,28 @@ fn declared_kinds(binary: &Binary) -> Option<&[ObjectKind]>
     }
 }
 
-/// Writes a text before the kinds of a declared server, and then the kinds. Writes nothing for other entries.
-pub(crate) fn show_kinds<W: fmt::Write>(
-    f: &mut fmt::Formatter<W>,
-    before: &str,
-    entry: &ListEntry,
-) -> fmt::Result
-    ensures { WritesOnOk W.write_str_gives f.old result
-        (kinds_after before.now (kinds_in entry.now.binary)) f.new }
-{
-    show_kinds_after(f, before, declared_kinds(entry.binary()))
+/// The kinds of a declared server as text, after another text. The text of other binaries is empty.
+#[derive(Drop)]
+pub struct KindsText<'a> {
+    before: &'a str,
+    binary: &'a Binary,
+}
+
+impl<'a> KindsText<'a> {
+    /// Returns the kinds of a binary, after a text.
+    pub fn of(before: &'a str, binary: &'a Binary) -> KindsText<'a>
+        ensures { shown_kinds result ≡ kinds_after before.now (kinds_in (model_binary binary.now)) }
+    {
+        KindsText { before, binary }
+    }
+}
+
+impl fmt::Display for KindsText<'_> {
+    ghost output = { λ text. Some (shown_kinds text) };
+
+    fn fmt<W: fmt::Write>(&self, f: &mut fmt::Formatter<W>) -> fmt::Result {
+        show_kinds_after(f, self.before, declared_kinds(self.binary))
+    }
 }
 
 // Writes kinds after a text, if there are any.
@@ -96,11 +108,11 @@ fn show_kind<W: fmt::Write>(f: &mut fmt::Formatter<W>, kind: &ObjectKind) -> fmt
     write!(f, "{name} ({block} bytes, {bytes} a unit)")
 }
 
-/// Returns an object for each kind of a declared server, and `None` for other entries. Fails if the host is out of memory.
-pub(crate) fn kinds_of(alloc: Global, entry: &ListEntry) -> Result<Option<ObjectList>, AllocError>
-    ensures { IfOk result (λ kinds. option_map list_data kinds ≡ kinds_data entry.now.binary) }
+/// Returns an object for each kind of a declared server, and `None` for other binaries. Fails if the host is out of memory.
+pub fn kinds_of(alloc: Global, binary: &Binary) -> Result<Option<ObjectList>, AllocError>
+    ensures { IfOk result (λ kinds. option_map list_data kinds ≡ kinds_data (model_binary binary.now)) }
 {
-    match declared_kinds(entry.binary()) {
+    match declared_kinds(binary) {
         Some(kinds) => Ok(Some(kind_objects(alloc, kinds)?)),
         None => Ok(None),
     }

@@ -2,8 +2,8 @@
 use Rattle.std.proofs.Common.{take}
 use Rattle.std.specs.Fmt.{HasWritten, IsPlainFormatter}
 use Rattle.std.specs.List.{flat_map}
-use Rattle.list_tree.specs.Kinds.{other_kind_text}
-use Rattle.list_tree.proofs.kinds.show_other_kinds.Given as goal
+use Rattle.list_parts.specs.Kinds.{other_kind_text}
+use Rattle.list_parts.proofs.kinds.show_other_kinds.Given as goal
 
 abbrev pub invariant-loop-kind : goal.invariant-loop-kind
 invariant-loop-kind g l =
