@@ -1,3 +1,4 @@
 mod MadeLemmas
-mod StatusLemmas
+pub mod StatusLemmas
+pub mod UnfoldingLemmas
 mod VerdictLemmas

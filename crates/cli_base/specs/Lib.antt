@@ -1,7 +1,9 @@
 pub mod Given
+pub mod ListFaults
 pub mod MachineChoice
 pub mod Origins
 pub mod Paths
 pub mod PolicyVerdict
 pub mod Statuses
 pub mod Texts
+pub mod Unfolding

@@ -1,6 +1,9 @@
 -- The start list that is chosen for a scenario.
-use Rattle.std.specs.Prelude.{◌≡◌, ℕ, List, ◌++◌, Option, Some, None, codes, string_bytes, true, ⊤}
+use Rattle.std.specs.Prelude.{◌≡◌, ℕ, List, ◌++◌, Option, Some, None, MatchOption, codes, string_bytes, true, ⊤}
+use Rattle.std.specs.Borrow.{Bor}
+use Rattle.std.specs.Option.{option_copied}
 use Rattle.cli_base.specs.Paths.{is_scenario, stem_of}
+use Rattle.cli_base.specs.declared.machine.Machine.{Machine}
 use Rattle.cli_base.specs.declared.machine_choice.MachineChoice.{MachineChoice}
 use Rattle.cli_base.specs.declared.machine_choice.MachineChoice.TheVariants.{Named, NextTo, BuiltIn}
 
@@ -15,3 +18,12 @@ abbrev pub list_path : MachineChoice → Option (List ℕ)
 list_path (Named list) = Some list.now
 list_path (NextTo list) = Some (string_bytes list)
 list_path BuiltIn = None
+
+-- the list that a command names, or without a name that of the scenario
+abbrev pub IsChosen : Option (Bor (List ℕ)) → List ℕ → MachineChoice → Type 0
+IsChosen named scenario choice = MatchOption named (IsUnnamed scenario choice) (λ list. choice ≡ Named list)
+
+-- a machine is that of the list that is chosen
+abbrev pub IsMachineFor : Option (Bor (List ℕ)) → List ℕ → Machine → Type 0
+IsMachineFor named scenario machine =
+    (choice : MachineChoice) × IsChosen named scenario choice × (option_copied machine.path ≡ list_path choice)

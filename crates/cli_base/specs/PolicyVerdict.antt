@@ -1,8 +1,8 @@
--- The result of a check of a start list against a policy, by places, and its exit status.
-use Rattle.std.specs.Prelude.{ℕ, List, ◌<◌, ◌⊎◌, length, map, Option, Some, None, Result, Ok, Err}
+-- The result of a check of a start list against a policy: its messages, and its exit status.
+use Rattle.std.specs.Prelude.{ℕ, List, ◌<◌, ◌⊎◌, length, map, Option, Some, None, Result, Ok, Err, string_bytes}
 use Rattle.std.specs.Str.{IsUtf8}
 use Rattle.list_policy.specs.Status.{exit_status}
-use Rattle.list_policy.specs.Verdict.{PlaceAt}
+use Rattle.list_policy.specs.Verdict.{MessageAt}
 use Rattle.cli_base.specs.declared.policy_verdict.PolicyDiagnostic.{PolicyDiagnostic}
 use Rattle.cli_base.specs.declared.policy_verdict.PolicyVerdict.{PolicyVerdict}
 use Rattle.cli_base.specs.declared.policy_verdict.PolicyVerdict.TheVariants.{Held, Faulty, ReadFailure}
@@ -13,15 +13,15 @@ verdict_status (Held broken) = exit_status 0 (length broken.items)
 verdict_status (Faulty faults) = exit_status (length faults.items) 0
 verdict_status (ReadFailure why) = 2
 
--- the place of a diagnostic
-abbrev pub note_place : PolicyDiagnostic → PlaceAt
-note_place note = record { line = note.line; column = note.column }
+-- the message of a diagnostic
+abbrev pub note_message : PolicyDiagnostic → MessageAt
+note_message note = record { line = note.line; column = note.column; text = string_bytes note.text }
 
--- the places of the breaches, or of the faults; none if the policy isn't read
-abbrev pub verdict_places : PolicyVerdict → Option (Result (List PlaceAt) (List PlaceAt))
-verdict_places (Held broken) = Some (Ok (map note_place broken.items))
-verdict_places (Faulty faults) = Some (Err (map note_place faults.items))
-verdict_places (ReadFailure why) = None
+-- the messages of the breaches, or of the faults; none if the policy isn't read
+abbrev pub verdict_notes : PolicyVerdict → Option (Result (List MessageAt) (List MessageAt))
+verdict_notes (Held broken) = Some (Ok (map note_message broken.items))
+verdict_notes (Faulty faults) = Some (Err (map note_message faults.items))
+verdict_notes (ReadFailure why) = None
 
 -- bytes are no text of a policy
 abbrev pub IsNoPolicy : List ℕ → Type 0

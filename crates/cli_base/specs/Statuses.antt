@@ -1,5 +1,5 @@
 -- Exit statuses.
-use Rattle.std.specs.Prelude.{◌≡◌, ◌≢◌, ℕ, Result, Ok, Err}
+use Rattle.std.specs.Prelude.{◌≡◌, ◌≢◌, ◌⊎◌, ℕ, ◌==◌, ◌&&◌, Bool, nat_lt, if◌then◌else◌, Result, Ok, Err}
 use Rattle.std.specs.IoError.{error_kind}
 use Rattle.std.specs.declared.io.Error.{Error}
 use Rattle.std.specs.declared.io.ErrorKind.TheVariants.{BrokenPipe}
@@ -9,3 +9,20 @@ abbrev pub HasWritten : {T : Type 0} → Result T Error → ℕ → Type 0
 HasWritten (Ok done) status = status ≡ 0
 HasWritten (Err error) status =
     (error_kind error ≡ BrokenPipe → status ≡ 141) × (error_kind error ≢ BrokenPipe → status ≡ 1)
+
+-- a command has no result: the host is out of memory, or a file can't be read or written (1); what is asked for or read is refused (2);
+-- or nobody reads what is printed (141)
+abbrev pub HasFailed : ℕ → Type 0
+HasFailed status = (status ≡ 1) ⊎ ((status ≡ 2) ⊎ (status ≡ 141))
+
+-- a status is one of the result, unless there is none
+abbrev pub EndsAs : (ℕ → Type 0) → ℕ → Type 0
+EndsAs Results status = HasFailed status ⊎ Results status
+
+-- a result that is printed has no fault
+abbrev pub IsZero : ℕ → Type 0
+IsZero status = status ≡ 0
+
+-- with `--strict` a warning counts, if nothing else is reported
+abbrev pub warned : Bool → ℕ → ℕ → ℕ
+warned strict warnings status = if strict && (nat_lt 0 warnings && status == 0) then 3 else status

@@ -1,5 +1,6 @@
 //! Warnings about a scenario's lines, before it is run.
-ghost use Rattle.std.specs.Prelude.{◌≡◌, ◌==◌, ◌&&◌, if◌then◌else◌, nat_lt};
+ghost use Rattle.std.specs.Prelude.{◌≡◌};
+ghost use Rattle.cli_base.specs.Statuses.{warned};
 
 use crate::reports::{Spot, write};
 use crate::streams::{OutputStream, Writer, plain_writer, text_of, writer};
@@ -105,7 +106,7 @@ impl<'a> Warnings<'a> {
 /// Returns the exit status of a command that printed this number of warnings and would end with a status: 3 if warnings count, there
 /// are any, and nothing else is reported.
 pub fn warned_status(strict: bool, warnings: usize, status: u8) -> u8
-    ensures { result ≡ (if strict && (nat_lt 0 warnings && status == 0) then 3 else status) }
+    ensures { result ≡ warned strict warnings status }
 {
     if strict && warnings > 0 && status == 0 {
         WARNED

@@ -1,4 +1,6 @@
 //! Files by their paths, and standard input by `-`.
+ghost use Rattle.std.specs.Prelude.{◌≡◌, ◌⊎◌, IfErr};
+
 use crate::lines::LineStarts;
 use crate::list_fault::{ListFaultMessage, fault_spot};
 use crate::reports::{Spot, SystemReason, report_error};
@@ -126,16 +128,25 @@ fn read_up_to<S: Source>(
 
 /// Reads the text of a scenario to its end. If that fails, prints why, and returns the exit status: 2 if the file can't be
 /// opened, else 1.
-pub fn scenario_text(rt: &HostRuntime, form: DiagnosticForm, path: &str) -> Result<Vec<u8>, u8> {
+pub fn scenario_text(rt: &HostRuntime, form: DiagnosticForm, path: &str) -> Result<Vec<u8>, u8>
+    ensures { IfErr result (λ status. (status ≡ 1) ⊎ (status ≡ 2)) }
+{
     match read_scenario(rt, path) {
         Ok(text) => Ok(text),
         Err(why) => {
             report_error(rt, form, Spot::nowhere(), &why.about(path));
-            Err(match why {
-                ReadFailure::Closed(_) => REFUSED,
-                ReadFailure::Broken | ReadFailure::TooLong | ReadFailure::NoMemory => UNWRITTEN,
-            })
+            Err(failure_status(why))
         }
+    }
+}
+
+// Returns the exit status of a scenario that isn't read: 2 if its file can't be opened, else 1.
+fn failure_status(why: ReadFailure) -> u8
+    ensures { (result ≡ 1) ⊎ (result ≡ 2) }
+{
+    match why {
+        ReadFailure::Closed(_) => REFUSED,
+        ReadFailure::Broken | ReadFailure::TooLong | ReadFailure::NoMemory => UNWRITTEN,
     }
 }
 

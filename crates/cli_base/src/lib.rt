@@ -43,7 +43,7 @@ pub use scenario_reader::{Printing, Reader, silent_reader, watched_reader};
 pub use settings::{Settings, names_given};
 pub use status::{
     OUT_OF_MEMORY, REFUSED, StopMessage, UNREAD, UNWRITTEN, made_or_status, no_memory,
-    print_documents, spot_of, status_of, unread_status,
+    print_documents, spot_of, status_after, status_of, unread_status,
 };
 pub use streams::{Origin, OutputStream, Writer, plain_writer, text_of, writer};
 pub use unfolding::{rounds_spot, rounds_token, unfolded};

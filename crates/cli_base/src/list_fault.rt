@@ -1,7 +1,10 @@
 //! The fault of a start list at its place.
+ghost use Rattle.cli_base.specs.ListFaults.{list_fault_message};
+
 use crate::reports::{Spot, report_error};
+use init_core::BootFault;
 use list_review::{FaultPlace, ListFault};
-use std::fmt;
+use std::fmt::{self, Display};
 use view_diagnostics::DiagnosticForm;
 
 /// Prints the fault of a start list as an error at its place.
@@ -21,7 +24,9 @@ pub fn fault_spot<'a>(path: &'a str, fault: &ListFault) -> Spot<'a> {
 #[derive(Clone, Copy)]
 pub struct ListFaultMessage<'a>(pub &'a ListFault);
 
-impl fmt::Display for ListFaultMessage<'_> {
+impl Display for ListFaultMessage<'_> {
+    ghost output = { list_fault_message ⟦<BootFault as Display>⟧.output };
+
     fn fmt<W: fmt::Write>(&self, f: &mut fmt::Formatter<W>) -> fmt::Result {
         let placed = self.0;
         match &placed.place {

@@ -43,7 +43,8 @@ impl MachineText {
 }
 
 impl<'a> Machine<'a> {
-    ghost use Rattle.std.specs.Prelude.{◌≡◌, Ok};
+    ghost use Rattle.std.specs.Prelude.{◌≡◌, IfErr, IfOk, Ok};
+    ghost use Rattle.std.specs.Option.{option_copied};
     ghost use Rattle.list_parser.specs.StartText.{list_in};
     ghost use Rattle.cli_base.specs.Texts.{bytes_of};
 
@@ -53,7 +54,9 @@ impl<'a> Machine<'a> {
         rt: &HostRuntime,
         path: Option<&'a str>,
         settings: Settings<'_>,
-    ) -> Result<Machine<'a>, StartListFailure<'a>> {
+    ) -> Result<Machine<'a>, StartListFailure<'a>>
+        ensures { IfOk result (λ machine. option_copied machine.path ≡ option_copied path.entry) }
+    {
         let Some(file) = path else {
             return Machine::of_text(rt, None, MachineText::BuiltIn(MACHINE_A));
         };
@@ -68,7 +71,9 @@ impl<'a> Machine<'a> {
         rt: &HostRuntime,
         path: Option<&'a str>,
         text: MachineText,
-    ) -> Result<Machine<'a>, StartListFailure<'a>> {
+    ) -> Result<Machine<'a>, StartListFailure<'a>>
+        ensures { IfOk result (λ machine. option_copied machine.path ≡ option_copied path.entry) }
+    {
         match StartList::read(rt.alloc(), text.bytes()) {
             Ok(list) => Ok(Machine { path, text, list }),
             Err(fault) => Err(StartListFailure::of_fault(rt, path, text.bytes(), fault)),
@@ -80,7 +85,10 @@ impl<'a> Machine<'a> {
         rt: &HostRuntime,
         path: Option<&'a str>,
         settings: Settings<'_>,
-    ) -> Result<Machine<'a>, u8> {
+    ) -> Result<Machine<'a>, u8>
+        ensures named { IfOk result (λ machine. option_copied machine.path ≡ option_copied path.entry) }
+        ensures failed { IfErr result (λ status. status ≡ 2) }
+    {
         match Machine::find(rt, path, settings) {
             Ok(machine) => Ok(machine),
             Err(fault) => {
@@ -116,7 +124,9 @@ pub fn report_boot_fault(
     form: DiagnosticForm,
     machine: &Machine<'_>,
     fault: &BootFault,
-) -> u8 {
+) -> u8
+    ensures { result ≡ 2 }
+{
     if let Some(path) = machine.path() {
         if let Err(placed) = Review::read(rt.alloc(), machine.text()) {
             tell_fault(rt, form, path, &placed);

@@ -1,8 +1,7 @@
 //! The start list of a scenario's machine.
-ghost use Rattle.std.specs.Prelude.{◌≡◌, IfOk, MatchOption};
+ghost use Rattle.std.specs.Prelude.{◌≡◌, IfErr, IfOk};
 ghost use Rattle.std.specs.Option.{option_map};
-ghost use Rattle.cli_base.specs.MachineChoice.{IsUnnamed, list_path};
-ghost use Rattle.cli_base.specs.declared.machine_choice.MachineChoice.TheVariants.{Named};
+ghost use Rattle.cli_base.specs.MachineChoice.{IsChosen, IsUnnamed, list_path};
 
 use crate::paths::{is_scenario, machine_path};
 use crate::reports::{Spot, report};
@@ -31,8 +30,8 @@ impl<'a> MachineChoice<'a> {
         named: Option<&'a str>,
         scenario: &str,
     ) -> Result<MachineChoice<'a>, u8>
-        ensures { IfOk result (λ choice. MatchOption named.entry (IsUnnamed scenario.now choice)
-            (λ list. choice ≡ Named list)) }
+        ensures chosen { IfOk result (IsChosen named.entry scenario.now) }
+        ensures failed { IfErr result (λ status. status ≡ 1) }
     {
         match named {
             Some(list) => Ok(MachineChoice::Named(list)),
@@ -46,7 +45,8 @@ impl<'a> MachineChoice<'a> {
         form: DiagnosticForm,
         scenario: &str,
     ) -> Result<MachineChoice<'a>, u8>
-        ensures { IfOk result (IsUnnamed scenario.now) }
+        ensures chosen { IfOk result (IsUnnamed scenario.now) }
+        ensures failed { IfErr result (λ status. status ≡ 1) }
     {
         if !is_scenario(scenario) {
             return Ok(MachineChoice::BuiltIn);

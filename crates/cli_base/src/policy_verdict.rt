@@ -3,9 +3,9 @@ ghost use Rattle.std.specs.Prelude.{◌≡◌, ◌++◌, ℕ, List, map, MatchOp
 ghost use Rattle.list_policy.specs.Components.{fault_at};
 ghost use Rattle.list_policy.specs.Demand.{AreBreaches};
 ghost use Rattle.list_policy.specs.Line.{line_at};
-ghost use Rattle.list_policy.specs.Verdict.{AreBrokenAt, IsVerdict, breach_place, fault_place};
+ghost use Rattle.list_policy.specs.Verdict.{AreBrokenAt, IsVerdict, breach_message, fault_message};
 ghost use Rattle.list_policy.specs.declared.breach.Breach.{Breach};
-ghost use Rattle.cli_base.specs.PolicyVerdict.{IsNoPolicy, note_place, verdict_places, verdict_status};
+ghost use Rattle.cli_base.specs.PolicyVerdict.{IsNoPolicy, note_message, verdict_notes, verdict_status};
 
 use crate::files::{FileReadMessage, read_list};
 use crate::reports::Spot;
@@ -113,8 +113,8 @@ pub fn check_policy(
     list: &StartList,
     path: &str,
 ) -> Result<PolicyVerdict, AllocError>
-    ensures { IfOk result (λ verdict. IfSome (verdict_places verdict)
-        (λ places. (text : List ℕ) × IsVerdict list.now text places)) }
+    ensures { IfOk result (λ verdict. IfSome (verdict_notes verdict)
+        (λ notes. (text : List ℕ) × IsVerdict list.now text notes)) }
 {
     let alloc = rt.alloc();
     match policy_text(rt, path) {
@@ -126,7 +126,7 @@ pub fn check_policy(
 // Checks a start list against the text of a policy.
 #[tactic(auto, using(list_policy::proofs::VerdictLemmas::held_is, list_policy::proofs::VerdictLemmas::faulty_is))]
 fn verdict_of(alloc: Global, list: &StartList, text: &[u8]) -> Result<PolicyVerdict, AllocError>
-    ensures { IfOk result (λ verdict. MatchOption (verdict_places verdict) ⊥
+    ensures { IfOk result (λ verdict. MatchOption (verdict_notes verdict) ⊥
         (IsVerdict list.now text.now)) }
 {
     let policy = Policy::read(alloc, list, text)?;
@@ -145,7 +145,7 @@ fn fault_notes(
     faults: &[PolicyFault<'_>],
 ) -> Result<Vec<PolicyDiagnostic>, AllocError>
     ensures { IfOk result (λ notes.
-        map note_place notes.items ≡ map fault_place (map fault_at faults.now)) }
+        map note_message notes.items ≡ map fault_message (map fault_at faults.now)) }
 {
     let mut notes = Vec::new(alloc);
     for place in 0..faults.len() {
@@ -156,7 +156,8 @@ fn fault_notes(
 
 // Returns the diagnostic of a fault.
 fn fault_note(alloc: Global, fault: &PolicyFault<'_>) -> Result<PolicyDiagnostic, AllocError>
-    ensures { IfOk result (λ note. note_place note ≡ fault_place (fault_at fault.now)) }
+    ensures { IfOk result (λ note.
+        note_message note ≡ fault_message (fault_at fault.now)) }
 {
     let flaw = &fault.flaw;
     let text = format!(in alloc; "{flaw}")?;
@@ -174,7 +175,7 @@ fn broken_lines(
     lines: &[PolicyLine],
 ) -> Result<Vec<PolicyDiagnostic>, AllocError>
     ensures { IfOk result (λ broken.
-        AreBrokenAt list.now (map line_at lines.now) (map note_place broken.items)) }
+        AreBrokenAt list.now (map line_at lines.now) (map note_message broken.items)) }
 {
     let mut broken = Vec::new(alloc);
     for place in 0..lines.len() {
@@ -191,8 +192,8 @@ fn add_broken(
     line: &PolicyLine,
 ) -> Result<(), AllocError>
     ensures { OnOk result ((found : List Breach) × AreBreaches list.now (line_at line.now) found
-        × (map note_place broken.new.items
-        ≡ map note_place broken.old.items ++ map (breach_place (line_at line.now)) found)) }
+        × (map note_message broken.new.items
+        ≡ map note_message broken.old.items ++ map (breach_message list.now (line_at line.now)) found)) }
 {
     let breaches = line.breaches(alloc, list)?;
     add_notes(alloc, broken, list, line, breaches.as_slice())
@@ -206,8 +207,8 @@ fn add_notes(
     line: &PolicyLine,
     breaches: &[Breach],
 ) -> Result<(), AllocError>
-    ensures { OnOk result (map note_place broken.new.items
-        ≡ map note_place broken.old.items ++ map (breach_place (line_at line.now)) breaches.now) }
+    ensures { OnOk result (map note_message broken.new.items
+        ≡ map note_message broken.old.items ++ map (breach_message list.now (line_at line.now)) breaches.now) }
 {
     for place in 0..breaches.len() {
         broken.push(broken_by(alloc, list, line, &breaches[place])?)?;
@@ -222,7 +223,8 @@ fn broken_by(
     line: &PolicyLine,
     breach: &Breach,
 ) -> Result<PolicyDiagnostic, AllocError>
-    ensures { IfOk result (λ note. note_place note ≡ breach_place (line_at line.now) breach.now) }
+    ensures { IfOk result (λ note.
+        note_message note ≡ breach_message list.now (line_at line.now) breach.now) }
 {
     let message = BreachText::of(alloc, list, line, breach)?;
     let text = format!(in alloc; "{message}")?;

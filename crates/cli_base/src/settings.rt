@@ -1,9 +1,10 @@
 //! What a command line sets for each command: the values of names, and the form of diagnostics.
-ghost use Rattle.std.specs.Prelude.{◌≡◌, IfErr, IfOk, OnOk};
-ghost use Rattle.std.specs.Option.{option_copied, unwrap_or};
+ghost use Rattle.std.specs.Prelude.{◌≡◌, ◌⊎◌, IfErr, IfOk, OnOk, Some};
+ghost use Rattle.std.specs.Option.{option_copied};
 ghost use Rattle.line_names.specs.NameTable.{nothing};
 ghost use Rattle.line_steps.specs.RunPosition.{first_position};
 ghost use Rattle.cli_base.specs.Given.{given_by, given_by_all, name_in, value_in};
+ghost use Rattle.cli_base.specs.Unfolding.{names_of};
 
 use crate::reports::{Spot, report_error};
 use crate::status::{REFUSED, made_or_status};
@@ -24,7 +25,9 @@ pub struct Settings<'a> {
 
 impl<'a> Settings<'a> {
     /// Returns those by which names denote this.
-    pub fn new(known: &'a NameTable, form: DiagnosticForm) -> Settings<'a> {
+    pub fn new(known: &'a NameTable, form: DiagnosticForm) -> Settings<'a>
+        ensures { names_of result ≡ known.now }
+    {
         Settings {
             known: Some(known),
             form,
@@ -46,7 +49,7 @@ impl<'a> Settings<'a> {
 
     /// Returns a copy of what the names denote.
     pub fn known(self, alloc: Global) -> Result<NameTable, AllocError>
-        ensures { IfOk result (λ known. known ≡ unwrap_or (option_copied self.entry.known) nothing) }
+        ensures { IfOk result (λ known. known ≡ names_of self.entry) }
     {
         match self.known {
             Some(known) => known.copy(alloc),
@@ -56,7 +59,8 @@ impl<'a> Settings<'a> {
 
     /// Binds each name to its value. If the host is out of memory, prints that and returns the exit status 1.
     pub fn known_or_status(self, rt: &HostRuntime) -> Result<NameTable, u8>
-        ensures { IfErr result (λ status. status ≡ 1) }
+        ensures known { IfOk result (λ known. known ≡ names_of self.entry) }
+        ensures failed { IfErr result (λ status. status ≡ 1) }
     {
         made_or_status(rt, self.known(rt.alloc()))
     }
@@ -67,8 +71,7 @@ impl<'a> Settings<'a> {
         alloc: Global,
         marks: &'m [RoundMark],
     ) -> Result<RunPosition<'m>, AllocError>
-        ensures { IfOk result (λ start. start
-            ≡ first_position (unwrap_or (option_copied self.entry.known) nothing) marks.now) }
+        ensures { IfOk result (λ start. start ≡ first_position (names_of self.entry) marks.now) }
     {
         RunPosition::new(self.known(alloc)?, marks)
     }
@@ -79,8 +82,7 @@ impl<'a> Settings<'a> {
         rt: &HostRuntime,
         marks: &'m [RoundMark],
     ) -> Result<RunPosition<'m>, u8>
-        ensures start { IfOk result (λ start. start
-            ≡ first_position (unwrap_or (option_copied self.entry.known) nothing) marks.now) }
+        ensures start { IfOk result (λ start. start ≡ first_position (names_of self.entry) marks.now) }
         ensures failed { IfErr result (λ status. status ≡ 1) }
     {
         made_or_status(rt, self.start(rt.alloc(), marks))
@@ -94,7 +96,8 @@ pub fn names_given(
     arguments: &[&str],
     form: DiagnosticForm,
 ) -> Result<NameTable, u8>
-    ensures { IfOk result (λ known. known ≡ given_by_all nothing arguments.now) }
+    ensures known { IfOk result (λ known. known ≡ given_by_all nothing arguments.now) }
+    ensures failed { IfErr result (λ status. (status ≡ 1) ⊎ (status ≡ 2)) }
 {
     for argument in arguments {
         if !is_taken(rt, form, argument) {

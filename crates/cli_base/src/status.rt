@@ -1,7 +1,7 @@
 //! Exit statuses, and messages for results that can't be written and scenarios that can't be read.
-ghost use Rattle.std.specs.Prelude.{◌≡◌, if◌then◌else◌, nat_lt, is_err, true, IfErr, IfOk, OnErr, Ok};
+ghost use Rattle.std.specs.Prelude.{◌≡◌, ◌==◌, if◌then◌else◌, nat_lt, is_err, true, IfErr, IfOk, OnErr, Ok};
 ghost use Rattle.std.specs.Io.KnownBytes.{Appends};
-ghost use Rattle.cli_base.specs.Statuses.{HasWritten};
+ghost use Rattle.cli_base.specs.Statuses.{EndsAs, HasWritten, IsZero};
 
 use crate::reports::{Spot, report_error, report_write_failure};
 use run_lines::LineRunFault;
@@ -27,7 +27,8 @@ pub const UNREAD: u8 = 141;
 
 /// Returns the exit status after a write: 0, 141 for a closed pipe, or 1 for another failure, which is printed.
 pub fn status_of(rt: &HostRuntime, printed: io::Result<()>) -> u8
-    ensures { HasWritten printed result }
+    ensures written { HasWritten printed result }
+    ensures ends { EndsAs IsZero result }
 {
     match printed {
         Ok(()) => 0,
@@ -92,9 +93,17 @@ pub fn unread_status(lines: usize) -> u8
     if lines > 0 { UNREAD_LINES } else { 0 }
 }
 
+/// Returns the exit status of a result after its write: that of the write if it failed, else that of the result.
+pub fn status_after(printed: u8, status: u8) -> u8
+    ensures { result ≡ (if printed == 0 then status else printed) }
+{
+    if printed == 0 { status } else { printed }
+}
+
 /// Prints documents on standard output. Returns the exit status, also if the host is out of memory.
 pub fn print_documents(rt: &HostRuntime, documents: Result<Vec<u8>, AllocError>) -> u8
-    ensures { OnErr documents (result ≡ 1) }
+    ensures failed { OnErr documents (result ≡ 1) }
+    ensures ends { EndsAs IsZero result }
 {
     print_on(rt, &mut io::writer(rt), documents)
 }
@@ -108,6 +117,7 @@ fn print_on<W: Write>(
     ensures printed { result ≡ 0 → IfOk documents (λ text.
         Appends (W.contents writer.old) (W.contents writer.new) text.items) }
     ensures failed { OnErr documents (result ≡ 1) }
+    ensures ends { EndsAs IsZero result }
 {
     match documents {
         Ok(text) => status_of(rt, writer.write_all(text.as_slice())),

@@ -1,5 +1,7 @@
 //! Scenarios with their rounds unfolded.
-ghost use Rattle.std.specs.Prelude.{◌≡◌, ◌⊎◌, IfErr};
+ghost use Rattle.std.specs.Prelude.{◌≡◌, ◌⊎◌, IfErr, IfOk, Ok};
+ghost use Rattle.line_rounds.specs.Views.{whole_view};
+ghost use Rattle.cli_base.specs.Unfolding.{HasRoundsFault, rounds_of};
 
 use crate::lines::LineStarts;
 use crate::reports::{Spot, report_error, summarize_errors};
@@ -15,13 +17,16 @@ const UNUNFOLDED: u8 = 3;
 
 /// Unfolds the rounds of a scenario's text. Prints a fault of the rounds and returns the exit status 3. If the host is out of
 /// memory, prints that and returns the exit status 1.
+#[tactic(auto, unfolding(crate::specs::Unfolding::rounds_of))]
 pub fn unfolded<'a>(
     rt: &HostRuntime,
     scenario: &str,
     text: &'a [u8],
     settings: Settings<'_>,
 ) -> Result<UnfoldedText<'a>, u8>
-    ensures { IfErr result (λ status. (status ≡ 1) ⊎ (status ≡ 3)) }
+    ensures lines { IfOk result (λ lines. rounds_of settings.entry text.now ≡ Ok (whole_view lines)) }
+    ensures failed { IfErr result (λ status. (status ≡ 1) ⊎ (status ≡ 3)) }
+    ensures fault { IfErr result (λ status. status ≡ 3 → HasRoundsFault settings.entry text.now) }
 {
     let known = settings.known_or_status(rt)?;
     match unfold(rt.alloc(), text, known) {

@@ -1,11 +1,16 @@
 //! The command `least`: the sufficient budgets of a scenario's accounts.
-ghost use Rattle.std.specs.Prelude.{◌≡◌, if◌then◌else◌, length, nat_lt};
+ghost use Rattle.std.specs.Prelude.{◌≡◌, if◌then◌else◌, length};
+ghost use Rattle.budget_least.specs.Report.{unmeasured_of};
 ghost use Rattle.budget_search.specs.declared.budget_intervals.BudgetChoice.TheVariants.{Minimum, Safe};
+ghost use Rattle.cli_base.specs.Statuses.{EndsAs, IsZero};
+ghost use Rattle.cli_base.specs.Unfolding.{EndsUnfolded};
+ghost use Rattle.cli_budgets.specs.BudgetStatus.{BudgetsEnd, EndsMeasured, measured_status};
 
 use budget_least::{BudgetChoice, BudgetQuery, BudgetReport, UnmeasuredLine};
 use cli_base::{
     Machine, MachineChoice, Settings, Spot, UNWRITTEN, print_documents, report_boot_fault,
-    report_error, scenario_text, status_of, summarize_errors, unfolded, unread_status,
+    report_error, scenario_text, status_after, status_of, summarize_errors, unfolded,
+    unread_status,
 };
 use cli_options::LeastOptions;
 use init_core::BootFault;
@@ -63,7 +68,9 @@ pub fn print_minimum_budgets(
     rt: &HostRuntime,
     asked: &LeastOptions<'_>,
     settings: Settings<'_>,
-) -> u8 {
+) -> u8
+    ensures { BudgetsEnd asked.now settings.entry result }
+{
     let list = match MachineChoice::of(rt, settings.form, asked.machine, asked.scenario) {
         Ok(list) => list,
         Err(status) => return status,
@@ -85,7 +92,9 @@ fn least_on(
     text: &[u8],
     asked: &LeastOptions<'_>,
     settings: Settings<'_>,
-) -> u8 {
+) -> u8
+    ensures { EndsAs (EndsUnfolded settings.entry text.now (EndsMeasured machine.now text.now)) result }
+{
     let lines = match unfolded(rt, asked.scenario, text, settings) {
         Ok(lines) => lines,
         Err(status) => return status,
@@ -114,10 +123,12 @@ fn tell_report(
     asked: &LeastOptions<'_>,
     form: DiagnosticForm,
     report: BudgetReport<'_>,
-) -> u8 {
+) -> u8
+    ensures { EndsAs (λ status. status ≡ measured_status (length (unmeasured_of report.entry))) result }
+{
     let status = tell_unmeasured(rt, form, asked.scenario, report.unmeasured());
     let told = tell(rt, machine, text, BudgetFormat::asked(asked), report);
-    if told == 0 { status } else { told }
+    status_after(told, status)
 }
 
 // Prints why lines of a scenario aren't measured, and returns the exit status: 3 if there are any, else 0.
@@ -127,7 +138,7 @@ fn tell_unmeasured(
     scenario: &str,
     lines: &[UnmeasuredLine],
 ) -> u8
-    ensures { result ≡ (if nat_lt 0 (length lines.now) then 3 else 0) }
+    ensures { result ≡ measured_status (length lines.now) }
 {
     for line in lines {
         let spot = Spot::byte(scenario, line.number, line.column());
@@ -144,7 +155,9 @@ fn tell(
     scenario: &[u8],
     telling: BudgetFormat,
     report: BudgetReport<'_>,
-) -> u8 {
+) -> u8
+    ensures { EndsAs IsZero result }
+{
     match telling {
         BudgetFormat::Text => {
             let text = BudgetText::of(&report);
@@ -167,7 +180,9 @@ fn tell(
 }
 
 // Prints a fault of what has this name, and returns the exit status.
-fn tell_fault(rt: &HostRuntime, name: &str, fault: &BootFault) -> u8 {
+fn tell_fault(rt: &HostRuntime, name: &str, fault: &BootFault) -> u8
+    ensures { result ≡ 1 }
+{
     report_error(
         rt,
         DiagnosticForm::Text,

@@ -1,12 +1,12 @@
 -- The comparison of two start lists, and its exit status.
 use Rattle.std.proofs.Common.{Global, ◌≡◌, ◌≢◌, ℕ, Bool, true, false, not, List, [], ◌∷◌, map, length, nat_eq, refl, sym, subst, ap, ◌∙◌, arith, inl, inr}
-use Rattle.std.specs.Prelude.{◌⊎◌, IfOk, IfErr, Option, Some, None, Result, Ok, Err, is_err, All, Vec}
+use Rattle.std.specs.Prelude.{IfOk, IfErr, Option, Some, None, Result, Ok, Err, is_err, All, Vec}
 use Rattle.std.specs.IoError.{error_kind}
 use Rattle.std.specs.declared.io.Error.{Error}
 use Rattle.std.specs.declared.io.ErrorKind.TheVariants.{BrokenPipe}
 use Rattle.std.proofs.lemmas.Bool.Decides.{nat_tests}
 use Rattle.cli_base.specs.Statuses.{HasWritten}
-use Rattle.cli_lists.specs.Comparison.{AreAll, AreBreachesBy, AreBreachesOf, AreNewBreaches, AreReplyChanges, AreRowsOf, AreRunChanges, AreShortfalls, AreSoFar, Differ, EndsBy, EndsWith, HasStopped, IsSideOf, IsTextOf, ListsDiffer, NeedsDiffer, RunsDiffer, diff_status}
+use Rattle.cli_lists.specs.Comparison.{AreAll, AreBreachesBy, AreBreachesOf, AreNewBreaches, AreReplyChanges, AreRunChanges, AreShortfalls, AreSoFar, Differ, EndsBy, EndsWith, HasStopped, IsSideOf, IsTextOf, ListsDiffer, NeedsDiffer, RunsDiffer}
 use Rattle.cli_lists.specs.declared.diff_policy.PolicyBreaches.{PolicyBreaches}
 use Rattle.cli_lists.specs.declared.diff_text.DiffText.{DiffText}
 use Rattle.list_diff.specs.Breaches.{breach_changes, change_at}

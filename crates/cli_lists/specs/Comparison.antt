@@ -1,5 +1,5 @@
 -- The comparison of two start lists, and the exit status by it.
-use Rattle.std.specs.Prelude.{◌≡◌, ◌⊎◌, ℕ, not, Bool, true, false, List, [], map, if◌then◌else◌, Option, Some, None, Result, Ok, Err, All}
+use Rattle.std.specs.Prelude.{◌≡◌, ◌⊎◌, ℕ, not, Bool, List, [], map, if◌then◌else◌, Option, Some, None, Result, Ok, Err, All}
 use Rattle.std.specs.declared.io.Error.{Error}
 use Rattle.cli_base.specs.Statuses.{HasWritten}
 use Rattle.cli_lists.specs.declared.diff_text.DiffText.{DiffText}

@@ -1,5 +1,9 @@
 //! The command `check`: findings of a start list, and its breaches of a policy.
-ghost use Rattle.std.specs.Prelude.{◌≡◌, ◌&&◌, nat_lt};
+ghost use Rattle.std.specs.Prelude.{◌≡◌, ◌&&◌, false, nat_lt, IfOk, Some};
+ghost use Rattle.cli_base.specs.PolicyVerdict.{verdict_status};
+ghost use Rattle.cli_base.specs.Statuses.{EndsAs, IsZero};
+ghost use Rattle.cli_lists.specs.Findings.{finding_message};
+ghost use Rattle.cli_lists.specs.ListStatus.{CheckEnds, EndsReviewed, EndsVerdict, IsReview, is_refused};
 
 use crate::check_documents::check_documents;
 use crate::review::review;
@@ -14,7 +18,9 @@ use view_diagnostics::{Counts, DiagnosticForm, Severity};
 
 /// Checks a start list, also against a policy if one is named, and prints what is found. Returns the exit status: 0, 2 if the
 /// list or the policy is refused, 3 if the list breaks the policy.
-pub fn check_list(rt: &HostRuntime, asked: &CheckOptions<'_>, settings: Settings<'_>) -> u8 {
+pub fn check_list(rt: &HostRuntime, asked: &CheckOptions<'_>, settings: Settings<'_>) -> u8
+    ensures { CheckEnds asked.now result }
+{
     if asked.json {
         return check_documents(rt, asked, settings);
     }
@@ -26,7 +32,9 @@ pub fn check_list(rt: &HostRuntime, asked: &CheckOptions<'_>, settings: Settings
 
 // Prints the findings of a start list on standard error, and `ok` if nothing counts. Findings count in a strict check, and advice
 // never does. Returns the exit status.
-fn check(rt: &HostRuntime, path: &str, settings: Settings<'_>, strict: bool) -> u8 {
+fn check(rt: &HostRuntime, path: &str, settings: Settings<'_>, strict: bool) -> u8
+    ensures { EndsAs (EndsReviewed strict (λ _. IsZero)) result }
+{
     match checked(rt, path, settings, strict) {
         Ok(review) => {
             summarize(rt, settings.form, counts_of(&review, 0));
@@ -54,7 +62,10 @@ fn checked(
     path: &str,
     settings: Settings<'_>,
     strict: bool,
-) -> Result<Review, Counts> {
+) -> Result<Review, Counts>
+    ensures reviewed { IfOk result IsReview }
+    ensures kept { IfOk result (λ review. is_refused strict review ≡ false) }
+{
     let Some(review) = review(rt, path, settings) else {
         return Err(Counts {
             errors: 1,
@@ -89,7 +100,9 @@ fn tell_review(rt: &HostRuntime, form: DiagnosticForm, path: &str, review: &Revi
 
 // Prints the findings of a start list, as `check` does, and then each line of a policy that the list breaks. Prints `ok` if no
 // line is broken. Returns the exit status.
-fn hold(rt: &HostRuntime, asked: &CheckOptions<'_>, settings: Settings<'_>, path: &str) -> u8 {
+fn hold(rt: &HostRuntime, asked: &CheckOptions<'_>, settings: Settings<'_>, path: &str) -> u8
+    ensures { EndsAs (EndsReviewed asked.now.strict EndsVerdict) result }
+{
     let review = match checked(rt, asked.list, settings, asked.strict) {
         Ok(review) => review,
         Err(counts) => {
@@ -129,7 +142,9 @@ fn tell_errors(
 }
 
 // Prints `ok` if a policy is kept, and returns the exit status.
-fn status(rt: &HostRuntime, standing: &PolicyVerdict) -> u8 {
+fn status(rt: &HostRuntime, standing: &PolicyVerdict) -> u8
+    ensures { EndsAs (λ status. status ≡ verdict_status standing.now) result }
+{
     match standing.exit_status() {
         0 => status_of(rt, println!(rt; "ok")),
         status => status,
@@ -154,6 +169,8 @@ fn spot_of<'a>(path: &'a str, part: &ListPart) -> Spot<'a> {
 struct FindingMessage<'a>(&'a Finding);
 
 impl fmt::Display for FindingMessage<'_> {
+    ghost output = { λ message. Some (finding_message message) };
+
     fn fmt<W: fmt::Write>(&self, f: &mut fmt::Formatter<W>) -> fmt::Result {
         let finding = self.0;
         match &finding.part {

@@ -7,12 +7,15 @@
 
 mod check;
 mod check_documents;
+mod check_objects;
 mod diff;
 mod diff_files;
 mod diff_policy;
 mod diff_runs;
 mod diff_text;
+mod objects;
 mod reach_command;
+mod reach_documents;
 mod review;
 mod route;
 mod tree;

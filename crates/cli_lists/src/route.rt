@@ -1,8 +1,10 @@
 //! The command `route`: the route path of a script's session request.
-ghost use Rattle.std.specs.Prelude.{◌≡◌, if◌then◌else◌, is_some};
+ghost use Rattle.std.specs.Prelude.{◌≡◌};
+ghost use Rattle.cli_base.specs.Statuses.{EndsAs};
+ghost use Rattle.cli_lists.specs.ListStatus.{EndsRouted, RouteEnds, routed_status};
 
 use crate::review::review;
-use cli_base::{OUT_OF_MEMORY, REFUSED, Settings, Spot, report_error, status_of};
+use cli_base::{OUT_OF_MEMORY, REFUSED, Settings, Spot, report_error, status_after, status_of};
 use cli_options::RouteOptions;
 use init_core::StartList;
 use list_reach::{RoutePath, RoutePathFault};
@@ -13,7 +15,9 @@ const DENIED: u8 = 3;
 
 /// Prints the route path of a script's session request. Returns the exit status: 0, 3 if the request is denied, 2 if the list,
 /// the script or the arguments are refused.
-pub fn show_route(rt: &HostRuntime, wish: &RouteOptions<'_>, settings: Settings<'_>) -> u8 {
+pub fn show_route(rt: &HostRuntime, wish: &RouteOptions<'_>, settings: Settings<'_>) -> u8
+    ensures { RouteEnds wish.now result }
+{
     match review(rt, wish.list, settings) {
         Some(review) => route_in(rt, settings.form, review.list(), wish),
         None => REFUSED,
@@ -21,12 +25,9 @@ pub fn show_route(rt: &HostRuntime, wish: &RouteOptions<'_>, settings: Settings<
 }
 
 // Prints the route path of a request in a start list, and returns the exit status.
-fn route_in(
-    rt: &HostRuntime,
-    form: DiagnosticForm,
-    list: &StartList,
-    wish: &RouteOptions<'_>,
-) -> u8 {
+fn route_in(rt: &HostRuntime, form: DiagnosticForm, list: &StartList, wish: &RouteOptions<'_>) -> u8
+    ensures { EndsAs (EndsRouted wish.now list.now) result }
+{
     match RoutePath::read(
         rt.alloc(),
         list,
@@ -45,7 +46,9 @@ fn tell_no_course(
     form: DiagnosticForm,
     wish: &RouteOptions<'_>,
     fault: RoutePathFault,
-) -> u8 {
+) -> u8
+    ensures { result ≡ 2 }
+{
     let spot = Spot::file(wish.list);
     match fault {
         RoutePathFault::Nobody => report_error(
@@ -67,17 +70,15 @@ fn tell_no_course(
 
 // Returns the exit status of a request that is routed to this component: 0, or 3 if there is none.
 fn course_status(child: Option<usize>) -> u8
-    ensures { result ≡ (if is_some child then 0 else 3) }
+    ensures { result ≡ routed_status child }
 {
     if child.is_some() { 0 } else { DENIED }
 }
 
 // Prints a route path, and returns the exit status.
-fn show_course(rt: &HostRuntime, course: &RoutePath<'_>) -> u8 {
-    let status = status_of(rt, print!(rt; "{course}"));
-    if status == 0 {
-        course_status(course.child())
-    } else {
-        status
-    }
+fn show_course(rt: &HostRuntime, course: &RoutePath<'_>) -> u8
+    ensures { EndsAs (λ status. status ≡ routed_status course.now.child) result }
+{
+    let printed = status_of(rt, print!(rt; "{course}"));
+    status_after(printed, course_status(course.child()))
 }

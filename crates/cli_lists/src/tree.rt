@@ -1,4 +1,6 @@
 //! The command `tree`: the components of a start list.
+ghost use Rattle.cli_base.specs.Statuses.{EndsAs, IsZero};
+
 use crate::review::review;
 use cli_base::{REFUSED, Settings, no_memory, print_documents, status_of};
 use cli_options::TreeOptions;
@@ -6,7 +8,9 @@ use list_review::Review;
 use std::alloc::AllocError;
 
 /// Prints the components of a start list as text, as a graph or as JSON. Returns the exit status.
-pub fn show_tree(rt: &HostRuntime, asked: &TreeOptions<'_>, settings: Settings<'_>) -> u8 {
+pub fn show_tree(rt: &HostRuntime, asked: &TreeOptions<'_>, settings: Settings<'_>) -> u8
+    ensures { EndsAs IsZero result }
+{
     if asked.json {
         tree_document(rt, asked.list, settings)
     } else {
@@ -15,7 +19,9 @@ pub fn show_tree(rt: &HostRuntime, asked: &TreeOptions<'_>, settings: Settings<'
 }
 
 // Prints the components of a start list as text or as a graph, and returns the exit status.
-fn tree(rt: &HostRuntime, path: &str, settings: Settings<'_>, dot: bool) -> u8 {
+fn tree(rt: &HostRuntime, path: &str, settings: Settings<'_>, dot: bool) -> u8
+    ensures { EndsAs IsZero result }
+{
     let Some(review) = review(rt, path, settings) else {
         return REFUSED;
     };
@@ -29,7 +35,9 @@ fn tree(rt: &HostRuntime, path: &str, settings: Settings<'_>, dot: bool) -> u8 {
 }
 
 // Prints the components of a start list as a graph, and returns the exit status.
-fn show_graph(rt: &HostRuntime, path: &str, review: &Review) -> u8 {
+fn show_graph(rt: &HostRuntime, path: &str, review: &Review) -> u8
+    ensures { EndsAs IsZero result }
+{
     match review.graph(rt.alloc()) {
         Ok(graph) => status_of(rt, print!(rt; "{graph}")),
         Err(_) => no_memory(rt),
@@ -37,7 +45,9 @@ fn show_graph(rt: &HostRuntime, path: &str, review: &Review) -> u8 {
 }
 
 // Prints a document for each line of the tree, and returns the exit status.
-fn tree_document(rt: &HostRuntime, path: &str, settings: Settings<'_>) -> u8 {
+fn tree_document(rt: &HostRuntime, path: &str, settings: Settings<'_>) -> u8
+    ensures { EndsAs IsZero result }
+{
     match review(rt, path, settings) {
         Some(review) => match review.tree(rt.alloc()) {
             Ok(tree) => print_documents(rt, tree.documents(rt.alloc())),

@@ -1,10 +1,10 @@
 -- The status of a run, by what its view promises.
-use Rattle.std.proofs.Common.{◌≡◌, ◌<◌, ℕ, List, ◌++◌, append-nil, Bool, false, true, Option, Some, None, IfNone, IfSome, refl, sym, ◌∙◌, ap, subst}
+use Rattle.std.proofs.Common.{◌≡◌, ℕ, List, ◌++◌, append-nil, Bool, false, true, Option, Some, None, IfNone, IfSome, refl, sym, ◌∙◌, ap, subst}
 use Rattle.std.specs.Prelude.{◌==◌, ◌||◌, is_some, length, nat_lt, if◌then◌else◌, IfOk, Result, Ok, Err}
 use Rattle.list_parser.specs.declared.fault.BootFault.{BootFault}
 use Rattle.run_lines.specs.LineRuns.{EndsFor}
 use Rattle.run_lines.specs.declared.line_run_fault.LineRunFault.{LineRunFault}
-use Rattle.run_scenario.specs.Faults.{fault_before, unplayed}
+use Rattle.run_scenario.specs.Faults.{unplayed}
 use Rattle.run_scenario.specs.Judging.{errors_of}
 use Rattle.run_scenario.specs.LineSteps.{LineStep}
 use Rattle.run_scenario.specs.RunCalls.{calls_answered}

@@ -1,2 +1,3 @@
+pub mod CommandStatus
 pub mod RunEnd
 pub mod RunStatus

@@ -1,7 +1,6 @@
 -- The errors that the exit status of a run comes from.
 use Rattle.std.specs.Prelude.{◌≡◌, ◌⊎◌, ℕ, ◌==◌, ◌||◌, Bool, false, List, length, nat_lt, if◌then◌else◌, Option, Some, None, IfNone, IfSome, IfOk, Result, Ok}
-use Rattle.std.specs.Option.{option_copied, unwrap_or}
-use Rattle.line_names.specs.NameTable.{nothing}
+use Rattle.std.specs.Option.{option_copied}
 use Rattle.line_names.specs.RoundMarks.{RoundMark}
 use Rattle.line_steps.specs.RunPosition.{RunPosition, first_position}
 use Rattle.list_parser.specs.declared.fault.BootFault.{BootFault}
@@ -15,6 +14,7 @@ use Rattle.run_scenario.specs.declared.scenario_input.ScenarioInput.{ScenarioInp
 use Rattle.own_model.specs.Listed.{Listed}
 use Rattle.list_parser.specs.StartText.{list_in}
 use Rattle.cli_base.specs.Texts.{bytes_of}
+use Rattle.cli_base.specs.Unfolding.{names_of}
 use Rattle.cli_base.specs.declared.machine.Machine.{Machine}
 use Rattle.cli_base.specs.declared.settings.Settings.{Settings}
 use Rattle.cli_runs.specs.RunEnd.{end_status}
@@ -66,4 +66,4 @@ EndsPlay machine view first input status =
 
 -- the position before the first line of a scenario with these round marks
 abbrev pub start_by : Settings → List RoundMark → RunPosition
-start_by settings marks = first_position (unwrap_or (option_copied settings.known) nothing) marks
+start_by settings marks = first_position (names_of settings) marks

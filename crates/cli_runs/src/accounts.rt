@@ -1,5 +1,6 @@
 //! The command `accounts`: the accounts after a scenario.
 ghost use Rattle.std.specs.Prelude.{◌≡◌, IfNone, IfOk};
+ghost use Rattle.cli_runs.specs.CommandStatus.{AccountsEnd};
 ghost use Rattle.cli_runs.specs.RunStatus.{HasStatus, start_of};
 ghost use Rattle.cli_runs.specs.declared.view.AccountsForm.{AccountsForm as AccountsForms};
 ghost use Rattle.cli_runs.specs.declared.view.RunView.TheVariants.{Accounts};
@@ -21,7 +22,9 @@ pub fn list_accounts<'a>(
     rt: &HostRuntime,
     asked: &'a AccountsOptions<'a>,
     settings: Settings<'a>,
-) -> u8 {
+) -> u8
+    ensures { AccountsEnd asked.now settings.entry result }
+{
     let viewing = RunView::Accounts(form_asked(asked));
     play(
         rt,

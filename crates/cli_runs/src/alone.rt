@@ -1,17 +1,22 @@
 //! The command `alone`: replies to a script in the whole run and alone, for one script or for each.
-ghost use Rattle.std.specs.Prelude.{◌≡◌, ◌||◌, if◌then◌else◌, is_some, nat_lt};
+ghost use Rattle.std.specs.Prelude.{◌≡◌, ◌==◌, ◌||◌, if◌then◌else◌, false, Some, IfErr, IfOk};
+ghost use Rattle.line_rounds.specs.Views.{whole_view};
+ghost use Rattle.cli_base.specs.Statuses.{EndsAs, HasFailed};
+ghost use Rattle.cli_runs.specs.CommandStatus.{AllAloneEnd, AloneEnds, EndsCompared, IsAloneView, IsRunOf, compared_status, comparison_status, lines_status};
 
 use crate::run_end::RunEnd;
 use crate::run_request::{NONE_EARLIER, RunRequest, play};
 use crate::view::RunView;
 use cli_base::{
     Machine, MachineChoice, Origin, OutputStream, Printing, REFUSED, Settings, UNWRITTEN, Writer,
-    no_memory, plain_writer, report_boot_fault, scenario_text, status_of, text_of, unfolded,
-    watched_reader,
+    no_memory, plain_writer, report_boot_fault, scenario_text, status_after, status_of, text_of,
+    unfolded, watched_reader,
 };
 use cli_options::AloneOptions;
+use init_core::StartList;
 use line_rounds::UnfoldedText;
 use run_scenario::ScenarioInput;
+use std::alloc::AllocError;
 use std::io;
 use std::io::Write;
 use view_runs::{AloneComparison, alone};
@@ -25,16 +30,24 @@ pub fn show_alone<'a>(
     asked: &'a AloneOptions<'a>,
     scenario: &'a str,
     settings: Settings<'a>,
-) -> u8 {
-    let scene = RunRequest {
+) -> u8
+    ensures { AloneEnds asked.now scenario.now settings.entry result }
+{
+    play(rt, asked.machine, alone_of(asked.name, scenario, settings))
+}
+
+// Returns the run whose replies to the component of a name are shown.
+fn alone_of<'a>(name: &'a str, scenario: &'a str, settings: Settings<'a>) -> RunRequest<'a>
+    ensures { IsRunOf scenario.now settings.entry (IsAloneView name.now) (Some name.now) false result }
+{
+    RunRequest {
         scenario,
         settings,
-        viewing: RunView::Alone(asked.name.as_bytes()),
-        name: Some(asked.name),
+        viewing: RunView::Alone(name.as_bytes()),
+        name: Some(name),
         earlier: NONE_EARLIER,
         strict: false,
-    };
-    play(rt, asked.machine, scene)
+    }
 }
 
 /// Runs a scenario once for each script of the machine, and prints what `show_alone` prints. Diagnostics are printed once.
@@ -43,21 +56,35 @@ pub fn show_all_alone<'a>(
     rt: &HostRuntime,
     asked: &'a AloneOptions<'a>,
     settings: Settings<'a>,
-) -> u8 {
+) -> u8
+    ensures { AllAloneEnd asked.now settings.entry result }
+{
+    let scenario = match scenario_text(rt, settings.form, asked.name) {
+        Ok(scenario) => scenario,
+        Err(status) => return status,
+    };
+    let lines = match unfolded(rt, asked.name, &scenario, settings) {
+        Ok(lines) => lines,
+        Err(status) => return status,
+    };
+    let list = match MachineChoice::of(rt, settings.form, asked.machine, asked.name) {
+        Ok(list) => list,
+        Err(status) => return status,
+    };
     let all = All {
-        machine: asked.machine,
         scenario: asked.name,
         summary: asked.summary,
         settings,
     };
-    all_alone(rt, all)
+    match Machine::read(rt, list.path(), settings) {
+        Ok(machine) => tell_each(rt, &machine, &lines, all),
+        Err(status) => status,
+    }
 }
 
 // The options of a comparison of all scripts.
 #[derive(Clone, Copy)]
 struct All<'a> {
-    // The path of a start list, if the command line names one.
-    machine: Option<&'a str>,
     // The path of the scenario.
     scenario: &'a str,
     // Whether only the last line is printed of each script.
@@ -66,58 +93,63 @@ struct All<'a> {
     settings: Settings<'a>,
 }
 
-// Compares the runs of all scripts, and returns the exit status.
-fn all_alone(rt: &HostRuntime, all: All<'_>) -> u8 {
-    let scenario = match scenario_text(rt, all.settings.form, all.scenario) {
-        Ok(scenario) => scenario,
-        Err(status) => return status,
-    };
-    let lines = match unfolded(rt, all.scenario, &scenario, all.settings) {
-        Ok(lines) => lines,
-        Err(status) => return status,
-    };
-    let list = match MachineChoice::of(rt, all.settings.form, all.machine, all.scenario) {
-        Ok(list) => list,
-        Err(status) => return status,
-    };
-    match Machine::read(rt, list.path(), all.settings) {
-        Ok(machine) => tell_each(rt, &machine, &lines, all),
-        Err(status) => status,
-    }
-}
-
-// Compares the runs of each script of a machine, one after another.
+// Compares the runs of each script of a machine, one after another. Returns the exit status.
 fn tell_each<'a>(
     rt: &HostRuntime,
     machine: &'a Machine<'a>,
     lines: &'a UnfoldedText<'a>,
     all: All<'a>,
-) -> u8 {
+) -> u8
+    ensures { EndsAs (EndsCompared all.entry.settings machine.now (whole_view lines.now)) result }
+{
+    let list = machine.list();
+    match tell_scripts(rt, machine, list, lines, all) {
+        Ok(status) | Err(status) => status,
+    }
+}
+
+// Compares the runs of each script of a machine's list, and returns the exit status. The error is that of a run without a result.
+fn tell_scripts<'a>(
+    rt: &HostRuntime,
+    machine: &'a Machine<'a>,
+    list: &'a StartList,
+    lines: &'a UnfoldedText<'a>,
+    all: All<'a>,
+) -> Result<u8, u8>
+    ensures ended { IfOk result (λ status. status ≡ compared_status list.now.entries
+        (lines_status list.now all.entry.settings (whole_view lines.now))) }
+    ensures failed { IfErr result HasFailed }
+{
     let mut status = 0;
     let mut complained = false;
-    for entry in machine.list().entries() {
-        if entry.is_script() {
-            let one = One {
-                machine,
-                name: entry.path(),
-                lines,
-                silent: complained,
-            };
-            match one.tell(rt, all) {
-                0 => (),
-                DIFFERENT => status = DIFFERENT,
-                fault => return fault,
-            }
-            complained = true;
+    for entry in list.entries() {
+        if !entry.is_script() {
+            continue;
         }
+        let one = One {
+            machine,
+            list,
+            name: entry.path(),
+            lines,
+            silent: complained,
+        };
+        let told = one.compare(rt, all)?;
+        status = worse(status, told);
+        complained = true;
     }
-    status
+    Ok(status)
+}
+
+// Returns the status of two comparisons: that of the second one, unless this has no fault.
+fn worse(status: u8, told: u8) -> u8
+    ensures { result ≡ (if told == 0 then status else told) }
+{
+    if told == 0 { status } else { told }
 }
 
 // Returns the exit status of a comparison: 1 for a fault of the run, 3 if a reply isn't as expected or differs, else 0.
 fn comparison_status(compared: AloneComparison) -> u8
-    ensures { result ≡ (if is_some compared.ending.fault then 1
-        else (if nat_lt 0 compared.ending.complaints || is_some compared.difference then 3 else 0)) }
+    ensures { result ≡ comparison_status compared }
 {
     if compared.ending.fault.is_some() {
         UNWRITTEN
@@ -126,6 +158,13 @@ fn comparison_status(compared: AloneComparison) -> u8
     } else {
         0
     }
+}
+
+// Returns whether a status is that of a comparison: 0 or 3.
+fn is_compared(status: u8) -> bool
+    ensures { result ≡ (status == 0 || status == 3) }
+{
+    status == 0 || status == DIFFERENT
 }
 
 // Returns a writer to a destination, or one that drops all.
@@ -144,6 +183,8 @@ fn writer_unless<'a>(rt: &HostRuntime, is_dropped: bool, place: OutputStream<'a>
 #[derive(Clone, Copy)]
 struct One<'a> {
     machine: &'a Machine<'a>,
+    // The machine's list.
+    list: &'a StartList,
     name: &'a [u8],
     lines: &'a UnfoldedText<'a>,
     // Whether diagnostics were printed already.
@@ -151,14 +192,36 @@ struct One<'a> {
 }
 
 impl<'a> One<'a> {
+    ghost use Rattle.std.specs.Prelude.{◌≡◌, IfErr, IfOk};
+    ghost use Rattle.line_rounds.specs.Views.{whole_view};
+    ghost use Rattle.cli_base.specs.Statuses.{EndsAs, HasFailed};
+    ghost use Rattle.cli_runs.specs.CommandStatus.{comparison_status, lines_status};
+
+    // Compares as `tell` does, and returns 0 or 3. The error is the status of a run without a result.
+    fn compare(self, rt: &HostRuntime, all: All<'a>) -> Result<u8, u8>
+        ensures ended { IfOk result (λ status. status
+            ≡ lines_status self.entry.list.now all.entry.settings (whole_view self.entry.lines.now)) }
+        ensures failed { IfErr result HasFailed }
+    {
+        let status = self.tell(rt, all);
+        if is_compared(status) {
+            Ok(status)
+        } else {
+            Err(status)
+        }
+    }
+
     // Runs the scenario, prints the comparison of the script's replies, and returns the exit status.
-    fn tell(self, rt: &HostRuntime, all: All<'a>) -> u8 {
+    fn tell(self, rt: &HostRuntime, all: All<'a>) -> u8
+        ensures { EndsAs (λ status. status
+            ≡ lines_status self.entry.list.now all.entry.settings (whole_view self.entry.lines.now)) result }
+    {
         let start = match all.settings.start_or_status(rt, self.lines.marks()) {
             Ok(start) => start,
             Err(status) => return status,
         };
         let play = ScenarioInput {
-            list: self.machine.list(),
+            list: self.list,
             scenario: all.settings.subject(all.scenario),
             start,
         };
@@ -193,27 +256,38 @@ impl<'a> One<'a> {
         all: All<'a>,
         compared: AloneComparison,
         written: Writer<'_>,
-    ) -> u8 {
-        let told = if all.summary {
-            let mut writer = plain_writer(rt, OutputStream::text(rt));
-            if compared.ending.fault.is_none()
-                && compared.write_sum(self.name, &mut writer).is_err()
-            {
-                return no_memory(rt);
-            }
-            text_of(rt, writer)
-        } else {
-            text_of(rt, written)
+    ) -> u8
+        ensures { EndsAs (λ status. status ≡ comparison_status compared) result }
+    {
+        let Ok(told) = self.text(rt, all, compared, written) else {
+            return no_memory(rt);
         };
         let printed = status_of(rt, io::writer(rt).write_all(told.as_slice()));
-        if printed != 0 {
-            return printed;
+        if printed == 0 {
+            let played = RunEnd {
+                ended: Ok(compared.ending),
+                unread: false,
+            };
+            let _ = played.tell_fault(rt, all.settings.form, all.scenario);
         }
-        let played = RunEnd {
-            ended: Ok(compared.ending),
-            unread: false,
-        };
-        let _ = played.tell_fault(rt, all.settings.form, all.scenario);
-        comparison_status(compared)
+        status_after(printed, comparison_status(compared))
+    }
+
+    // Returns the text of a comparison, of which a summary is the last line. The error is out of memory.
+    fn text(
+        self,
+        rt: &HostRuntime,
+        all: All<'a>,
+        compared: AloneComparison,
+        written: Writer<'_>,
+    ) -> Result<Vec<u8>, AllocError> {
+        if !all.summary {
+            return Ok(text_of(rt, written));
+        }
+        let mut writer = plain_writer(rt, OutputStream::text(rt));
+        if compared.ending.fault.is_none() && compared.write_sum(self.name, &mut writer).is_err() {
+            return Err(AllocError);
+        }
+        Ok(text_of(rt, writer))
     }
 }

@@ -1,10 +1,17 @@
 //! The command `record`: a scenario with its replies, on standard output or in place of the scenario.
+ghost use Rattle.std.specs.Prelude.{◌≡◌, length, IfOk, None};
+ghost use Rattle.cli_base.specs.Statuses.{EndsAs, IsZero};
+ghost use Rattle.cli_base.specs.Unfolding.{EndsUnfolded};
+ghost use Rattle.cli_runs.specs.CommandStatus.{EndsRecorded, RecordEnds, advice_of, unread_status};
+
 use cli_base::{
     LineStarts, Machine, MachineChoice, REFUSED, STANDARD_INPUT, Settings, Spot, UNWRITTEN,
-    Warnings, made_or_status, replace_file, report_boot_fault, report_error, report_write_failure,
-    scenario_text, status_of, summarize, unfolded, unread_status, warned_status,
+    Warnings, made_or_status, no_memory, replace_file, report_boot_fault, report_error,
+    report_write_failure, scenario_text, status_after, status_of, summarize, unfolded,
+    unread_status, warned_status,
 };
 use cli_options::RecordOptions;
+use init_core::StartList;
 use line_names::token_at;
 use run_record::{Recording, Scenario, record};
 use std::alloc::AllocError;
@@ -14,7 +21,9 @@ use view_diagnostics::{Counts, DiagnosticForm};
 
 /// Records a scenario's replies on its machine. Returns the exit status: 0, 3 if a
 /// line isn't read or if a warning is a fault, 2 if the arguments or the list are refused.
-pub fn record_scenario(rt: &HostRuntime, wanted: &RecordOptions<'_>, settings: Settings<'_>) -> u8 {
+pub fn record_scenario(rt: &HostRuntime, wanted: &RecordOptions<'_>, settings: Settings<'_>) -> u8
+    ensures { RecordEnds wanted.now settings.entry result }
+{
     if wanted.write && wanted.scenario == STANDARD_INPUT {
         report_error(
             rt,
@@ -45,7 +54,10 @@ fn record_on(
     text: &[u8],
     wanted: &RecordOptions<'_>,
     settings: Settings<'_>,
-) -> u8 {
+) -> u8
+    ensures { EndsAs (EndsUnfolded settings.entry text.now
+        (EndsRecorded settings.entry wanted.now.strict machine.now text.now)) result }
+{
     let lines = match unfolded(rt, wanted.scenario, text, settings) {
         Ok(lines) => lines,
         Err(status) => return status,
@@ -54,7 +66,8 @@ fn record_on(
         Ok(start) => start,
         Err(status) => return status,
     };
-    let warned = warn(rt, machine, wanted, settings.form, text);
+    let list = machine.list();
+    let warned = warn(rt, list, wanted, settings.form, text);
     let warnings = match made_or_status(rt, warned) {
         Ok(warnings) => warnings,
         Err(status) => return status,
@@ -63,7 +76,7 @@ fn record_on(
         text,
         unfolded: lines.bytes(),
     };
-    match record(rt.alloc(), machine.list(), scenario, start, wanted.all) {
+    match record(rt.alloc(), list, scenario, start, wanted.all) {
         Ok(recording) => {
             let status = tell_recording(rt, settings.form, wanted, text, &recording, warnings);
             warned_status(wanted.strict, warnings, status)
@@ -75,12 +88,14 @@ fn record_on(
 // Prints the warnings about the lines of a scenario, and returns how many there are. The error is out of memory.
 fn warn(
     rt: &HostRuntime,
-    machine: &Machine<'_>,
+    list: &StartList,
     wanted: &RecordOptions<'_>,
     form: DiagnosticForm,
     text: &[u8],
-) -> Result<usize, AllocError> {
-    let warnings = Warnings::of(rt, machine.list(), None, wanted.scenario, text)?;
+) -> Result<usize, AllocError>
+    ensures { IfOk result (λ count. count ≡ length (advice_of None list.now text.now)) }
+{
+    let warnings = Warnings::of(rt, list, None, wanted.scenario, text)?;
     warnings.report(rt, form, false)?;
     Ok(warnings.count())
 }
@@ -93,13 +108,12 @@ fn tell_recording(
     text: &[u8],
     recording: &Recording,
     warnings: usize,
-) -> u8 {
-    let unread = tell_unread(rt, form, wanted.scenario, text, recording, warnings);
-    let status = match made_or_status(rt, unread) {
-        Ok(status) | Err(status) => status,
-    };
+) -> u8
+    ensures { EndsAs (λ status. status ≡ unread_status (length recording.now.unread.items)) result }
+{
+    let status = tell_unread(rt, form, wanted.scenario, text, recording, warnings);
     let told = tell(rt, form, wanted, text, recording.text.as_slice());
-    if told == 0 { status } else { told }
+    status_after(told, status)
 }
 
 // Prints the lines of a scenario's text that aren't read, and their number with that of the warnings. Returns the exit status.
@@ -110,7 +124,24 @@ fn tell_unread(
     text: &[u8],
     recording: &Recording,
     warnings: usize,
-) -> Result<u8, AllocError> {
+) -> u8
+    ensures { EndsAs (λ status. status ≡ unread_status (length recording.now.unread.items)) result }
+{
+    match report_unread(rt, form, scenario, text, recording, warnings) {
+        Ok(()) => unread_status(recording.unread.len()),
+        Err(AllocError) => no_memory(rt),
+    }
+}
+
+// Prints the lines of a scenario's text that aren't read, and their number with that of the warnings. The error is out of memory.
+fn report_unread(
+    rt: &HostRuntime,
+    form: DiagnosticForm,
+    scenario: &str,
+    text: &[u8],
+    recording: &Recording,
+    warnings: usize,
+) -> Result<(), AllocError> {
     let all = recording.unread.as_slice();
     let lines = LineStarts::of(rt, text)?;
     for unread in all {
@@ -125,7 +156,7 @@ fn tell_unread(
         warnings: warnings as u64,
     };
     summarize(rt, form, counts);
-    Ok(unread_status(all.len()))
+    Ok(())
 }
 
 // Writes a recording to standard output or to the scenario's file, and returns the exit status. An unchanged file isn't written.
@@ -135,7 +166,9 @@ fn tell(
     wanted: &RecordOptions<'_>,
     old: &[u8],
     new: &[u8],
-) -> u8 {
+) -> u8
+    ensures { EndsAs IsZero result }
+{
     if !wanted.write {
         return status_of(rt, io::writer(rt).write_all(new));
     }

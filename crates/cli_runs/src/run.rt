@@ -1,4 +1,8 @@
 //! The command `run`: the transcript of a scenario.
+ghost use Rattle.std.specs.Prelude.{◌≡◌};
+ghost use Rattle.std.specs.Option.{option_copied};
+ghost use Rattle.cli_runs.specs.CommandStatus.{IsRunOf, IsTranscript, RunEnds};
+
 use crate::run_request::{NONE_EARLIER, RunRequest, play};
 use crate::view::RunView;
 use cli_base::{Coloring, Settings};
@@ -11,25 +15,40 @@ pub fn run_scenario<'a>(
     asked: &'a RunOptions<'a>,
     settings: Settings<'a>,
     coloring: Coloring,
-) -> u8 {
+) -> u8
+    ensures { RunEnds asked.now settings.entry result }
+{
+    play(rt, asked.machine, transcript_of(asked, settings, coloring))
+}
+
+// Returns the run that the options ask for.
+fn transcript_of<'a>(
+    asked: &'a RunOptions<'a>,
+    settings: Settings<'a>,
+    coloring: Coloring,
+) -> RunRequest<'a>
+    ensures { IsRunOf asked.now.scenario.now settings.entry (IsTranscript (option_copied asked.now.only))
+        (option_copied asked.now.only) asked.now.strict result }
+{
     let showing = TranscriptOptions {
         only: bytes_of(asked.only),
         accounts: asked.accounts,
         numbers: asked.numbers,
     };
-    let scene = RunRequest {
+    RunRequest {
         scenario: asked.scenario,
         settings,
         viewing: RunView::Run(showing, coloring),
         name: asked.only,
         earlier: NONE_EARLIER,
         strict: asked.strict,
-    };
-    play(rt, asked.machine, scene)
+    }
 }
 
 // Returns the bytes of a name, if there is one.
-fn bytes_of(name: Option<&str>) -> Option<&[u8]> {
+fn bytes_of(name: Option<&str>) -> Option<&[u8]>
+    ensures { option_copied result ≡ option_copied name.entry }
+{
     match name {
         Some(name) => Some(name.as_bytes()),
         None => None,

@@ -1,6 +1,10 @@
 //! A scenario's run on a machine, over files and the standard streams.
-ghost use Rattle.std.specs.Prelude.{◌≡◌, ◌==◌, if◌then◌else◌, IfOk};
+ghost use Rattle.std.specs.Prelude.{◌≡◌, false, is_some, position, IfOk};
+ghost use Rattle.std.specs.Str.{bytes_eq};
 ghost use Rattle.cli_base.specs.Origins.{origin_bytes};
+ghost use Rattle.cli_base.specs.Statuses.{EndsAs};
+ghost use Rattle.cli_base.specs.Unfolding.{EndsUnfolded};
+ghost use Rattle.cli_runs.specs.CommandStatus.{EndsChosen, EndsLines, EndsNamed, EndsOn, IsRunOf, is_known, named_status, warnings_of};
 ghost use Rattle.cli_runs.specs.RunStatus.{EndsPlay, HasStatus, start_by, start_of};
 
 use crate::accounts::print_accounts;
@@ -15,6 +19,7 @@ use init_core::StartList;
 use line_names::RoundMark;
 use run_scenario::{ScenarioInput, near_component};
 use std::alloc::AllocError;
+use std::fs::File;
 use std::{fs, io};
 use view_colors::Lines;
 use view_diagnostics::{Counts, DiagnosticForm};
@@ -51,7 +56,9 @@ impl<'a> RunRequest<'a> {
         scenario: &'a str,
         settings: Settings<'a>,
         viewing: RunView<'a>,
-    ) -> RunRequest<'a> {
+    ) -> RunRequest<'a>
+        ensures { IsRunOf scenario.now settings.entry (λ view. view ≡ viewing.entry) None false result }
+    {
         RunRequest {
             scenario,
             settings,
@@ -66,7 +73,9 @@ impl<'a> RunRequest<'a> {
 /// Runs a scenario on the machine of the start list that the command line names, of the list next to the scenario, or on the built-in
 /// machine. Returns the exit status. If warnings are faults, a
 /// scenario that isn't read whole before its first line is refused, since it has none.
-pub(crate) fn play(rt: &HostRuntime, machine: Option<&str>, scene: RunRequest<'_>) -> u8 {
+pub(crate) fn play(rt: &HostRuntime, machine: Option<&str>, scene: RunRequest<'_>) -> u8
+    ensures { EndsAs (EndsChosen machine.entry scene.entry) result }
+{
     if scene.strict && scene.scenario == STANDARD_INPUT {
         return refuse_strict(rt, scene, "expected the path of a file, found `-`");
     }
@@ -81,12 +90,10 @@ pub(crate) fn play(rt: &HostRuntime, machine: Option<&str>, scene: RunRequest<'_
 }
 
 // Runs a scenario on a machine. Before the run prints an error if no component has the name that is asked for.
-fn play_named(rt: &HostRuntime, machine: &Machine<'_>, scene: RunRequest<'_>) -> u8 {
-    let is_known = match scene.name {
-        Some(name) => is_listed(rt, scene.settings.form, machine.list(), name),
-        None => true,
-    };
-    if is_known {
+fn play_named(rt: &HostRuntime, machine: &Machine<'_>, scene: RunRequest<'_>) -> u8
+    ensures { EndsAs (EndsNamed machine.now scene.entry) result }
+{
+    if is_known(rt, scene.settings.form, machine.list(), scene.name) {
         return play_on(rt, machine, scene);
     }
     let earlier = Counts {
@@ -98,28 +105,23 @@ fn play_named(rt: &HostRuntime, machine: &Machine<'_>, scene: RunRequest<'_>) ->
 
 // Returns the exit status of a run in which no component has the name that is asked for: 3, unless a fault comes first.
 fn nobody_status(status: u8) -> u8
-    ensures { result ≡ (if status == 0 then 3 else status) }
+    ensures { result ≡ named_status false status }
 {
     if status == 0 { NOBODY } else { status }
 }
 
-// Runs a scenario of a path on a machine.
-fn play_on(rt: &HostRuntime, machine: &Machine<'_>, scene: RunRequest<'_>) -> u8 {
-    if scene.scenario == STANDARD_INPUT {
+// Runs a scenario of a path on a machine. A strict run isn't of standard input: `play` refuses that.
+fn play_on(rt: &HostRuntime, machine: &Machine<'_>, scene: RunRequest<'_>) -> u8
+    ensures { EndsAs (EndsOn machine.now scene.entry) result }
+{
+    if !scene.strict && scene.scenario == STANDARD_INPUT {
         return play_from(rt, machine, scene, Origin::Typed(rt.reader()), &[]);
     }
     if let Some(whole) = read_whole(rt, scene.scenario) {
         return play_whole(rt, machine, scene, &whole);
     }
     match fs::open(rt, scene.scenario) {
-        Ok(_) if scene.strict => {
-            refuse_strict(
-                rt,
-                scene,
-                "expected a file that is read to its end within 64M bytes",
-            )
-        }
-        Ok(file) => play_from(rt, machine, scene, Origin::File(file), &[]),
+        Ok(file) => play_file(rt, machine, scene, file),
         Err(error) => {
             let unread = ReadFailure::Closed(error);
             report_error(
@@ -133,8 +135,21 @@ fn play_on(rt: &HostRuntime, machine: &Machine<'_>, scene: RunRequest<'_>) -> u8
     }
 }
 
+// Runs the lines of a file that isn't read whole. A strict run is refused.
+fn play_file(rt: &HostRuntime, machine: &Machine<'_>, scene: RunRequest<'_>, file: File) -> u8
+    ensures { EndsAs (EndsOn machine.now scene.entry) result }
+{
+    if scene.strict {
+        let why = "expected a file that is read to its end within 64M bytes";
+        return refuse_strict(rt, scene, why);
+    }
+    play_from(rt, machine, scene, Origin::File(file), &[])
+}
+
 // Prints why a scenario has no warnings that could be faults, and returns the exit status 2.
-fn refuse_strict(rt: &HostRuntime, scene: RunRequest<'_>, why: &str) -> u8 {
+fn refuse_strict(rt: &HostRuntime, scene: RunRequest<'_>, why: &str) -> u8
+    ensures { result ≡ 2 }
+{
     report_error(
         rt,
         scene.settings.form,
@@ -145,12 +160,16 @@ fn refuse_strict(rt: &HostRuntime, scene: RunRequest<'_>, why: &str) -> u8 {
 }
 
 // Runs a scenario of a text, with its rounds unfolded. Before the run of a transcript prints the warnings about its lines.
-fn play_whole(rt: &HostRuntime, machine: &Machine<'_>, scene: RunRequest<'_>, text: &[u8]) -> u8 {
+fn play_whole(rt: &HostRuntime, machine: &Machine<'_>, scene: RunRequest<'_>, text: &[u8]) -> u8
+    ensures { EndsAs (EndsUnfolded scene.entry.settings text.now (EndsLines machine.now scene.entry text.now))
+        result }
+{
     let lines = match unfolded(rt, scene.scenario, text, scene.settings) {
         Ok(lines) => lines,
         Err(status) => return status,
     };
-    let warnings = match made_or_status(rt, warn(rt, machine, scene, text)) {
+    let warned = warn(rt, machine.list(), scene, text);
+    let warnings = match made_or_status(rt, warned) {
         Ok(warnings) => warnings,
         Err(status) => return status,
     };
@@ -168,14 +187,16 @@ fn play_whole(rt: &HostRuntime, machine: &Machine<'_>, scene: RunRequest<'_>, te
 // of memory.
 fn warn(
     rt: &HostRuntime,
-    machine: &Machine<'_>,
+    list: &StartList,
     scene: RunRequest<'_>,
     text: &[u8],
-) -> Result<usize, AllocError> {
+) -> Result<usize, AllocError>
+    ensures { IfOk result (λ count. count ≡ warnings_of scene.entry.viewing list.now text.now) }
+{
     let RunView::Run(options, coloring) = scene.viewing else {
         return Ok(0);
     };
-    let warnings = Warnings::of(rt, machine.list(), options.only, scene.scenario, text)?;
+    let warnings = Warnings::of(rt, list, options.only, scene.scenario, text)?;
     warnings.report(rt, scene.settings.form, coloring.err)?;
     Ok(warnings.count())
 }
@@ -245,8 +266,20 @@ fn played(
     }
 }
 
+// Returns whether a component of a list has the name that is asked for, if one is. Otherwise prints that none has it.
+fn is_known(rt: &HostRuntime, form: DiagnosticForm, list: &StartList, name: Option<&str>) -> bool
+    ensures { result ≡ is_known name.entry list.now }
+{
+    match name {
+        Some(name) => is_listed(rt, form, list, name),
+        None => true,
+    }
+}
+
 // Returns whether a component of a list has a name. Otherwise prints that none has it, and the name that may be meant.
-fn is_listed(rt: &HostRuntime, form: DiagnosticForm, list: &StartList, name: &str) -> bool {
+fn is_listed(rt: &HostRuntime, form: DiagnosticForm, list: &StartList, name: &str) -> bool
+    ensures { result ≡ is_some (position (λ entry. bytes_eq entry.path name.now) list.now.entries) }
+{
     if list.find(name.as_bytes()).is_some() {
         return true;
     }

@@ -1,4 +1,6 @@
 //! The command `trace`: the table of a scenario's lines.
+ghost use Rattle.cli_runs.specs.CommandStatus.{TraceEnds};
+
 use crate::run_request::{RunRequest, play};
 use crate::view::RunView;
 use cli_base::Settings;
@@ -9,7 +11,9 @@ pub fn trace_scenario<'a>(
     rt: &HostRuntime,
     asked: &'a TraceOptions<'a>,
     settings: Settings<'a>,
-) -> u8 {
+) -> u8
+    ensures { TraceEnds asked.now settings.entry result }
+{
     let viewing = RunView::Trace { json: asked.json };
     play(
         rt,

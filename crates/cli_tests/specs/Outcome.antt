@@ -108,3 +108,7 @@ pub record HasTested (asked : TestOptions) (status : ℕ) : Type 0 where
   pub threshold : Option ℕ
   pub asks : AsksFor asked.threshold threshold
   pub results : HasResults threshold tests status
+
+-- unless a file can't be read or written, no test is found, or nobody reads the results
+abbrev pub TestsEnd : TestOptions → ℕ → Type 0
+TestsEnd asked status = status ≢ 1 → status ≢ 2 → status ≢ 141 → HasTested asked status

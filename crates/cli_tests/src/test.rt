@@ -1,6 +1,6 @@
 //! The command `test`: scenarios are run and policies are checked as tests, and their results are printed.
 ghost use Rattle.std.specs.Prelude.{◌≡◌, ◌≢◌, ◌+◌, length, map, IfErr, IfNone, IfOk, IfSome, OnOk};
-ghost use Rattle.cli_tests.specs.Outcome.{AsksFor, HasResults, HasTested, IsPercentage, IsShortBy, outcome_status};
+ghost use Rattle.cli_tests.specs.Outcome.{AsksFor, HasResults, IsPercentage, IsShortBy, TestsEnd, outcome_status};
 ghost use Rattle.cli_tests.specs.Plan.{AreSelected};
 
 use crate::coverage_printer::CoveragePrinter;
@@ -69,7 +69,7 @@ pub fn run_tests<'a>(
     settings: Settings<'a>,
     colored: bool,
 ) -> u8
-    ensures { result ≢ 1 → result ≢ 2 → result ≢ 141 → HasTested asked.now result }
+    ensures { TestsEnd asked.now result }
 {
     let threshold = match threshold_in(rt, settings.form, asked.threshold) {
         Ok(threshold) => threshold,

@@ -2,6 +2,14 @@
 //! returns.
 #![tactic(auto)]
 
+ghost use Rattle.std.specs.Prelude.{◌≡◌, ◌≢◌, ◌⊎◌, ◌&&◌, ℕ, List, is_none, is_some, map, string_bytes};
+ghost use Rattle.std.specs.Process.{exit_status};
+ghost use Rattle.clap.specs.Words.{kind_of};
+ghost use Rattle.cli_base.specs.Statuses.{EndsAs, IsZero};
+ghost use Rattle.nethrywel.specs.CommandStatus.{AloneAnswers, AnswersBy, AnswersRequest, AnswersWords, DiffAnswers, RefusesBy, lacks_scenario};
+ghost use Rattle.cli_runs.specs.CommandStatus.{RunEnds};
+ghost use Rattle.cli_tests.specs.Outcome.{TestsEnd};
+
 use clap::Error;
 use cli_base::{Coloring, REFUSED, Settings, Spot, names_given, report_error, status_of};
 use cli_budgets::print_minimum_budgets;
@@ -18,31 +26,45 @@ use std::process::ExitCode;
 use view_diagnostics::DiagnosticForm;
 
 fn main(rt: HostRuntime) -> ExitCode {
-    let words = match words_given(&rt) {
-        Ok(words) => words,
-        Err(error) => return ExitCode::from(refuse(&rt, &error)),
-    };
-    let status = match CommandLine::read(rt.alloc(), words.as_slice()) {
-        Ok(Some(request)) => answer_request(&rt, &request),
-        Ok(None) => match missing_command_error(rt.alloc()) {
-            Ok(error) | Err(error) => refuse(&rt, &error),
-        },
-        Err(error) => refuse(&rt, &error),
-    };
-    ExitCode::from(status)
+    answer_host(&rt)
+}
+
+// Runs the command that the host's arguments ask for, and returns the exit status. Arguments that aren't UTF-8 are refused.
+fn answer_host(rt: &HostRuntime) -> ExitCode
+    ensures { (exit_status result ≡ 2) ⊎ ((words : List (List ℕ)) × AnswersWords words (exit_status result)) }
+{
+    match words_given(rt) {
+        Ok(words) => ExitCode::from(answer_words(rt, words.as_slice())),
+        Err(error) => ExitCode::from(refuse_words(rt, Err(error))),
+    }
+}
+
+// Runs the command that the arguments ask for, and returns the exit status.
+fn answer_words(rt: &HostRuntime, words: &[String]) -> u8
+    ensures { AnswersWords (map string_bytes words.now) result }
+{
+    match CommandLine::read(rt.alloc(), words) {
+        Ok(Some(request)) => answer_request(rt, &request),
+        Ok(None) => refuse_words(rt, missing_command_error(rt.alloc())),
+        Err(error) => refuse(rt, &error),
+    }
 }
 
 // Prints why the command line is refused, or the help that it asks for, and returns the exit status.
-fn refuse(rt: &HostRuntime, error: &Error) -> u8 {
+fn refuse(rt: &HostRuntime, error: &Error) -> u8
+    ensures { RefusesBy error.now result }
+{
     let printed = error.print(rt);
     if error.use_stderr() {
-        return error.exit_code() as u8;
+        return REFUSED;
     }
     status_of(rt, printed)
 }
 
-// Prints which arguments are accepted, and returns the exit status.
-fn refuse_words(rt: &HostRuntime, told: Result<Error, Error>) -> u8 {
+// Prints why arguments are refused, and returns the exit status.
+fn refuse_words(rt: &HostRuntime, told: Result<Error, Error>) -> u8
+    ensures { result ≡ 2 }
+{
     match told {
         Ok(error) | Err(error) => {
             let _ = error.print(rt);
@@ -52,7 +74,9 @@ fn refuse_words(rt: &HostRuntime, told: Result<Error, Error>) -> u8 {
 }
 
 // Runs the command of a request with the settings of the command line, and returns the exit status.
-fn answer_request(rt: &HostRuntime, request: &CommandLine<'_>) -> u8 {
+fn answer_request(rt: &HostRuntime, request: &CommandLine<'_>) -> u8
+    ensures { AnswersRequest request.now result }
+{
     let form = if request.command.is_json() {
         DiagnosticForm::Json
     } else {
@@ -70,7 +94,9 @@ fn answer_request(rt: &HostRuntime, request: &CommandLine<'_>) -> u8 {
 }
 
 // Runs a command, and returns the exit status.
-fn answer<'a>(rt: &HostRuntime, command: &'a Command<'a>, settings: Settings<'a>) -> u8 {
+fn answer<'a>(rt: &HostRuntime, command: &'a Command<'a>, settings: Settings<'a>) -> u8
+    ensures { AnswersBy command.now settings.entry result }
+{
     match command {
         Command::Run(asked) => answer_run(rt, asked, settings),
         Command::Record(asked) => record_scenario(rt, asked, settings),
@@ -89,7 +115,9 @@ fn answer<'a>(rt: &HostRuntime, command: &'a Command<'a>, settings: Settings<'a>
 }
 
 // Prints a page of help, and returns the exit status: on calls, else what `--help` prints of the program or of a command.
-fn print_help(rt: &HostRuntime, topic: Option<&str>) -> u8 {
+fn print_help(rt: &HostRuntime, topic: Option<&str>) -> u8
+    ensures { EndsAs IsZero result }
+{
     match topic {
         Some("calls") => status_of(rt, print!(rt; "{CALLS}")),
         Some(command) => print_help_of(rt, &["nethrywel", command, "--help"]),
@@ -98,7 +126,9 @@ fn print_help(rt: &HostRuntime, topic: Option<&str>) -> u8 {
 }
 
 // Prints the help that these arguments ask for, or why they are refused, and returns the exit status.
-fn print_help_of(rt: &HostRuntime, arguments: &[&str]) -> u8 {
+fn print_help_of(rt: &HostRuntime, arguments: &[&str]) -> u8
+    ensures { EndsAs IsZero result }
+{
     match CommandLine::read(rt.alloc(), arguments) {
         Ok(_) => 0,
         Err(error) => refuse(rt, &error),
@@ -106,7 +136,9 @@ fn print_help_of(rt: &HostRuntime, arguments: &[&str]) -> u8 {
 }
 
 // Runs a scenario, and returns the exit status.
-fn answer_run<'a>(rt: &HostRuntime, asked: &'a RunOptions<'a>, settings: Settings<'a>) -> u8 {
+fn answer_run<'a>(rt: &HostRuntime, asked: &'a RunOptions<'a>, settings: Settings<'a>) -> u8
+    ensures { RunEnds asked.now settings.entry result }
+{
     match Coloring::asked(rt, asked.color) {
         Some(coloring) => run_scenario(rt, asked, settings, coloring),
         None => refuse_words(rt, color_value_error(rt.alloc())),
@@ -114,24 +146,46 @@ fn answer_run<'a>(rt: &HostRuntime, asked: &'a RunOptions<'a>, settings: Setting
 }
 
 // Prints the replies to a component, or to each script, in the whole run and alone. Returns the exit status.
-fn answer_alone<'a>(rt: &HostRuntime, asked: &'a AloneOptions<'a>, settings: Settings<'a>) -> u8 {
-    match (asked.all, asked.scenario) {
-        (false, Some(scenario)) if !asked.summary => show_alone(rt, asked, scenario, settings),
-        (true, None) => show_all_alone(rt, asked, settings),
-        _ => refuse_words(rt, alone_usage_error(rt.alloc())),
+fn answer_alone<'a>(rt: &HostRuntime, asked: &'a AloneOptions<'a>, settings: Settings<'a>) -> u8
+    ensures { AloneAnswers asked.now settings.entry asked.now.scenario result }
+{
+    match asked.scenario {
+        Some(scenario) => {
+            if asked.all || asked.summary {
+                return refuse_words(rt, alone_usage_error(rt.alloc()));
+            }
+            show_alone(rt, asked, scenario, settings)
+        }
+        None => {
+            if asked.all {
+                return show_all_alone(rt, asked, settings);
+            }
+            refuse_words(rt, alone_usage_error(rt.alloc()))
+        }
     }
 }
 
 // Prints the differences between two start lists, and returns the exit status.
-fn answer_diff<'a>(rt: &HostRuntime, asked: &'a DiffOptions<'a>, settings: Settings<'a>) -> u8 {
-    match (asked.scenario, asked.scenario_after) {
-        (None, Some(_)) => refuse_words(rt, diff_usage_error(rt.alloc())),
-        _ => compare_lists(rt, asked, settings),
+fn answer_diff<'a>(rt: &HostRuntime, asked: &'a DiffOptions<'a>, settings: Settings<'a>) -> u8
+    ensures { DiffAnswers asked.now result }
+{
+    if lacks_scenario(asked) {
+        return refuse_words(rt, diff_usage_error(rt.alloc()));
     }
+    compare_lists(rt, asked, settings)
+}
+
+// Returns whether a scenario is given for the list after alone.
+fn lacks_scenario(asked: &DiffOptions<'_>) -> bool
+    ensures { result ≡ lacks_scenario asked.now }
+{
+    asked.scenario.is_none() && asked.scenario_after.is_some()
 }
 
 // Runs scenarios as tests, and returns the exit status.
-fn answer_test<'a>(rt: &HostRuntime, asked: &'a TestOptions<'a>, settings: Settings<'a>) -> u8 {
+fn answer_test<'a>(rt: &HostRuntime, asked: &'a TestOptions<'a>, settings: Settings<'a>) -> u8
+    ensures { TestsEnd asked.now result }
+{
     match Coloring::asked(rt, asked.color) {
         Some(coloring) => run_tests(rt, asked, settings, coloring.out),
         None => refuse_words(rt, color_value_error(rt.alloc())),

@@ -4,4 +4,4 @@ use Rattle.cli_base.proofs.status.print_on.Goals as goal
 
 pub returns-in-Ok-clause-printed : goal.returns-in-Ok-clause-printed
 returns-in-Ok-clause-printed g c = λ zero.
-    rw c.in-Ok.is (written_whole c.write_all.result c.status_of.result _ c.status_of.ensures (rw c.as_slice.ensures.value at c.write_all.ensures.bytes) zero)
+    rw c.in-Ok.is (written_whole c.write_all.result c.status_of.result _ c.status_of.ensures.written (rw c.as_slice.ensures.value at c.write_all.ensures.bytes) zero)

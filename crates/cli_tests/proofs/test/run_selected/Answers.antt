@@ -10,4 +10,4 @@ returns-in-Ok c = λ n1 n141. record {
 }
 
 pub returns-in-Err : goal.returns-in-Err
-returns-in-Err c = λ n1 n141. absurd (n1 (c.status_of.ensures.1 (λ is. n141 (c.status_of.ensures.0 is))))
+returns-in-Err c = λ n1 n141. absurd (n1 (c.status_of.ensures.written.1 (λ is. n141 (c.status_of.ensures.written.0 is))))

@@ -1,5 +1,5 @@
 -- The breaches are those by the text that was read.
-use Rattle.std.proofs.Common.{Some, ap}
+use Rattle.std.proofs.Common.{ap}
 use Rattle.std.specs.Option.{option_copied}
 use Rattle.cli_lists.proofs.ComparisonLemmas.{ok_by_text}
 use Rattle.cli_lists.proofs.diff_policy.PolicyBreaches.of.Goals as goal

@@ -1,0 +1,178 @@
+-- The exit status of each command that runs a scenario.
+use Rattle.std.specs.Prelude.{◌≡◌, ◌⊎◌, ℕ, ◌==◌, ◌||◌, Bool, true, false, List, [], is_some, length, nat_lt, if◌then◌else◌, position, Option, Some, None, ⊤, Ok}
+use Rattle.std.specs.Borrow.{Bor}
+use Rattle.std.specs.List.{list_any, slice_split}
+use Rattle.std.specs.Option.{option_copied}
+use Rattle.std.specs.Str.{bytes_eq}
+use Rattle.own_model.specs.Listed.{Listed, ListedEntry}
+use Rattle.own_model.specs.Text.{lines_of}
+use Rattle.list_parser.specs.Depth.{runs_script}
+use Rattle.list_parser.specs.StartText.{list_in}
+use Rattle.line_advice.specs.Advice.{Advice, is_newline, scenario_advice}
+use Rattle.line_advice.specs.Services.{kinds_of, services_of}
+use Rattle.line_rounds.specs.Unfolding.{UnfoldedText}
+use Rattle.run_lines.specs.Machine.{world_of}
+use Rattle.run_record.specs.Unread.{unread_lines}
+use Rattle.run_scenario.specs.Judging.{errors_of}
+use Rattle.run_scenario.specs.Writes.{RunStart, start_on, steps_from}
+use Rattle.view_runs.specs.declared.alone_run.AloneComparison.{AloneComparison}
+use Rattle.cli_options.specs.declared.command_options.AccountsOptions.{AccountsOptions}
+use Rattle.cli_options.specs.declared.command_options.AloneOptions.{AloneOptions}
+use Rattle.cli_options.specs.declared.command_options.RecordOptions.{RecordOptions}
+use Rattle.cli_options.specs.declared.command_options.RunOptions.{RunOptions}
+use Rattle.cli_options.specs.declared.command_options.TraceOptions.{TraceOptions}
+use Rattle.cli_base.specs.MachineChoice.{IsMachineFor}
+use Rattle.cli_base.specs.Statuses.{EndsAs, warned}
+use Rattle.cli_base.specs.Texts.{bytes_of}
+use Rattle.cli_base.specs.Unfolding.{EndsOnText, EndsUnfolded}
+use Rattle.cli_base.specs.declared.machine.Machine.{Machine}
+use Rattle.cli_base.specs.declared.settings.Settings.{Settings}
+use Rattle.cli_runs.specs.RunStatus.{EndsPlay, start_by}
+use Rattle.cli_runs.specs.declared.run_request.RunRequest.{RunRequest}
+use Rattle.cli_runs.specs.declared.view.RunView.{RunView}
+use Rattle.cli_runs.specs.declared.view.RunView.TheVariants.{Run, Trace, Accounts, Alone}
+
+-- the list of a machine
+abbrev pub IsListOf : Machine → Listed → Type 0
+IsListOf machine list = list_in (bytes_of machine.text) ≡ Ok list
+
+-- ---- a run
+
+-- the warnings about a text that are printed before its run: those of a transcript
+abbrev pub advice_of : Option (List ℕ) → Listed → List ℕ → List Advice
+advice_of only list text = scenario_advice (services_of list.entries) (kinds_of list.entries) only 1 (slice_split is_newline text)
+
+abbrev pub warnings_of : RunView → Listed → List ℕ → ℕ
+warnings_of (Run options coloring) list text = length (advice_of (option_copied options.only) list text)
+warnings_of (Trace json) list text = 0
+warnings_of (Accounts form) list text = 0
+warnings_of (Alone name) list text = 0
+
+-- the lines of a text ran, and the status is theirs, or that of a warning
+abbrev pub EndsLines : Machine → RunRequest → List ℕ → UnfoldedText → ℕ → Type 0
+EndsLines machine scene text lines status =
+    (list : Listed) × IsListOf machine list
+    × ((ran : ℕ) × EndsPlay machine scene.viewing (start_by scene.settings lines.marks) (Some lines.text) ran
+    × (status ≡ warned scene.strict (warnings_of scene.viewing list text) ran))
+
+-- a scenario ran on a machine: a file's text with its rounds unfolded; or line by line what isn't read whole, which isn't strict
+abbrev pub EndsOn : Machine → RunRequest → ℕ → Type 0
+EndsOn machine scene status =
+    ((text : List ℕ) × EndsUnfolded scene.settings text (EndsLines machine scene text) status)
+    ⊎ ((scene.strict ≡ false) × EndsPlay machine scene.viewing (start_by scene.settings []) None status)
+
+-- a component has a name, if one is asked for
+abbrev pub is_known : Option (Bor (List ℕ)) → Listed → Bool
+is_known None list = true
+is_known (Some name) list = is_some (position (λ entry. bytes_eq entry.path name.now) list.entries)
+
+-- the status of a run: 3 for an unknown name, if nothing else is reported
+abbrev pub named_status : Bool → ℕ → ℕ
+named_status known status = if known then status else (if status == 0 then 3 else status)
+
+abbrev pub EndsNamed : Machine → RunRequest → ℕ → Type 0
+EndsNamed machine scene status =
+    (list : Listed) × IsListOf machine list × ((ran : ℕ) × EndsOn machine scene ran × (status ≡ named_status (is_known scene.name list) ran))
+
+-- on the machine of the list that is chosen
+abbrev pub EndsChosen : Option (Bor (List ℕ)) → RunRequest → ℕ → Type 0
+EndsChosen named scene status = (machine : Machine) × IsMachineFor named scene.scenario.now machine × EndsNamed machine scene status
+
+-- ---- commands
+
+-- a run is of a scenario with these settings, of such a view, of a name if one is given, and strict or not
+abbrev pub IsRunOf : List ℕ → Settings → (RunView → Type 0) → Option (List ℕ) → Bool → RunRequest → Type 0
+IsRunOf scenario settings IsView name strict scene =
+    (scene.scenario.now ≡ scenario) × (scene.settings ≡ settings) × IsView scene.viewing × (option_copied scene.name ≡ name) × (scene.strict ≡ strict)
+
+-- a command ends with the status of such a run
+abbrev pub EndsRun : Option (Bor (List ℕ)) → (RunRequest → Type 0) → ℕ → Type 0
+EndsRun named IsRun status = EndsAs (λ ended. (scene : RunRequest) × IsRun scene × EndsChosen named scene ended) status
+
+-- the views of the commands
+abbrev pub IsTranscript : Option (List ℕ) → RunView → Type 0
+IsTranscript only (Run options coloring) = option_copied options.only ≡ only
+IsTranscript only (Trace json) = ⊥
+IsTranscript only (Accounts form) = ⊥
+IsTranscript only (Alone name) = ⊥
+
+abbrev pub IsTrace : RunView → Type 0
+IsTrace (Run options coloring) = ⊥
+IsTrace (Trace json) = ⊤
+IsTrace (Accounts form) = ⊥
+IsTrace (Alone name) = ⊥
+
+abbrev pub IsAccountView : RunView → Type 0
+IsAccountView (Run options coloring) = ⊥
+IsAccountView (Trace json) = ⊥
+IsAccountView (Accounts form) = ⊤
+IsAccountView (Alone name) = ⊥
+
+abbrev pub IsAloneView : List ℕ → RunView → Type 0
+IsAloneView named (Run options coloring) = ⊥
+IsAloneView named (Trace json) = ⊥
+IsAloneView named (Accounts form) = ⊥
+IsAloneView named (Alone name) = name.now ≡ named
+
+abbrev pub RunEnds : RunOptions → Settings → ℕ → Type 0
+RunEnds asked settings status =
+    let only = option_copied asked.only in
+    EndsRun asked.machine (IsRunOf asked.scenario.now settings (IsTranscript only) only asked.strict) status
+
+abbrev pub TraceEnds : TraceOptions → Settings → ℕ → Type 0
+TraceEnds asked settings status = EndsRun asked.machine (IsRunOf asked.scenario.now settings IsTrace None false) status
+
+abbrev pub AccountsEnd : AccountsOptions → Settings → ℕ → Type 0
+AccountsEnd asked settings status = EndsRun asked.machine (IsRunOf asked.scenario.now settings IsAccountView None false) status
+
+abbrev pub AloneEnds : AloneOptions → List ℕ → Settings → ℕ → Type 0
+AloneEnds asked scenario settings status =
+    let name = asked.name.now in
+    EndsRun asked.machine (IsRunOf scenario settings (IsAloneView name) (Some name) false) status
+
+-- ---- all scripts alone
+
+-- a line of a text has an error in a run from there on
+abbrev pub has_error : RunStart → List ℕ → Bool
+has_error start text = nat_lt 0 (errors_of start.only start.world start.awaited (steps_from start (lines_of text)))
+
+-- the status of a comparison: 1 for a fault of the run, 3 if a line has an error or the script has another reply alone
+abbrev pub comparison_status : AloneComparison → ℕ
+comparison_status compared =
+    if is_some compared.ending.fault then 1
+    else (if nat_lt 0 compared.ending.complaints || is_some compared.difference then 3 else 0)
+
+-- without a fault: 3 exactly if a line has an error, since no script has another reply alone
+abbrev pub lines_status : Listed → Settings → UnfoldedText → ℕ
+lines_status list settings lines = if has_error (start_on None (start_by settings lines.marks) list) lines.text then 3 else 0
+
+-- a machine without scripts has nothing to compare
+abbrev pub compared_status : List ListedEntry → ℕ → ℕ
+compared_status entries status = if list_any (λ entry. runs_script entry.binary) entries then status else 0
+
+abbrev pub EndsCompared : Settings → Machine → UnfoldedText → ℕ → Type 0
+EndsCompared settings machine lines status =
+    (list : Listed) × IsListOf machine list × (status ≡ compared_status list.entries (lines_status list settings lines))
+
+abbrev pub AllAloneEnd : AloneOptions → Settings → ℕ → Type 0
+AllAloneEnd asked settings status =
+    EndsOnText asked.machine asked.name.now settings (λ machine text lines ended. EndsCompared settings machine lines ended) status
+
+-- ---- a recording
+
+-- 3 exactly if a line can't be parsed
+abbrev pub unread_status : ℕ → ℕ
+unread_status lines = if nat_lt 0 lines then 3 else 0
+
+-- or if there is a warning, with `--strict`
+abbrev pub recorded_status : Listed → Settings → Bool → List ℕ → UnfoldedText → ℕ
+recorded_status list settings strict text lines =
+    warned strict (length (advice_of None list text))
+    (unread_status (length (unread_lines (world_of list) (start_by settings lines.marks) lines.text)))
+
+abbrev pub EndsRecorded : Settings → Bool → Machine → List ℕ → UnfoldedText → ℕ → Type 0
+EndsRecorded settings strict machine text lines status =
+    (list : Listed) × IsListOf machine list × (status ≡ recorded_status list settings strict text lines)
+
+abbrev pub RecordEnds : RecordOptions → Settings → ℕ → Type 0
+RecordEnds asked settings status = EndsOnText asked.machine asked.scenario.now settings (EndsRecorded settings asked.strict) status
