@@ -1,6 +1,7 @@
 pub mod Given
 pub mod ListFaults
 pub mod MachineChoice
+pub mod MachineTexts
 pub mod Origins
 pub mod Paths
 pub mod PolicyVerdict

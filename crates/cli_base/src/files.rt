@@ -1,5 +1,6 @@
 //! Files by their paths, and standard input by `-`.
-ghost use Rattle.std.specs.Prelude.{◌≡◌, ◌⊎◌, IfErr};
+ghost use Rattle.std.specs.Prelude.{◌≡◌, ◌⊎◌, IfErr, IfOk, IfSome};
+ghost use Rattle.cli_base.specs.MachineTexts.{IsFilled};
 
 use crate::lines::LineStarts;
 use crate::list_fault::{ListFaultMessage, fault_spot};
@@ -227,7 +228,9 @@ fn placed_fault(rt: &HostRuntime, text: &[u8], fault: BootFault) -> ListFault {
 }
 
 /// Reads a start list and fills in the values of its names. If that fails, prints why and returns none.
-pub fn start_list(rt: &HostRuntime, path: &str, settings: Settings<'_>) -> Option<Vec<u8>> {
+pub fn start_list(rt: &HostRuntime, path: &str, settings: Settings<'_>) -> Option<Vec<u8>>
+    ensures { IfSome result (λ text. IsFilled settings.entry text.items) }
+{
     match filled_list(rt, path, settings) {
         Ok(text) => Some(text),
         Err(fault) => {
@@ -243,7 +246,9 @@ pub(crate) fn filled_list<'a>(
     rt: &HostRuntime,
     path: &'a str,
     settings: Settings<'_>,
-) -> Result<Vec<u8>, StartListFailure<'a>> {
+) -> Result<Vec<u8>, StartListFailure<'a>>
+    ensures { IfOk result (λ text. IsFilled settings.entry text.items) }
+{
     match fill_file(rt, path, settings) {
         Ok(text) => Ok(text),
         Err(why) => Err(StartListFailure { path, why }),
@@ -255,7 +260,9 @@ fn fill_file(
     rt: &HostRuntime,
     path: &str,
     settings: Settings<'_>,
-) -> Result<Vec<u8>, ListFailureKind> {
+) -> Result<Vec<u8>, ListFailureKind>
+    ensures { IfOk result (λ text. IsFilled settings.entry text.items) }
+{
     let text = match read_list(rt, path) {
         Ok(text) => text,
         Err(why) => return Err(ListFailureKind::ReadFailure(why)),

@@ -46,6 +46,7 @@ impl<'a> Machine<'a> {
     ghost use Rattle.std.specs.Prelude.{◌≡◌, IfErr, IfOk, Ok};
     ghost use Rattle.std.specs.Option.{option_copied};
     ghost use Rattle.list_parser.specs.StartText.{list_in};
+    ghost use Rattle.cli_base.specs.MachineTexts.{IsTextFor};
     ghost use Rattle.cli_base.specs.Texts.{bytes_of};
 
     /// Reads the machine of a start list's path, or the built-in machine if there is no path. Returns why the list can't be read
@@ -55,7 +56,9 @@ impl<'a> Machine<'a> {
         path: Option<&'a str>,
         settings: Settings<'_>,
     ) -> Result<Machine<'a>, StartListFailure<'a>>
-        ensures { IfOk result (λ machine. option_copied machine.path ≡ option_copied path.entry) }
+        ensures named { IfOk result (λ machine. option_copied machine.path ≡ option_copied path.entry) }
+        ensures text { IfOk result (λ machine.
+            IsTextFor MACHINE_A.now settings.entry path.entry machine.text) }
     {
         let Some(file) = path else {
             return Machine::of_text(rt, None, MachineText::BuiltIn(MACHINE_A));
@@ -72,7 +75,8 @@ impl<'a> Machine<'a> {
         path: Option<&'a str>,
         text: MachineText,
     ) -> Result<Machine<'a>, StartListFailure<'a>>
-        ensures { IfOk result (λ machine. option_copied machine.path ≡ option_copied path.entry) }
+        ensures named { IfOk result (λ machine. option_copied machine.path ≡ option_copied path.entry) }
+        ensures text { IfOk result (λ machine. machine.text ≡ text) }
     {
         match StartList::read(rt.alloc(), text.bytes()) {
             Ok(list) => Ok(Machine { path, text, list }),
@@ -87,6 +91,8 @@ impl<'a> Machine<'a> {
         settings: Settings<'_>,
     ) -> Result<Machine<'a>, u8>
         ensures named { IfOk result (λ machine. option_copied machine.path ≡ option_copied path.entry) }
+        ensures text { IfOk result (λ machine.
+            IsTextFor MACHINE_A.now settings.entry path.entry machine.text) }
         ensures failed { IfErr result (λ status. status ≡ 2) }
     {
         match Machine::find(rt, path, settings) {
