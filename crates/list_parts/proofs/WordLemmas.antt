@@ -17,7 +17,7 @@ use Rattle.list_parser.specs.View.{word_by}
 use Rattle.list_parser.specs.declared.fault.BootFault.{BootFault}
 use Rattle.list_parts.specs.Kinds.{binary_word}
 
-text_of : Result BinaryWord BootFault → List ℕ
+abbrev text_of : Result BinaryWord BootFault → List ℕ
 text_of (Ok (Known binary)) = binary_word binary
 text_of (Ok Declares) = codes "server"
 text_of (Err fault) = []
