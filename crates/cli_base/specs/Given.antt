@@ -1,8 +1,9 @@
 -- The values that arguments of `--set` give to names.
 use Rattle.std.specs.Prelude.{ℕ, ◌+◌, ◌==◌, List, [], ◌∷◌, take, drop, position, Option}
 use Rattle.std.specs.Borrow.{Bor}
-use Rattle.std.specs.Option.{option_map, option_map_or}
-use Rattle.line_names.specs.NameTable.{NameTable, with_given}
+use Rattle.std.specs.Option.{option_copied, option_map, option_map_or, unwrap_or}
+use Rattle.line_names.specs.NameTable.{NameTable, nothing, with_given}
+use Rattle.cli_base.specs.declared.settings.Settings.{Settings}
 
 -- the place of an argument's first `=`
 abbrev pub equals_in : List ℕ → Option ℕ
@@ -22,3 +23,7 @@ given_by known argument = option_map_or (λ value. with_given known (name_in arg
 abbrev pub given_by_all : NameTable → List (Bor (List ℕ)) → NameTable
 given_by_all known [] = known
 given_by_all known (argument ∷ arguments) = given_by_all (given_by known argument.now) arguments
+
+-- the values that a command line gives to names
+abbrev pub names_of : Settings → NameTable
+names_of settings = unwrap_or (option_copied settings.known) nothing

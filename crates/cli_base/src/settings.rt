@@ -4,7 +4,7 @@ ghost use Rattle.std.specs.Option.{option_copied};
 ghost use Rattle.line_names.specs.NameTable.{nothing};
 ghost use Rattle.line_steps.specs.RunPosition.{first_position};
 ghost use Rattle.cli_base.specs.Given.{given_by, given_by_all, name_in, value_in};
-ghost use Rattle.cli_base.specs.Unfolding.{names_of};
+ghost use Rattle.cli_base.specs.Given.{names_of};
 
 use crate::reports::{Spot, report_error};
 use crate::status::{REFUSED, made_or_status};

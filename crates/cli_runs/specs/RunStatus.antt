@@ -14,7 +14,7 @@ use Rattle.run_scenario.specs.declared.scenario_input.ScenarioInput.{ScenarioInp
 use Rattle.own_model.specs.Listed.{Listed}
 use Rattle.list_parser.specs.StartText.{list_in}
 use Rattle.cli_base.specs.Texts.{bytes_of}
-use Rattle.cli_base.specs.Unfolding.{names_of}
+use Rattle.cli_base.specs.Given.{names_of}
 use Rattle.cli_base.specs.declared.machine.Machine.{Machine}
 use Rattle.cli_base.specs.declared.settings.Settings.{Settings}
 use Rattle.cli_runs.specs.RunEnd.{end_status}

@@ -15,7 +15,7 @@ use Rattle.cli_options.specs.declared.command_options.DiffOptions.{DiffOptions}
 use Rattle.line_names.specs.NameTable.{nothing}
 use Rattle.cli_base.specs.Given.{given_by_all}
 use Rattle.cli_base.specs.Statuses.{EndsAs, IsZero}
-use Rattle.cli_base.specs.Unfolding.{names_of}
+use Rattle.cli_base.specs.Given.{names_of}
 use Rattle.cli_base.specs.declared.settings.Settings.{Settings}
 use Rattle.cli_budgets.specs.BudgetStatus.{BudgetsEnd}
 use Rattle.cli_lists.specs.Comparison.{EndsBy, ListsDiffer}
