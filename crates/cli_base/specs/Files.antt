@@ -1,5 +1,5 @@
 -- The texts of files, as far as they are known.
-use Rattle.std.specs.Prelude.{◌≡◌, ℕ, ◌⊎◌, List, take, true, is_err, is_some, Option, Some, None, IfSome, Result, Ok, Err, ⊤}
+use Rattle.std.specs.Prelude.{◌≡◌, ◌<◌, ℕ, List, length, take, true, is_err, is_some, Option, Some, None, IfSome, Result, Ok, Err, ⊤}
 use Rattle.line_names.specs.Lists.{filled}
 use Rattle.line_names.specs.declared.list_filling.UnknownName.{UnknownName}
 use Rattle.list_faults.specs.Places.{fault_of}
@@ -27,6 +27,10 @@ IsFrontAt texts path text = IfSome (texts path) (λ bytes. text ≡ front bytes)
 -- no text of a file is known
 abbrev pub IsUnknown : (List ℕ → Option (List ℕ)) → List ℕ → Type 0
 IsUnknown texts path = texts path ≡ None
+
+-- a file has more bytes than a scenario that is read whole, as far as it is known
+abbrev pub IsTooLong : (List ℕ → Option (List ℕ)) → List ℕ → Type 0
+IsTooLong texts path = IfSome (texts path) (λ bytes. 67108864 < length bytes)
 
 -- ---- start lists
 

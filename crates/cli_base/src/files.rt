@@ -1,12 +1,13 @@
 //! Lists, policies and scenarios, read from their files.
-ghost use Rattle.std.specs.Prelude.{◌≡◌, ◌⊎◌, ◌≤◌, IfErr, IfOk, IfSome, length};
-ghost use Rattle.cli_base.specs.Files.{IsFrontAt, IsTextAt, IsUnknown};
+ghost use Rattle.std.specs.Prelude.{◌≡◌, ◌⊎◌, IfErr, IfNone, IfOk, IfSome};
+ghost use Rattle.cli_base.specs.Files.{IsFrontAt, IsTextAt, IsTooLong, IsUnknown};
 ghost use Rattle.cli_base.specs.declared.host.ReadFailure.TheVariants.{NoMemory as NoRoom};
 
 use crate::host::{Host, ReadFailure};
 use crate::reports::{Spot, SystemReason, report_error};
 use crate::status::{OUT_OF_MEMORY, REFUSED, UNWRITTEN};
 use cli_engine::LONGEST_CONFIG_READ;
+use std::alloc::AllocError;
 use std::fmt;
 use view_diagnostics::DiagnosticForm;
 
@@ -59,15 +60,18 @@ pub fn read_list<H: Host>(host: &H, path: &str) -> Result<Vec<u8>, ReadFailure>
     host.read(path, Some(LONGEST_CONFIG_READ))
 }
 
-/// Reads the text of a scenario's file. Returns none if the file can't be read to its end or has more than 64 MiB.
-pub fn read_whole<H: Host>(host: &H, path: &str) -> Option<Vec<u8>>
-    ensures { IfSome result (λ text. IsTextAt (H.text_at host.now) path.now text.items) }
+/// Reads the text of a scenario's file. Returns none if the file can't be read to its end or has more than 64 MiB. The error is out
+/// of memory.
+pub fn read_whole<H: Host>(host: &H, path: &str) -> Result<Option<Vec<u8>>, AllocError>
+    ensures text { IfOk result (λ found. IfSome found (λ text.
+        IsTextAt (H.text_at host.now) path.now text.items)) }
+    ensures unread { IfOk result (λ found. IfNone found (IsTooLong (H.text_at host.now) path.now)) }
 {
-    let text = host.read(path, Some(LONGEST_WHOLE + 1)).ok()?;
-    if text.len() > LONGEST_WHOLE {
-        None
-    } else {
-        Some(text)
+    match host.read(path, Some(LONGEST_WHOLE + 1)) {
+        Ok(text) if text.len() > LONGEST_WHOLE => Ok(None),
+        Ok(text) => Ok(Some(text)),
+        Err(ReadFailure::NoMemory) => Err(AllocError),
+        Err(ReadFailure::Closed(_) | ReadFailure::Broken) => Ok(None),
     }
 }
 

@@ -1,5 +1,5 @@
 //! The host of a command: its streams, clock and memory, and the files that the command reads.
-ghost use Rattle.std.specs.Prelude.{◌≡◌, ℕ, List, Option, Some, None, Ok, IfErr, IfOk, IfSome, is_ok, true};
+ghost use Rattle.std.specs.Prelude.{◌≡◌, ℕ, List, Option, Some, None, Ok, IfErr, IfOk, IfSome, false, is_ok, true};
 ghost use Rattle.std.specs.Option.{option_copied};
 ghost use Rattle.cli_base.specs.Files.{front_of};
 ghost use Rattle.cli_base.specs.declared.host.ReadFailure.TheVariants.{NoMemory as NoRoom};
@@ -57,6 +57,10 @@ pub trait Host {
         ensures bytes { IfOk result (λ file. IfSome (text_at self.now path.now) (λ bytes.
             Self.File.remaining file ≡ Some bytes)) };
 
+    /// Returns whether the path is that of a folder, or the operating system's error if there is no such file or folder.
+    fn is_folder(&self, path: &str) -> io::Result<bool>
+        ensures { IfSome (text_at self.now path.now) (λ _. result ≡ Ok false) };
+
     /// Returns whether there is a file at a path, or the operating system's error if that isn't known.
     fn exists(&self, path: &str) -> io::Result<bool>
         ensures { IfSome (text_at self.now path.now) (λ _. result ≡ Ok true) };
@@ -83,6 +87,10 @@ impl Host for HostRuntime {
 
     fn open(&self, path: &str) -> io::Result<File> {
         fs::open(self, path)
+    }
+
+    fn is_folder(&self, path: &str) -> io::Result<bool> {
+        Ok(fs::metadata(self, path)?.is_dir())
     }
 
     fn exists(&self, path: &str) -> io::Result<bool> {

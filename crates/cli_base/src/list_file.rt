@@ -81,7 +81,7 @@ impl<'a> StartListFailure<'a> {
     }
 
     /// Returns the exit status: 1 if the host is out of memory, and else 2.
-    pub(crate) fn exit_status(&self) -> u8
+    pub fn exit_status(&self) -> u8
         ensures { result ≡ (if lacks_memory self.now then 1 else 2) }
     {
         if self.why.lacks_memory() {
