@@ -10,7 +10,7 @@ use crate::list_file::{StartListFailure, filled_list};
 use crate::reports::{Spot, report_error};
 use crate::settings::Settings;
 use crate::status::boot_status;
-use init_core::{BootFault, MACHINE_A, StartList};
+use init_core::{BootFault, MACHINE_A, StartList, machine_a_is_read};
 use list_review::Review;
 use view_diagnostics::DiagnosticForm;
 
@@ -65,6 +65,7 @@ impl<'a> Machine<'a> {
             → LacksList (H.text_at host.now) settings.entry (option_copied path.entry)) }
     {
         let Some(file) = path else {
+            machine_a_is_read();
             return Machine::of_text(host.rt(), None, MachineText::BuiltIn(MACHINE_A));
         };
         match filled_list(host, file, settings) {
