@@ -1,3 +1,5 @@
 pub mod CommandStatus
+pub mod LongFiles
 pub mod RunEnd
 pub mod RunStatus
+pub mod UnreadReports
