@@ -1,5 +1,6 @@
 //! The coverage of the scenarios that are run as tests.
-use cli_base::{Machine, Spot, report_error};
+use crate::scenario_run::TestCase;
+use cli_base::{Spot, report_error};
 use cli_options::TestOptions;
 use run_exchanges::Exchange;
 use std::alloc::AllocError;
@@ -41,7 +42,7 @@ impl CoveragePrinter {
     }
 
     /// Returns whether the command line asks for coverage, as text or as a document.
-    pub(crate) fn are_wanted(&self) -> bool {
+    pub(crate) fn are_asked(&self) -> bool {
         self.report.is_some()
     }
 
@@ -50,25 +51,24 @@ impl CoveragePrinter {
         self.json && self.report.is_some()
     }
 
-    /// Adds the coverage of a scenario on a machine, by its calls with their replies. A scenario whose machine doesn't boot has
+    /// Adds the coverage of a scenario on its machine, by its calls with their replies. A scenario whose machine doesn't boot has
     /// no coverage: it fails as a test. The error is out of memory.
     pub(crate) fn add(
         &mut self,
         rt: &HostRuntime,
-        machine: &Machine<'_>,
-        scenario: &str,
+        case: TestCase<'_>,
         exchanges: &[Exchange],
     ) -> Result<(), AllocError> {
         let Some(report) = &mut self.report else {
             return Ok(());
         };
-        let coverage = cover(rt.alloc(), machine.list(), exchanges)?;
-        let name = machine.path().unwrap_or(BUILT_IN);
-        report.add(machine.list(), name, scenario, coverage)
+        let coverage = cover(rt.alloc(), case.list, exchanges)?;
+        let name = case.machine.path().unwrap_or(BUILT_IN);
+        report.add(case.list, name, case.scenario, coverage)
     }
 
     /// Prints the coverage as lines of comments, or as a document. Returns the error of a write that fails.
-    pub(crate) fn tell(&self, rt: &HostRuntime) -> io::Result<()> {
+    pub(crate) fn print(&self, rt: &HostRuntime) -> io::Result<()> {
         let alloc = rt.alloc();
         let Some(report) = &self.report else {
             return Ok(());
