@@ -35,16 +35,15 @@ AreResults texts asked settings tests trials = AllZip (λ test trial. IsResultOf
 
 -- ---- coverage
 
--- fewer rules and session requests than so many percent are covered
-abbrev pub is_short_by : Option CoverageReport → Option ℕ → Bool
-is_short_by (Some report) (Some percent) =
+-- fewer rules and session requests than so many percent are covered, if a percentage is asked for
+abbrev pub is_short_by : CoverageReport → Option ℕ → Bool
+is_short_by report None = false
+is_short_by report (Some percent) =
     falls_short percent (count_by (is_covered report.sheets.items) report.parts.items) (length report.parts.items)
-is_short_by (Some report) None = false
-is_short_by None percent = false
 
 -- less is covered than this threshold asks for, by a coverage of the scenarios
 abbrev pub IsShortBy : Option ℕ → Bool → Type 0
-IsShortBy threshold short = (report : Option CoverageReport) × (short ≡ is_short_by report threshold)
+IsShortBy threshold short = (report : CoverageReport) × (short ≡ is_short_by report threshold)
 
 -- a number from 0 to 100, by its text
 abbrev pub IsPercentage : List ℕ → ℕ → Type 0

@@ -28,13 +28,23 @@ pub(crate) enum SearchFailure<'a> {
 }
 
 impl<'a> From<AllocError> for SearchFailure<'a> {
-    fn from(_want: AllocError) -> SearchFailure<'a> {
+    ghost use Rattle.std.specs.Prelude.{◌≡◌};
+    ghost use Rattle.cli_tests.specs.declared.file_search.SearchFailure.TheVariants.{NoMemory};
+
+    ghost from_gives = { λ _ failure. failure ≡ NoMemory };
+
+    fn from(_fault: AllocError) -> SearchFailure<'a> {
         SearchFailure::NoMemory
     }
 }
 
 impl<'a, T: Drop> From<AllocFailed<T>> for SearchFailure<'a> {
-    fn from(_want: AllocFailed<T>) -> SearchFailure<'a> {
+    ghost use Rattle.std.specs.Prelude.{◌≡◌};
+    ghost use Rattle.cli_tests.specs.declared.file_search.SearchFailure.TheVariants.{NoMemory};
+
+    ghost from_gives = { λ _ failure. failure ≡ NoMemory };
+
+    fn from(_fault: AllocFailed<T>) -> SearchFailure<'a> {
         SearchFailure::NoMemory
     }
 }
@@ -45,7 +55,7 @@ impl SearchFailure<'_> {
 
     /// Prints the reason, and returns the exit status: 2, or 1 if the host is out of memory.
     pub(crate) fn report(self, rt: &HostRuntime, form: DiagnosticForm) -> u8
-        ensures { result ≡ (if search_lacks_memory self then 1 else 2) }
+        ensures { result ≡ (if search_lacks_memory self.entry then 1 else 2) }
     {
         match self {
             SearchFailure::Unreadable(path, error) => {

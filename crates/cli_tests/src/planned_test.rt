@@ -106,10 +106,7 @@ fn add_file(
 }
 
 // Adds the test of a policy, if there is one.
-fn add_policy_if_any(
-    tests: &mut Vec<PlannedTest>,
-    policy: Option<String>,
-) -> Result<(), AllocError>
+fn add_policy_if_any(tests: &mut Vec<PlannedTest>, policy: Option<String>) -> Result<(), AllocError>
     ensures { OnOk result (tests.new.items ≡ with_policy_beside tests.old.items policy) }
 {
     match policy {

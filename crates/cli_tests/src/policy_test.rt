@@ -1,8 +1,7 @@
 //! Start lists that are checked against the policies next to them as tests.
 ghost use Rattle.std.specs.Prelude.{false, ◌≡◌, IfOk};
-ghost use Rattle.cli_base.specs.ListFailures.{lacks_memory};
+ghost use Rattle.cli_base.specs.ListFailures.{boot_lacks_memory, lacks_memory};
 ghost use Rattle.cli_base.specs.Texts.{bytes_of};
-ghost use Rattle.list_parser.specs.declared.fault.BootFault.TheVariants.{NoMemory as NoRoom};
 ghost use Rattle.cli_tests.specs.PolicyTest.{IsKeptBy, IsListResult, IsPolicyResult, is_kept};
 
 use crate::scenario_test::lacks_memory;
@@ -82,7 +81,7 @@ fn unbooted(
     machine: &Machine<'_>,
     fault: &ListFault,
 ) -> Result<TestResult, AllocError>
-    ensures memory { fault.now.fault ≡ NoRoom → is_err result ≡ true }
+    ensures memory { IfOk result (λ test. boot_lacks_memory fault.now.fault ≡ false) }
     ensures failed { IfOk result (λ test. test.passed ≡ false) }
 {
     if matches!(&fault.fault, BootFault::NoMemory) {

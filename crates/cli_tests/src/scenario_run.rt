@@ -92,10 +92,10 @@ fn lacks_memory(ended: &Result<ScenarioEnd, BootFault>) -> bool
 fn fault_lacks_memory(fault: Option<LineRunFault>) -> bool
     ensures { result ≡ fault_lacks_memory fault }
 {
-    matches!(
-        fault,
-        Some(LineRunFault::WriteFault | LineRunFault::NoMemory)
-    )
+    match fault {
+        Some(LineRunFault::WriteFault | LineRunFault::NoMemory) => true,
+        Some(LineRunFault::ReadFault | LineRunFault::TooManyLines) | None => false,
+    }
 }
 
 /// Runs the lines of a source with these round marks as a test. Adds the coverage if that is asked for. The error is out of memory.
@@ -146,7 +146,13 @@ fn run_lines<F: Read + Drop>(
         );
         return TestRun::new(ended, text_of(rt, complaints));
     }
-    match answers(rt.alloc(), input, &mut reader, &mut nowhere, &mut complaints) {
+    match answers(
+        rt.alloc(),
+        input,
+        &mut reader,
+        &mut nowhere,
+        &mut complaints,
+    ) {
         Ok(answered) => {
             let exchanges = answered.exchanges.as_slice();
             coverings.add(rt, case, exchanges)?;

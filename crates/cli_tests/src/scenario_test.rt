@@ -1,5 +1,5 @@
 //! Scenarios that are run as tests, each on its machine.
-ghost use Rattle.std.specs.Prelude.{◌≡◌, ◌≤◌, ◌&&◌, not, length, MatchOption, MatchResult, IfOk};
+ghost use Rattle.std.specs.Prelude.{◌≡◌, ◌≤◌, ◌&&◌, false, not, length, MatchOption, IfOk};
 ghost use Rattle.std.specs.Option.{option_copied};
 ghost use Rattle.line_rounds.specs.Views.{whole_view};
 ghost use Rattle.cli_base.specs.Files.{IsTextAt};
@@ -40,8 +40,8 @@ pub(crate) fn test_scenario<H: Host>(
     conditions: TestConditions<'_>,
     coverings: &mut CoveragePrinter,
 ) -> Result<TestResult, AllocError>
-    requires { IsFound (H.text_at host.now) conditions.entry.settings
-        (option_copied conditions.entry.asked.now.machine) conditions.entry.other.now }
+    requires { IsFound (H.text_at host.now) conditions.settings
+        (option_copied conditions.asked.now.machine) conditions.other.now }
     ensures { IfOk result (λ test. IsScenarioResult (H.text_at host.now) conditions.entry.asked.now.strict
         conditions.entry.settings (option_copied conditions.entry.asked.now.machine) scenario.now test.passed) }
 {
@@ -121,9 +121,14 @@ fn whole_text<H: Host>(host: &H, path: &str) -> Result<Option<Vec<u8>>, AllocErr
         (λ text. IsTextAt (H.text_at host.now) path.now text.items × (length text.items ≤ LONGEST_WHOLE))) }
 {
     match host.read(path, Some(LONGEST_WHOLE + 1)) {
-        Ok(text) if text.len() <= LONGEST_WHOLE => Ok(Some(text)),
+        Ok(text) => {
+            if LONGEST_WHOLE < text.len() {
+                return Ok(None);
+            }
+            Ok(Some(text))
+        }
         Err(ReadFailure::NoMemory) => Err(AllocError),
-        _ => Ok(None),
+        Err(_) => Ok(None),
     }
 }
 

@@ -12,8 +12,8 @@ use crate::planned_test::{PlannedTest, planned_tests, select_tests};
 use crate::policy_test::test_policy;
 use crate::scenario_test::{TestConditions, test_scenario};
 use cli_base::{
-    Host, Machine, REFUSED, Settings, Spot, UNWRITTEN, report_error, report_write_failure, status_of,
-    write_file,
+    Host, Machine, REFUSED, Settings, Spot, UNWRITTEN, report_error, report_write_failure,
+    status_of, write_file,
 };
 use cli_options::TestOptions;
 use std::alloc::AllocError;
@@ -101,7 +101,12 @@ fn run_selected<H: Host>(host: &H, tests: &[PlannedTest], options: TestSettings<
         options.entry.threshold tests.now) result }
 {
     match run_all(host, tests, options) {
-        Ok(outcome) => end(host.rt(), options.settings.form, &outcome, options.asked.junit),
+        Ok(outcome) => end(
+            host.rt(),
+            options.settings.form,
+            &outcome,
+            options.asked.junit,
+        ),
         Err(error) => status_of(host.rt(), Err(error)),
     }
 }
@@ -115,7 +120,7 @@ fn threshold_in(
 ) -> Result<Option<u8>, u8>
     ensures ok { IfOk result (AsksFor text.entry) }
     ensures err { IfErr result (λ status. status ≡ 2) }
-    ensures refused { OnErr result (IsSomeAnd text.entry (λ text. IsNoPercentage text.now)) }
+    ensures refused { OnErr result (IsSomeAnd text.entry (λ given. IsNoPercentage given.now)) }
 {
     let Some(text) = text else {
         return Ok(None);
@@ -132,8 +137,8 @@ fn percent_of(text: &str) -> Option<u8>
     ensures none { IfNone result (IsNoPercentage text.now) }
 {
     match text.parse::<u8>() {
-        Ok(percent) if percent <= 100 => Some(percent),
-        _ => None,
+        Ok(percent) => { if percent <= 100 { Some(percent) } else { None } }
+        Err(_) => None,
     }
 }
 
@@ -224,8 +229,8 @@ fn run_each<H: Host>(
     printer: TestPrinter,
     coverings: &mut CoveragePrinter,
 ) -> io::Result<Vec<TimedResult>>
-    requires { IsFound (H.text_at host.now) conditions.entry.settings
-        (option_copied conditions.entry.asked.now.machine) conditions.entry.other.now }
+    requires { IsFound (H.text_at host.now) conditions.settings
+        (option_copied conditions.asked.now.machine) conditions.other.now }
     ensures { IfOk result (λ trials. AreResults (H.text_at host.now) conditions.entry.asked.now
         conditions.entry.settings tests.now trials.items) }
 {
@@ -246,8 +251,8 @@ fn run_timed<H: Host>(
     conditions: TestConditions<'_>,
     coverings: &mut CoveragePrinter,
 ) -> io::Result<TimedResult>
-    requires { IsFound (H.text_at host.now) conditions.entry.settings
-        (option_copied conditions.entry.asked.now.machine) conditions.entry.other.now }
+    requires { IsFound (H.text_at host.now) conditions.settings
+        (option_copied conditions.asked.now.machine) conditions.other.now }
     ensures { IfOk result (λ trial. IsResultOf (H.text_at host.now) conditions.entry.asked.now
         conditions.entry.settings test.now trial.result.passed) }
 {
@@ -267,8 +272,8 @@ fn run_test<H: Host>(
     conditions: TestConditions<'_>,
     coverings: &mut CoveragePrinter,
 ) -> Result<TestResult, AllocError>
-    requires { IsFound (H.text_at host.now) conditions.entry.settings
-        (option_copied conditions.entry.asked.now.machine) conditions.entry.other.now }
+    requires { IsFound (H.text_at host.now) conditions.settings
+        (option_copied conditions.asked.now.machine) conditions.other.now }
     ensures { IfOk result (λ trial. IsResultOf (H.text_at host.now) conditions.entry.asked.now
         conditions.entry.settings test.now trial.passed) }
 {
