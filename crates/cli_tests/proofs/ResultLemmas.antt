@@ -12,6 +12,7 @@ use Rattle.cli_base.specs.Given.{names_of}
 use Rattle.cli_base.specs.ListFailures.{boot_lacks_memory, lacks_memory}
 use Rattle.cli_base.specs.MachineChoice.{list_beside}
 use Rattle.cli_base.specs.MachineTexts.{IsMachineOf}
+use Rattle.cli_base.specs.Texts.{bytes_of}
 use Rattle.cli_base.specs.Unfolding.{rounds_of}
 use Rattle.cli_base.specs.declared.list_file.StartListFailure.{StartListFailure}
 use Rattle.cli_base.specs.declared.machine.Machine.{Machine}
@@ -37,23 +38,21 @@ pub scenario_result : (texts : List ℕ → Option (List ℕ)) (strict : Bool) (
     (scenario : List ℕ) (passed : Bool) → IsListFor texts other scenario path → IsFound texts settings path found
     → IsMachineResult texts strict settings found scenario passed → IsScenarioResult texts strict settings other scenario passed
 scenario_result texts strict settings other path (Ok machine) scenario passed chosen is result =
-    (path, chosen, inr (result.0, (_, is.0.1, result.1), result.2))
+    (path, chosen, inr (result.0, (bytes_of machine.text, is.0.1, result.1), result.2))
 scenario_result texts strict settings other path (Err failure) scenario passed chosen is result = (path, chosen, inl (result.1, is.1 result.0))
 
 -- ---- a scenario's text
 
 -- rounds that don't unfold
-unfolding rounds_of
-
 pub folded_result : (strict : Bool) (settings : Settings) (list : Listed) (text : List ℕ) (fault : RoundsFault) (passed : Bool)
     → unfolded (names_of settings) text ≡ Err fault → passed ≡ false → IsTextResult strict settings list text passed
+unfolding rounds_of
 folded_result strict settings list text fault passed is failed = rw is failed
 
 -- rounds that unfold
-unfolding rounds_of
-
 pub unfolded_result : (strict : Bool) (settings : Settings) (list : Listed) (text : List ℕ) (lines : UnfoldedText) (passed : Bool)
     → unfolded (names_of settings) text ≡ Ok lines → IsUnfoldedResult strict settings list text lines passed → IsTextResult strict settings list text passed
+unfolding rounds_of
 unfolded_result strict settings list text lines passed is result = rw is result
 
 -- ---- a policy
