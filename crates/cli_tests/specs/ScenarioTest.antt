@@ -1,5 +1,5 @@
 -- The result of a scenario's test.
-use Rattle.std.specs.Prelude.{◌≡◌, ℕ, ◌<◌, ◌≤◌, ◌==◌, ◌&&◌, ◌⊎◌, Bool, false, true, not, nat_lt, List, [], length, MatchBool, MatchResult, IfErr, IfNone, IfOk, IfSome, Option, Some, None, Result, Ok, Err}
+use Rattle.std.specs.Prelude.{◌≡◌, ℕ, ◌==◌, ◌&&◌, ◌⊎◌, Bool, false, true, not, nat_lt, List, [], length, MatchBool, MatchResult, IfErr, IfNone, IfOk, IfSome, Option, Some, None, Result, Ok, Err}
 use Rattle.std.specs.List.{slice_split}
 use Rattle.own_model.specs.Listed.{Listed, start_list_of}
 use Rattle.own_model.specs.StartList.{Boots}
@@ -19,7 +19,7 @@ use Rattle.run_scenario.specs.Judging.{errors_of, nothing_awaited}
 use Rattle.run_scenario.specs.ScenarioEnd.{status_of}
 use Rattle.run_scenario.specs.Writes.{AreAll, steps_on}
 use Rattle.run_scenario.specs.declared.scenario_end.ScenarioEnd.{ScenarioEnd}
-use Rattle.cli_base.specs.Files.{IsTextAt, IsUnknown}
+use Rattle.cli_base.specs.Files.{IsTextAt, IsTooLong, IsUnknown}
 use Rattle.cli_base.specs.Given.{names_of}
 use Rattle.cli_base.specs.ListFailures.{boot_lacks_memory, lacks_memory}
 use Rattle.cli_base.specs.MachineChoice.{list_beside}
@@ -97,14 +97,6 @@ IsTextResult strict settings list text passed =
 
 -- ---- a file
 
--- the most bytes of a scenario whose rounds are unfolded: 64 MiB
-abbrev pub longest_whole : ℕ
-longest_whole = 67108864
-
--- a file is longer, as far as it is known
-abbrev pub IsLong : (List ℕ → Option (List ℕ)) → List ℕ → Type 0
-IsLong texts path = IfSome (texts path) (λ text. longest_whole < length text)
-
 -- a scenario that isn't read whole is run line by line, without warnings, which `--strict` asks for; one that isn't opened fails
 abbrev pub IsUnreadResult : (List ℕ → Option (List ℕ)) → Bool → Settings → Listed → List ℕ → Bool → Type 0
 IsUnreadResult texts strict settings list scenario passed =
@@ -114,8 +106,8 @@ IsUnreadResult texts strict settings list scenario passed =
 -- a scenario is tested on a list by the text of its file
 abbrev pub IsFileResult : (List ℕ → Option (List ℕ)) → Bool → Settings → Listed → List ℕ → Bool → Type 0
 IsFileResult texts strict settings list scenario passed =
-    ((text : List ℕ) × IsTextAt texts scenario text × (length text ≤ longest_whole) × IsTextResult strict settings list text passed)
-    ⊎ (IsLong texts scenario × IsUnreadResult texts strict settings list scenario passed)
+    ((text : List ℕ) × IsTextAt texts scenario text × IsTextResult strict settings list text passed)
+    ⊎ (IsTooLong texts scenario × IsUnreadResult texts strict settings list scenario passed)
 
 -- ---- the machine
 

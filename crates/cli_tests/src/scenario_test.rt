@@ -1,16 +1,15 @@
 //! Scenarios that are run as tests, each on its machine.
-ghost use Rattle.std.specs.Prelude.{◌≡◌, ◌≤◌, ◌&&◌, false, not, length, MatchOption, IfOk};
+ghost use Rattle.std.specs.Prelude.{◌≡◌, ◌&&◌, false, not, IfOk};
 ghost use Rattle.std.specs.Option.{option_copied};
 ghost use Rattle.line_rounds.specs.Views.{whole_view};
-ghost use Rattle.cli_base.specs.Files.{IsTextAt};
 ghost use Rattle.cli_base.specs.ListFailures.{lacks_memory};
-ghost use Rattle.cli_tests.specs.ScenarioTest.{IsFileResult, IsFound, IsLong, IsMachineResult, IsScenarioResult, IsTextResult, IsUnfoldedResult, IsUnreadResult, is_warned};
+ghost use Rattle.cli_tests.specs.ScenarioTest.{IsFileResult, IsFound, IsMachineResult, IsScenarioResult, IsTextResult, IsUnfoldedResult, IsUnreadResult, is_warned};
 
 use crate::coverage_printer::CoveragePrinter;
 use crate::scenario_run::{TestCase, failed, test_lines};
 use cli_base::{
-    Host, LONGEST_WHOLE, Machine, Origin, ReadFailure, Settings, Spot, StartListFailure, UNWRITTEN,
-    Warnings, error_line, machine_path, rounds_spot, rounds_token,
+    Host, Machine, Origin, ReadFailure, Settings, Spot, StartListFailure, UNWRITTEN, Warnings,
+    error_line, machine_path, read_whole, rounds_spot, rounds_token,
 };
 use cli_options::TestOptions;
 use line_rounds::{UnfoldError, UnfoldedText, unfold};
@@ -109,26 +108,9 @@ fn test_file<H: Host>(
     ensures { IfOk result (λ test. IsFileResult (H.text_at host.now) case.entry.strict case.entry.settings
         case.entry.list.now case.entry.scenario.now test.passed) }
 {
-    match whole_text(host, case.scenario)? {
+    match read_whole(host, case.scenario)? {
         Some(text) => test_text(host.rt(), case, &text, coverings),
         None => test_unread(host, case, coverings),
-    }
-}
-
-// Returns the text of a file, or none if it has more than 64 MiB or can't be read to its end. The error is out of memory.
-fn whole_text<H: Host>(host: &H, path: &str) -> Result<Option<Vec<u8>>, AllocError>
-    ensures { IfOk result (λ whole. MatchOption whole (IsLong (H.text_at host.now) path.now)
-        (λ text. IsTextAt (H.text_at host.now) path.now text.items × (length text.items ≤ LONGEST_WHOLE))) }
-{
-    match host.read(path, Some(LONGEST_WHOLE + 1)) {
-        Ok(text) => {
-            if LONGEST_WHOLE < text.len() {
-                return Ok(None);
-            }
-            Ok(Some(text))
-        }
-        Err(ReadFailure::NoMemory) => Err(AllocError),
-        Err(_) => Ok(None),
     }
 }
 
