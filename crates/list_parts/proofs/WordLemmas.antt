@@ -1,14 +1,11 @@
 -- The word of a binary is the one text that is read as it.
-use Rattle.std.proofs.Common.{◌≡◌, ◌∙◌, Bool, true, false, if◌then◌else◌, List, ℕ, [], codes, Result, Ok, Err, Option, Some, None, refl, sym, ap}
+use Rattle.std.proofs.Common.{◌≡◌, ◌∙◌, Bool, true, false, if◌then◌else◌, List, ℕ, [], codes, Result, Ok, Err, Some, None, refl, sym, ap}
 use Rattle.std.specs.Option.{option_map}
 use Rattle.std.specs.Str.{bytes_eq}
 use Rattle.std.proofs.lemmas.Slice.Eq.{bytes_eq-Decides}
-use Rattle.trade_base.specs.Service.{binary_name}
-use Rattle.trade_base.specs.declared.service.Service.{Service}
 use Rattle.trade_base.specs.declared.service.Service.TheVariants.{Log, Files}
 use Rattle.own_model.specs.Listed.{Binary}
 use Rattle.own_model.specs.Listed.Binary.{Script, Server, Init}
-use Rattle.own_model.specs.Offer.{Offer}
 use Rattle.own_model.specs.Offer.Offer.{OffersLog, OffersFiles, OffersObjects}
 use Rattle.list_parser.specs.BuiltIn.{built_in}
 use Rattle.list_parser.specs.Entries.{BinaryWord, value_or, word_of}
@@ -17,7 +14,7 @@ use Rattle.list_parser.specs.View.{word_by}
 use Rattle.list_parser.specs.declared.fault.BootFault.{BootFault}
 use Rattle.list_parts.specs.Kinds.{binary_word}
 
-text_of : Result BinaryWord BootFault → List ℕ
+abbrev text_of : Result BinaryWord BootFault → List ℕ
 text_of (Ok (Known binary)) = binary_word binary
 text_of (Ok Declares) = codes "server"
 text_of (Err fault) = []
