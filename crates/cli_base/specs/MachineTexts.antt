@@ -1,5 +1,5 @@
 -- The text of a machine's start list.
-use Rattle.std.specs.Prelude.{◌≡◌, ◌×◌, ℕ, List, Option, Some, None, Ok}
+use Rattle.std.specs.Prelude.{◌≡◌, ℕ, List, Option, Some, None, Ok}
 use Rattle.std.specs.Option.{option_copied}
 use Rattle.own_model.specs.MachineA.{machine_a}
 use Rattle.list_parser.specs.StartText.{list_in}

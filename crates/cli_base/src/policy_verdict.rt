@@ -1,5 +1,5 @@
 //! The check of a start list against a policy: each line of the policy that the list breaks, with its place.
-ghost use Rattle.std.specs.Prelude.{◌≡◌, ◌++◌, ◌≤◌, false, length, map, MatchOption, IfErr, IfOk, OnOk};
+ghost use Rattle.std.specs.Prelude.{◌≡◌, ◌++◌, ◌≤◌, false, List, length, map, MatchOption, IfErr, IfOk, OnOk};
 ghost use Rattle.list_policy.specs.Components.{fault_at};
 ghost use Rattle.list_policy.specs.Demand.{AreBreaches};
 ghost use Rattle.list_policy.specs.Line.{line_at};
