@@ -3,6 +3,7 @@ use Rattle.std.specs.Prelude.{◌≡◌, ℕ, List, if◌then◌else◌, Option}
 use Rattle.budget_least.specs.Report.{HasSmallestMachine, sum_of}
 use Rattle.budget_least.specs.WrittenList.{IsWritten}
 use Rattle.budget_least.specs.WrittenScenario.{scenario_of}
+use Rattle.budget_least.specs.declared.machine_size.MachineSize.{MachineSize}
 use Rattle.budget_least.specs.declared.report.BudgetReport.{BudgetReport}
 use Rattle.cli_options.specs.declared.command_options.LeastOptions.{LeastOptions}
 use Rattle.view_budgets.specs.Csv.{csv_text}

@@ -135,7 +135,8 @@ fn print_report(
     ensures { EndsAs ⊥ (λ status. status ≡ measured_status (length (unmeasured_of report.now))) result }
 {
     let status = report_unmeasured(rt, form, asked.scenario, report.unmeasured());
-    let printed = match rendered(rt.alloc(), BudgetFormat::asked(asked), report, machine, text) {
+    let format = BudgetFormat::asked(asked);
+    let printed = match rendered(rt.alloc(), format, report, machine, text) {
         Ok(text) => status_of(rt, io::writer(rt).write_all(text.as_slice())),
         Err(failure) => failure.report(rt),
     };

@@ -21,7 +21,7 @@ use Rattle.list_findings.specs.declared.finding.Finding.{Finding}
 use Rattle.list_findings.specs.declared.unused_budget.UnusedBudget.{UnusedBudget}
 use Rattle.list_policy.specs.Verdict.{MessageAt}
 use Rattle.list_review.specs.declared.review.Review.{Review}
-use Rattle.view_differences.specs.Listings.{Extends}
+use Rattle.view_json.specs.Listings.{Extends}
 use Rattle.cli_options.specs.declared.command_options.CheckOptions.{CheckOptions}
 use Rattle.cli_base.specs.ListFaults.{message_at}
 use Rattle.cli_base.specs.PolicyVerdict.{IsVerdictAt, note_message}

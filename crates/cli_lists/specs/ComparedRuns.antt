@@ -11,6 +11,7 @@ use Rattle.budget_least.specs.Report.{accounts_of, list_of}
 use Rattle.budget_least.specs.declared.report.BudgetReport.{BudgetReport}
 use Rattle.budget_search.specs.BudgetIntervals.{lowest_of}
 use Rattle.budget_search.specs.declared.account_budgets.AccountBudgets.{AccountBudgets}
+use Rattle.budget_search.specs.declared.budget_intervals.BudgetChoice.{BudgetChoice}
 use Rattle.line_rounds.specs.Unfolding.{UnfoldedText}
 use Rattle.line_steps.specs.RunPosition.{RunPosition, first_position}
 use Rattle.list_diff.specs.LineResults.{LineCall, call_in, line_calls}
@@ -111,7 +112,7 @@ needs_by list account = need_if account (is_some account.session) (slice_get lis
 -- needs are those of the accounts of a report, in which inits have what their lists need
 abbrev pub AreNeedsOn : Listed → List ComponentNeed → Type 0
 AreNeedsOn list needs =
-    (report : BudgetReport) × AreNeeded report.choice (list_of report) (accounts_of report)
+    (report : BudgetReport) × (choice : BudgetChoice) × AreNeeded choice (list_of report) (accounts_of report)
     × (map need_at needs ≡ flat_map (needs_by list) (accounts_of report))
 
 -- needs that aren't covered any more, by the needs on both lists

@@ -149,13 +149,15 @@ PairDiffers texts asked settings before after changed =
     (breaches : List BreachChange) × AreNewBreaches texts (option_copied asked.policy) before after breaches
     × RunsDiffer texts asked settings asked.scenario before after breaches changed
 
--- the lists of the files at both paths differ
-pub record ListsDiffer (texts : List ℕ → Option (List ℕ)) (asked : DiffOptions) (settings : Settings) (changed : Bool) : Type 0 where
-  pub before : Review
-  pub after : Review
-  pub before_is : IsReviewAt texts settings asked.before.now before
-  pub after_is : IsReviewAt texts settings asked.after.now after
-  pub differ : PairDiffers texts asked settings before.list after.list changed
+-- a list and that of the file at the path after
+abbrev pub AfterDiffers : (List ℕ → Option (List ℕ)) → DiffOptions → Settings → Listed → Bool → Type 0
+AfterDiffers texts asked settings before changed =
+    (after : Review) × IsReviewAt texts settings asked.after.now after × PairDiffers texts asked settings before after.list changed
+
+-- the lists of the files at both paths
+abbrev pub ListsDiffer : (List ℕ → Option (List ℕ)) → DiffOptions → Settings → Bool → Type 0
+ListsDiffer texts asked settings changed =
+    (before : Review) × IsReviewAt texts settings asked.before.now before × AfterDiffers texts asked settings before.list changed
 
 -- ---- the exit status
 
@@ -189,12 +191,15 @@ OfScenarios Holds asked =
 abbrev pub PairRefused : (List ℕ → Option (List ℕ)) → DiffOptions → Listed → Type 0
 PairRefused texts asked after = RefusesPolicy texts (option_copied asked.policy) after ⊎ OfScenarios (LacksScenario texts) asked
 
--- one of both lists doesn't boot; or both do, and are refused
+-- the list after doesn't boot; or it does, and both are refused
+abbrev pub AfterRefused : (List ℕ → Option (List ℕ)) → DiffOptions → Settings → Type 0
+AfterRefused texts asked settings =
+    HasNoBoot texts settings asked.after.now
+    ⊎ ((after : Review) × IsReviewAt texts settings asked.after.now after × PairRefused texts asked after.list)
+
+-- or the list before doesn't
 abbrev pub DiffRefused : (List ℕ → Option (List ℕ)) → DiffOptions → Settings → Type 0
-DiffRefused texts asked settings =
-    HasNoBoot texts settings asked.before.now
-    ⊎ (HasNoBoot texts settings asked.after.now
-    ⊎ ((after : Review) × IsReviewAt texts settings asked.after.now after × PairRefused texts asked after.list))
+DiffRefused texts asked settings = HasNoBoot texts settings asked.before.now ⊎ AfterRefused texts asked settings
 
 abbrev pub DiffEnds : (List ℕ → Option (List ℕ)) → DiffOptions → Settings → ℕ → Type 0
 DiffEnds texts asked settings status =

@@ -8,8 +8,8 @@ ghost use Rattle.cli_lists.specs.ListStatus.{CheckEnds, EndsReviewed, EndsVerdic
 use crate::check_documents::check_documents;
 use crate::review::review;
 use cli_base::{
-    Host, PolicyDiagnostic, PolicyVerdict, REFUSED, Settings, Spot, check_policy, no_memory, report,
-    report_error, status_of, summarize, summarize_errors,
+    Host, PolicyDiagnostic, PolicyVerdict, REFUSED, Settings, Spot, check_policy, no_memory,
+    report, report_error, status_of, summarize, summarize_errors,
 };
 use cli_options::CheckOptions;
 use list_review::{Finding, ListPart, Review};

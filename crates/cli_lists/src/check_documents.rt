@@ -1,7 +1,7 @@
 //! The results of a check of a start list, as documents of JSON.
 ghost use Rattle.std.specs.Prelude.{List, IfOk, OnErr, OnOk, ◌≡◌};
 ghost use Rattle.view_json.specs.Documents.{Member};
-ghost use Rattle.view_differences.specs.Listings.{Extends};
+ghost use Rattle.view_json.specs.Listings.{Extends};
 ghost use Rattle.cli_base.specs.Statuses.{EndsAs};
 ghost use Rattle.cli_lists.specs.CheckDocuments.{AreOfPolicy, ListsCheck, ListsReview};
 ghost use Rattle.cli_lists.specs.ListStatus.{CheckEnds, EndsKept, EndsOnText, EndsPolicy, EndsReviewed, HasRefused};
@@ -31,7 +31,7 @@ pub(crate) fn check_documents<H: Host>(
     let mut listing = Listing::new(rt.alloc());
     match start_list(host, check.list, settings) {
         Ok(text) => {
-            let added = add_all(host, check, &text, &mut listing);
+            let added = add_all(host, check, text.as_slice(), &mut listing);
             printed(rt, added, listing)
         }
         Err(status) => status,

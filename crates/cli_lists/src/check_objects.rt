@@ -1,12 +1,11 @@
 //! What a check of a start list finds, as documents of JSON: findings and advice, the list's fault, and the breaches of a policy.
 ghost use Rattle.std.specs.Prelude.{◌≡◌, ◌∷◌, [], map, string_bytes, IfOk, OnOk};
 ghost use Rattle.view_json.specs.Documents.{field_data, text_data};
-ghost use Rattle.view_differences.specs.Listings.{Extends};
+ghost use Rattle.view_json.specs.Listings.{Extends};
 ghost use Rattle.list_findings.specs.Spare.{if_any};
 ghost use Rattle.cli_base.specs.PolicyVerdict.{note_message};
 ghost use Rattle.cli_lists.specs.CheckDocuments.{ListsFault, advice_objects, faulty_part, file_object, finding_at, finding_object, flaw_object, note_object, placed_at, placed_object, remark_object, review_objects, verdict_objects};
 
-use crate::objects::add_object;
 use cli_base::{ListFaultMessage, PolicyDiagnostic, PolicyVerdict};
 use init_core::BootFault;
 use list_review::{FaultPlace, Finding, ListFault, ListPart, Review};
@@ -84,15 +83,12 @@ fn add_remark<'a>(
     ensures { OnOk result
         (Extends listing.old listing.new (remark_object path.now part.now text.now ∷ [])) }
 {
-    add_object(
-        listing,
-        &[
-            ("kind", JsonField::Word("finding")),
-            ("file", text_of(path)),
-            ("part", text_of(part)),
-            ("text", text_of(text)),
-        ],
-    )
+    listing.add(&[
+        ("kind", JsonField::Word("finding")),
+        ("file", text_of(path)),
+        ("part", text_of(part)),
+        ("text", text_of(text)),
+    ])
 }
 
 // Adds a text at a line and a column.
@@ -107,16 +103,13 @@ fn add_placed<'a>(
         (placed_object kind.now path.now place.0 place.1 text.now ∷ [])) }
 {
     let (line, column) = place;
-    add_object(
-        listing,
-        &[
-            ("kind", JsonField::Word(kind)),
-            ("file", text_of(path)),
-            ("line", JsonField::Number(line as u64)),
-            ("column", JsonField::Number(column as u64)),
-            ("text", text_of(text)),
-        ],
-    )
+    listing.add(&[
+        ("kind", JsonField::Word(kind)),
+        ("file", text_of(path)),
+        ("line", JsonField::Number(line as u64)),
+        ("column", JsonField::Number(column as u64)),
+        ("text", text_of(text)),
+    ])
 }
 
 // Adds the advice on servers with unused budgets, if there is any.
@@ -146,14 +139,11 @@ fn add_text<'a>(
     ensures { OnOk result
         (Extends listing.old listing.new (file_object kind.now path.now text.now ∷ [])) }
 {
-    add_object(
-        listing,
-        &[
-            ("kind", JsonField::Word(kind)),
-            ("file", text_of(path)),
-            ("text", text_of(text)),
-        ],
-    )
+    listing.add(&[
+        ("kind", JsonField::Word(kind)),
+        ("file", text_of(path)),
+        ("text", text_of(text)),
+    ])
 }
 
 /// Adds the fault of a start list of a path. Fails if the host is out of memory.
@@ -196,17 +186,14 @@ fn add_flaw<'a>(
     ensures { OnOk result
         (Extends listing.old listing.new (flaw_object path.now part.now text.now ∷ [])) }
 {
-    add_object(
-        listing,
-        &[
-            ("kind", JsonField::Word("fault")),
-            ("file", text_of(path)),
-            ("line", JsonField::Nothing),
-            ("column", JsonField::Nothing),
-            ("part", text_of(part)),
-            ("text", text_of(text)),
-        ],
-    )
+    listing.add(&[
+        ("kind", JsonField::Word("fault")),
+        ("file", text_of(path)),
+        ("line", JsonField::Nothing),
+        ("column", JsonField::Nothing),
+        ("part", text_of(part)),
+        ("text", text_of(text)),
+    ])
 }
 
 // Returns the part of a list at a place, with its member as a finding names it. The part is empty if the place is in no list.

@@ -5,7 +5,7 @@ ghost use Rattle.line_rounds.specs.Views.{whole_view};
 ghost use Rattle.cli_base.specs.Files.{IsUnknown};
 ghost use Rattle.cli_base.specs.Statuses.{EndsAs};
 ghost use Rattle.cli_lists.specs.ComparedRuns.{AreLinesAt, HasFaultAt, HasFaultIn, LacksScenario, path_after, results_by};
-ghost use Rattle.cli_lists.specs.Comparison.{DiffEnds, EndsChanged, HasStopped, LinesDiffer, NeedsDiffer, OfScenarios, PairDiffers, PairRefused, ResultsDiffer, RunsDiffer, ScenariosDiffer};
+ghost use Rattle.cli_lists.specs.Comparison.{AfterDiffers, AfterRefused, DiffEnds, EndsBy, EndsChanged, HasStopped, LinesDiffer, NeedsDiffer, OfScenarios, PairDiffers, PairRefused, ResultsDiffer, RunsDiffer, ScenariosDiffer};
 
 use crate::diff_files::{JudgedPair, ListFile, ListPair, scenario_file};
 use crate::diff_policy::PolicyBreaches;
@@ -14,8 +14,8 @@ use crate::diff_text::print_differences;
 use crate::review::review;
 use cli_base::{Host, Settings, made_or_status, unfolded};
 use cli_options::DiffOptions;
+use init_core::StartList;
 use list_diff::{ReplyChange, changed_replies, lacks};
-use list_review::Review;
 use run_exchanges::Exchange;
 
 /// Prints the differences between two start lists, also the breaches of a policy that one list alone has and the replies to a
@@ -25,57 +25,86 @@ use run_exchanges::Exchange;
 pub fn compare_lists<H: Host>(host: &H, asked: &DiffOptions<'_>, settings: Settings<'_>) -> u8
     ensures { DiffEnds (H.text_at host.now) asked.now settings.entry result }
 {
-    let before = review(host, asked.before, settings);
-    let after = review(host, asked.after, settings);
-    let (before, after) = match (before, after) {
-        (Ok(before), Ok(after)) => (before, after),
-        (Err(status), _) => return status,
-        (Ok(_), Err(status)) => return status,
-    };
-    match compare(host, asked, &before, &after, settings) {
+    match review(host, asked.before, settings) {
+        Ok(before) => compare_before(host, asked, before.list(), settings),
+        Err(status) => {
+            // The faults of the list after are printed too.
+            let _ = review(host, asked.after, settings);
+            status
+        }
+    }
+}
+
+// Compares a list with the list after, and returns the exit status.
+fn compare_before<'a, H: Host>(
+    host: &'a H,
+    asked: &DiffOptions<'a>,
+    before: &'a StartList,
+    settings: Settings<'_>,
+) -> u8
+    ensures { EndsBy (AfterRefused (H.text_at host.now) asked.now settings.entry)
+        (OfScenarios (HasFaultIn (H.text_at host.now) settings.entry) asked.now)
+        (AfterDiffers (H.text_at host.now) asked.now settings.entry before.now) result }
+{
+    match review(host, asked.after, settings) {
+        Ok(after) => compare_both(host, asked, before, after.list(), settings),
+        Err(status) => status,
+    }
+}
+
+// Compares two lists, and returns the exit status.
+fn compare_both<'a, H: Host>(
+    host: &'a H,
+    asked: &DiffOptions<'a>,
+    before: &'a StartList,
+    after: &'a StartList,
+    settings: Settings<'_>,
+) -> u8
+    ensures { EndsBy (PairRefused (H.text_at host.now) asked.now after.now)
+        (OfScenarios (HasFaultIn (H.text_at host.now) settings.entry) asked.now)
+        (PairDiffers (H.text_at host.now) asked.now settings.entry before.now after.now) result }
+{
+    match compare(host, asked, before, after, settings) {
         Ok(status) => status,
         Err(status) => status,
     }
 }
 
-// Compares the lists of two reviews, with the breaches of a policy if one is named. The error is the exit status of a refused policy,
+// Compares two lists, with the breaches of a policy if one is named. The error is the exit status of a refused policy,
 // or of a scenario that isn't run.
 fn compare<'a, H: Host>(
-    host: &H,
+    host: &'a H,
     asked: &DiffOptions<'a>,
-    before: &'a Review,
-    after: &'a Review,
+    before: &'a StartList,
+    after: &'a StartList,
     settings: Settings<'_>,
 ) -> Result<u8, u8>
     ensures ended { IfOk result (EndsAs ⊥ (EndsChanged
-        (PairDiffers (H.text_at host.now) asked.now settings.entry before.now.list after.now.list))) }
+        (PairDiffers (H.text_at host.now) asked.now settings.entry before.now after.now))) }
     ensures stopped { IfErr result (HasStopped
-        (PairRefused (H.text_at host.now) asked.now after.now.list)
+        (PairRefused (H.text_at host.now) asked.now after.now)
         (OfScenarios (HasFaultIn (H.text_at host.now) settings.entry) asked.now)) }
 {
     let rt = host.rt();
     let lists = ListPair {
         before: ListFile {
             path: asked.before,
-            list: before.list(),
+            list: before,
         },
         after: ListFile {
             path: asked.after,
-            list: after.list(),
+            list: after,
         },
     };
     let breaches = PolicyBreaches::of(host, lists, asked.policy, settings.form)?;
     let changes = made_or_status(rt, breaches.changes(rt.alloc()))?;
-    let pair = JudgedPair {
-        lists,
-        breaches: changes.as_slice(),
-    };
+    let pair = JudgedPair::new(lists, changes.as_slice());
     compare_judged(host, asked, pair, settings)
 }
 
 // Compares two lists with their breaches, and the replies to a scenario if there is one.
 fn compare_judged<'a, H: Host>(
-    host: &H,
+    host: &'a H,
     asked: &DiffOptions<'a>,
     pair: JudgedPair<'a>,
     settings: Settings<'_>,
@@ -95,7 +124,7 @@ fn compare_judged<'a, H: Host>(
 
 // Compares two lists, and the replies to the scenario of a path. On the list after, another scenario is run if there is one.
 fn compare_scenario<'a, H: Host>(
-    host: &H,
+    host: &'a H,
     pair: JudgedPair<'a>,
     path: &'a str,
     other: Option<&'a str>,
@@ -110,7 +139,7 @@ fn compare_scenario<'a, H: Host>(
 {
     let rt = host.rt();
     let text = scenario_file(host, path, settings.form)?;
-    let lines = unfolded(rt, path, &text, settings)?;
+    let lines = unfolded(rt, path, text.as_slice(), settings)?;
     let was = RunInput::new(pair.lists.before, path, &lines);
     match other {
         Some(other) => compare_other(host, was, pair, other, settings),
@@ -123,7 +152,7 @@ fn compare_scenario<'a, H: Host>(
 
 // Compares two lists, and the replies to a run with those to the scenario of a path on the list after.
 fn compare_other<'a, H: Host>(
-    host: &H,
+    host: &'a H,
     was: RunInput<'a>,
     pair: JudgedPair<'a>,
     path: &'a str,
@@ -138,14 +167,18 @@ fn compare_other<'a, H: Host>(
 {
     let rt = host.rt();
     let text = scenario_file(host, path, settings.form)?;
-    let lines = unfolded(rt, path, &text, settings)?;
+    let lines = unfolded(rt, path, text.as_slice(), settings)?;
     let now = RunInput::new(pair.lists.after, path, &lines);
     compare_runs(rt, RunPair::new(was, now, pair.breaches), settings)
 }
 
 // Runs the scenarios of both sides, and prints all differences. Returns the exit status; the error is 1, if a scenario can't be run
 // to its end.
-fn compare_runs<'a>(rt: &HostRuntime, runs: RunPair<'a>, settings: Settings<'_>) -> Result<u8, u8>
+fn compare_runs<'a>(
+    rt: &'a HostRuntime,
+    runs: RunPair<'a>,
+    settings: Settings<'_>,
+) -> Result<u8, u8>
     ensures ended { IfOk result (EndsAs ⊥ (EndsChanged (LinesDiffer settings.entry
         runs.entry.was.file.list.now (whole_view runs.entry.was.lines.now)
         runs.entry.now.file.list.now (whole_view runs.entry.now.lines.now) runs.entry.breaches.now))) }

@@ -35,6 +35,17 @@ pub(crate) struct JudgedPair<'a> {
     pub(crate) breaches: &'a [BreachChange<'a>],
 }
 
+impl<'a> JudgedPair<'a> {
+    /// Returns two lists with these breaches.
+    pub(crate) fn new(lists: ListPair<'a>, breaches: &'a [BreachChange<'a>]) -> JudgedPair<'a>
+        ensures before { result.lists.before.list.now ≡ lists.entry.before.list.now }
+        ensures after { result.lists.after.list.now ≡ lists.entry.after.list.now }
+        ensures breaches { result.breaches.now ≡ breaches.now }
+    {
+        JudgedPair { lists, breaches }
+    }
+}
+
 /// Returns the text of a scenario's file. If it can't be read, prints why and returns the exit status: 1 if the host is out of
 /// memory, else 2.
 pub(crate) fn scenario_file<H: Host>(

@@ -42,7 +42,7 @@ impl<'a> PolicyBreaches<'a> {
             });
         };
         match policy_text(host, path) {
-            Ok(text) => breaches_of(rt, lists, path, &text, form),
+            Ok(text) => breaches_of(rt, lists, path, text.as_slice(), form),
             Err(why) => {
                 report_error(rt, form, Spot::nowhere(), &why);
                 Err(why.exit_status())

@@ -1,8 +1,10 @@
 //! The runs of scenarios on two start lists: needs that aren't covered any more, and replies that differ.
 ghost use Rattle.std.specs.Prelude.{◌≡◌, ◌++◌, map, IfErr, IfOk, OnOk};
 ghost use Rattle.std.specs.List.{flat_map};
+ghost use Rattle.std.specs.Option.{option_map};
 ghost use Rattle.budget_least.specs.Report.{accounts_of};
 ghost use Rattle.budget_meter.specs.Needs.{amounts_of};
+ghost use Rattle.budget_search.specs.BudgetIntervals.{lowest_of};
 ghost use Rattle.line_rounds.specs.Views.{whole_view};
 ghost use Rattle.list_diff.specs.LineResults.{call_in};
 ghost use Rattle.cli_lists.specs.ComparedRuns.{AreNeedsOn, answers_on, need_at, need_of, needs_by, quota_of, results_by};
@@ -80,19 +82,20 @@ impl<'a> RunPair<'a> {
 
 /// Returns the calls of a scenario with their replies on a list that boots. If the scenario can't be run to its end, prints why and
 /// returns the exit status 1. Expectations of the scenario are ignored.
-pub(crate) fn answers_on(
-    rt: &HostRuntime,
-    run: RunInput<'_>,
+pub(crate) fn answers_on<'a>(
+    rt: &'a HostRuntime,
+    run: RunInput<'a>,
     settings: Settings<'_>,
 ) -> Result<Vec<Exchange>, u8>
     ensures answers { IfOk result (λ answered. answered.items ≡
         answers_on settings.entry run.entry.file.list.now (whole_view run.entry.lines.now)) }
     ensures failed { IfErr result (λ status. status ≡ 1) }
 {
+    let start = settings.start_or_status(rt, run.lines.marks())?;
     let input = ScenarioInput {
         list: run.file.list,
         scenario: settings.subject(run.path),
-        start: settings.start_or_status(rt, run.lines.marks())?,
+        start,
     };
     let origin: Origin<'_, File> = Origin::Held(run.lines.bytes());
     let mut reader = watched_reader(rt, origin, Printing::Afterwards);
@@ -167,7 +170,8 @@ fn component_needs<'a>(
         (λ needs. map need_at needs.items ≡ flat_map (needs_by list.now) (accounts_of report.now)) }
 {
     let mut needs = Vec::new(alloc);
-    for account in report.accounts() {
+    let accounts = report.accounts();
+    for account in accounts {
         add_need(&mut needs, account, list)?;
     }
     Ok(needs)
@@ -196,9 +200,16 @@ fn need_of<'a>(account: &AccountBudgets, entry: &'a ListEntry) -> ComponentNeed<
     ComponentNeed {
         name: entry.path(),
         has: quota_of(given.budget),
-        needs: account.least().map(quota_of),
+        needs: least_of(account),
         is_covered: given.refused.is_none(),
     }
+}
+
+// Returns the minimum budget of an account in the form of differences, if there is one.
+fn least_of(account: &AccountBudgets) -> Option<QuotaAmounts>
+    ensures { result ≡ option_map quota_of (lowest_of account.now.found.rows.items) }
+{
+    account.least().map(quota_of)
 }
 
 // Returns a budget in the form of differences.

@@ -8,8 +8,7 @@ use crate::diff_files::JudgedPair;
 use cli_base::{made_or_status, status_of};
 use init_core::StartList;
 use list_diff::{
-    EntryChange, ListDifferences, NeedChange, ReachChange, ReachSide, ReplyChange,
-    changes, leads,
+    EntryChange, ListDifferences, NeedChange, ReachChange, ReachSide, ReplyChange, changes, leads,
 };
 use list_reach::ReachTable;
 use std::alloc::{AllocError, Global};

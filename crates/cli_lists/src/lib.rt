@@ -13,7 +13,6 @@ mod diff_files;
 mod diff_policy;
 mod diff_runs;
 mod diff_text;
-mod objects;
 mod reach_command;
 mod reach_documents;
 mod review;

@@ -87,8 +87,12 @@ fn print_reach(
         return print_documents(rt, reach_documents(rt.alloc(), list, filter));
     }
     match made_or_status(rt, ReachTable::narrowed(rt.alloc(), list, filter)) {
-        Ok(table) if asked.csv => print_documents(rt, table.to_csv(rt.alloc())),
-        Ok(table) => print_table(rt, list, filter, &table),
+        Ok(table) => {
+            if asked.csv {
+                return print_documents(rt, table.to_csv(rt.alloc()));
+            }
+            print_table(rt, list, filter, &table)
+        }
         Err(status) => status,
     }
 }

@@ -3,10 +3,9 @@ ghost use Rattle.std.specs.Prelude.{◌≡◌, ◌∷◌, [], IfOk, OnOk};
 ghost use Rattle.std.specs.Option.{option_copied};
 ghost use Rattle.view_json.specs.Documents.{field_data, list_data, list_text, members_data};
 ghost use Rattle.view_differences.specs.LabelObjects.{labels_data};
-ghost use Rattle.view_differences.specs.Listings.{Extends};
+ghost use Rattle.view_json.specs.Listings.{Extends};
 ghost use Rattle.cli_lists.specs.ReachDocuments.{cell_object, cell_objects, label_data, object_by, reach_objects, reach_word, witness_data};
 
-use crate::objects::add_object;
 use list_parser::{ListEntry, StartList};
 use list_reach::{Reach, ReachCell, ReachTable};
 use std::alloc::{AllocError, Global};
@@ -77,18 +76,15 @@ fn add_pair<'a>(
     let (Some(client), Some(server)) = (client, server) else {
         return Ok(());
     };
-    add_object(
-        listing,
-        &[
-            ("from", JsonField::Text(client.path())),
-            ("service", JsonField::Text(cell.service.as_bytes())),
-            ("to", JsonField::Text(server.path())),
-            ("reach", JsonField::Word(reach_word(&cell.reach))),
-            ("label", label_of(&cell.reach)),
-            ("labels", JsonField::List(labels)),
-            ("witness", witness_of(&cell.reach)),
-        ],
-    )
+    listing.add(&[
+        ("from", JsonField::Text(client.path())),
+        ("service", JsonField::Text(cell.service.as_bytes())),
+        ("to", JsonField::Text(server.path())),
+        ("reach", JsonField::Word(reach_word(&cell.reach))),
+        ("label", label_of(&cell.reach)),
+        ("labels", JsonField::List(labels)),
+        ("witness", witness_of(&cell.reach)),
+    ])
 }
 
 // Returns whether all, some or no labels reach the server.

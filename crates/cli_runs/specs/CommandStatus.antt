@@ -1,5 +1,5 @@
 -- The exit status of each command that runs a scenario.
-use Rattle.std.specs.Prelude.{◌≡◌, ◌<◌, ◌⊎◌, ℕ, ◌==◌, ◌&&◌, ◌||◌, Bool, true, false, List, [], codes, is_some, length, nat_lt, if◌then◌else◌, position, Option, Some, None, MatchBool, IfSome, ⊤, Ok}
+use Rattle.std.specs.Prelude.{◌≡◌, ◌⊎◌, ℕ, ◌==◌, ◌&&◌, ◌||◌, Bool, true, false, List, [], codes, is_some, length, nat_lt, if◌then◌else◌, position, Option, Some, None, MatchBool, ⊤, Ok}
 use Rattle.std.specs.Borrow.{Bor}
 use Rattle.std.specs.List.{list_any, slice_split}
 use Rattle.std.specs.Option.{option_copied}
@@ -22,7 +22,7 @@ use Rattle.cli_options.specs.declared.command_options.AloneOptions.{AloneOptions
 use Rattle.cli_options.specs.declared.command_options.RecordOptions.{RecordOptions}
 use Rattle.cli_options.specs.declared.command_options.RunOptions.{RunOptions}
 use Rattle.cli_options.specs.declared.command_options.TraceOptions.{TraceOptions}
-use Rattle.cli_base.specs.Files.{IsTextAt, IsUnknown}
+use Rattle.cli_base.specs.Files.{IsTextAt, IsTooLong, IsUnknown}
 use Rattle.cli_base.specs.MachineChoice.{IsMachineFor, LacksMachine}
 use Rattle.cli_base.specs.Statuses.{EndsAs, warned}
 use Rattle.cli_base.specs.Texts.{bytes_of}
@@ -30,7 +30,6 @@ use Rattle.cli_base.specs.Unfolding.{EndsOnText, EndsUnfolded}
 use Rattle.cli_base.specs.declared.machine.Machine.{Machine}
 use Rattle.cli_base.specs.declared.settings.Settings.{Settings}
 use Rattle.cli_runs.specs.RunStatus.{EndsFrom, start_by}
-use Rattle.cli_runs.specs.LongFiles.{IsTooLong}
 use Rattle.cli_runs.specs.declared.run_request.RunRequest.{RunRequest}
 use Rattle.cli_runs.specs.declared.view.RunView.{RunView}
 use Rattle.cli_runs.specs.declared.view.RunView.TheVariants.{Run, Trace, Accounts, Alone}

@@ -1,5 +1,4 @@
 pub mod CommandStatus
-pub mod LongFiles
 pub mod RunEnd
 pub mod RunStatus
 pub mod UnreadReports

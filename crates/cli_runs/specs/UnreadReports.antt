@@ -10,6 +10,7 @@ use Rattle.line_steps.specs.ResolvedViews.{reason_column}
 use Rattle.line_steps.specs.declared.unread_line.UnreadLine.{UnreadLine}
 use Rattle.view_diagnostics.specs.Diagnostics.{SubjectAt, diagnostic}
 use Rattle.view_diagnostics.specs.declared.diagnostics.Severity.TheVariants.{Error}
+use Rattle.view_diagnostics.specs.declared.place.FilePlace.{FilePlace}
 use Rattle.view_diagnostics.specs.declared.place.FilePlace.TheVariants.{Byte}
 
 -- the line of a number, from 1 on, or an empty one
@@ -21,10 +22,13 @@ abbrev pub message_in : List (List ℕ) → UnreadLine → List ℕ
 message_in lines unread =
     unread_message unread.why (utf8_lossy (token_at (line_at lines unread.number) (reason_column unread.why)))
 
--- an error at the place of the fault
+-- the place of the fault
+abbrev pub fault_place : UnreadLine → FilePlace
+fault_place unread = Byte unread.number (reason_column unread.why)
+
+-- an error with this message at this place
 abbrev pub unread_error : SubjectAt → List (List ℕ) → UnreadLine → List ℕ
-unread_error subject lines unread =
-    diagnostic subject (Byte unread.number (reason_column unread.why)) Error (message_in lines unread ∷ [])
+unread_error subject lines unread = diagnostic subject (fault_place unread) Error (message_in lines unread ∷ [])
 
 -- one for each line of a text that can't be parsed, in order
 abbrev pub unread_errors : SubjectAt → List ℕ → List UnreadLine → List ℕ

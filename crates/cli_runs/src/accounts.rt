@@ -1,5 +1,5 @@
 //! The command `accounts`: the accounts after a scenario.
-ghost use Rattle.std.specs.Prelude.{◌≡◌, IfErr, IfNone, IfOk, is_ok, true};
+ghost use Rattle.std.specs.Prelude.{◌≡◌, IfErr, IfNone, IfOk};
 ghost use Rattle.cli_runs.specs.CommandStatus.{AccountsEnd};
 ghost use Rattle.cli_runs.specs.RunStatus.{HasStatus, IsUnbooted, start_of};
 ghost use Rattle.cli_runs.specs.declared.view.AccountsForm.{AccountsForm as AccountsForms};
@@ -11,7 +11,7 @@ use crate::view::{AccountsForm, RowsForm, RunView};
 use cli_base::{Host, OutputStream, Reader, Settings, Writer, plain_writer};
 use cli_options::AccountsOptions;
 use run_lines::{LineRunFault, Source};
-use run_scenario::ScenarioInput;
+use run_scenario::{ScenarioEnd, ScenarioInput};
 use std::alloc::AllocError;
 use std::io;
 use std::io::{ErrorKind, Read, Write};
@@ -58,7 +58,13 @@ pub(crate) fn print_accounts<'r, F: Read>(
 {
     let mut nowhere = plain_writer(rt, OutputStream::Dropped);
     match accounts(rt.alloc(), input, reader, &mut nowhere, complaints) {
-        Ok(list) => print_list(rt, list, form),
+        Ok(list) => {
+            let (ending, unread) = print_list(rt, list, form);
+            RunEnd {
+                ended: Ok(ending),
+                unread,
+            }
+        }
         Err(fault) => RunEnd {
             ended: Err(fault),
             unread: false,
@@ -66,10 +72,9 @@ pub(crate) fn print_accounts<'r, F: Read>(
     }
 }
 
-// Prints an account list, unless a fault stopped the run.
-fn print_list(rt: &HostRuntime, list: AccountList, form: RowsForm) -> RunEnd
-    ensures ended { IfOk result.ended (λ ending. IfNone ending.fault (ending ≡ list.ending)) }
-    ensures booted { is_ok result.ended ≡ true }
+// Prints an account list, unless a fault stopped the run. Returns how the run ended, and whether nobody reads what is written.
+fn print_list(rt: &HostRuntime, list: AccountList, form: RowsForm) -> (ScenarioEnd, bool)
+    ensures { IfNone result.0.fault (result.0 ≡ list.ending) }
 {
     let AccountList { mut ending, rows } = list;
     let mut unread = false;
@@ -79,10 +84,7 @@ fn print_list(rt: &HostRuntime, list: AccountList, form: RowsForm) -> RunEnd
             ending.fault = Some(fault_of(&error));
         }
     }
-    RunEnd {
-        ended: Ok(ending),
-        unread,
-    }
+    (ending, unread)
 }
 
 // Returns the fault of a run whose rows can't be printed: out of memory, or a failed write.

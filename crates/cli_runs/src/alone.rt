@@ -17,7 +17,6 @@ use init_core::StartList;
 use line_rounds::UnfoldedText;
 use run_scenario::ScenarioInput;
 use std::alloc::AllocError;
-use std::fs::File;
 use std::io;
 use std::io::Write;
 use view_runs::{AloneComparison, alone};
@@ -34,7 +33,11 @@ pub fn show_alone<'a, H: Host>(
 ) -> u8
     ensures { AloneEnds (H.text_at host.now) asked.now scenario.now settings.entry result }
 {
-    run_chosen(host, asked.machine, alone_of(asked.name, scenario, settings))
+    run_chosen(
+        host,
+        asked.machine,
+        alone_of(asked.name, scenario, settings),
+    )
 }
 
 // Returns the run whose replies to the component of a name are shown.
@@ -79,7 +82,7 @@ pub fn show_all_alone<'a, H: Host>(
         settings,
     };
     match Machine::read(host, list.path(), settings) {
-        Ok(machine) => compare_scripts(rt, &machine, &lines, options),
+        Ok(machine) => compare_scripts(host, &machine, &lines, options),
         Err(status) => status,
     }
 }
@@ -96,8 +99,8 @@ struct ComparisonOptions<'a> {
 }
 
 // Compares the runs of each script of a machine, one after another. Returns the exit status.
-fn compare_scripts<'a>(
-    rt: &HostRuntime,
+fn compare_scripts<'a, H: Host>(
+    host: &'a H,
     machine: &'a Machine<'a>,
     lines: &'a UnfoldedText<'a>,
     options: ComparisonOptions<'a>,
@@ -106,14 +109,14 @@ fn compare_scripts<'a>(
         (EndsCompared options.entry.settings machine.now (whole_view lines.now)) result }
 {
     let list = machine.list();
-    match compare_listed(rt, machine, list, lines, options) {
+    match compare_listed(host, machine, list, lines, options) {
         Ok(status) | Err(status) => status,
     }
 }
 
 // Compares the runs of each script of a machine's list, and returns the exit status. The error is that of a run without a result.
-fn compare_listed<'a>(
-    rt: &HostRuntime,
+fn compare_listed<'a, H: Host>(
+    host: &'a H,
     machine: &'a Machine<'a>,
     list: &'a StartList,
     lines: &'a UnfoldedText<'a>,
@@ -136,7 +139,7 @@ fn compare_listed<'a>(
             lines,
             silent,
         };
-        let compared = script.compare(rt, options)?;
+        let compared = script.compare(host, options)?;
         status = status_with(status, compared);
         silent = true;
     }
@@ -201,12 +204,12 @@ impl<'a> ScriptComparison<'a> {
     ghost use Rattle.cli_runs.specs.CommandStatus.{IsUnbootable, comparison_status, lines_status};
 
     // Compares as `run` does, and returns 0 or 3. The error is the status of a run without a result.
-    fn compare(self, rt: &HostRuntime, options: ComparisonOptions<'a>) -> Result<u8, u8>
+    fn compare<H: Host>(self, host: &'a H, options: ComparisonOptions<'a>) -> Result<u8, u8>
         ensures ended { IfOk result (λ status. status
             ≡ lines_status self.entry.list.now options.entry.settings (whole_view self.entry.lines.now)) }
         ensures failed { IfErr result (HasNoResult (IsUnbootable self.entry.list.now)) }
     {
-        let status = self.run(rt, options);
+        let status = self.run(host, options);
         if is_compared(status) {
             Ok(status)
         } else {
@@ -215,11 +218,11 @@ impl<'a> ScriptComparison<'a> {
     }
 
     // Runs the scenario, prints the comparison of the script's replies, and returns the exit status.
-    fn run(self, rt: &HostRuntime, options: ComparisonOptions<'a>) -> u8
+    fn run<H: Host>(self, host: &'a H, options: ComparisonOptions<'a>) -> u8
         ensures { EndsAs (IsUnbootable self.entry.list.now) (λ status. status
             ≡ lines_status self.entry.list.now options.entry.settings (whole_view self.entry.lines.now)) result }
     {
-        let settings = options.settings;
+        let (rt, settings) = (host.rt(), options.settings);
         let start = match settings.start_or_status(rt, self.lines.marks()) {
             Ok(start) => start,
             Err(status) => return status,
@@ -229,7 +232,7 @@ impl<'a> ScriptComparison<'a> {
             scenario: settings.subject(options.scenario),
             start,
         };
-        let origin: Origin<'_, File> = Origin::Held(self.lines.bytes());
+        let origin: Origin<'_, H::File> = Origin::Held(self.lines.bytes());
         let mut reader = watched_reader(rt, origin, Printing::Afterwards);
         let mut writer = writer_unless(rt, options.summary, OutputStream::text(rt));
         let stderr = OutputStream::Complained(rt.stderr());

@@ -14,7 +14,6 @@ mod run_request;
 mod trace;
 mod unread_report;
 mod view;
-mod whole_text;
 
 pub use accounts::list_accounts;
 pub use alone::{show_all_alone, show_alone};

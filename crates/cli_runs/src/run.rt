@@ -18,7 +18,11 @@ pub fn run_scenario<'a, H: Host>(
 ) -> u8
     ensures { RunEnds (H.text_at host.now) asked.now settings.entry result }
 {
-    run_chosen(host, asked.machine, transcript_of(asked, settings, coloring))
+    run_chosen(
+        host,
+        asked.machine,
+        transcript_of(asked, settings, coloring),
+    )
 }
 
 // Returns the run that the options ask for.

@@ -46,12 +46,7 @@ impl RunEnd {
     }
 
     /// Prints the fault of a scenario of this path, if there is one. Returns the exit status.
-    pub(crate) fn report_fault(
-        &self,
-        rt: &HostRuntime,
-        form: DiagnosticForm,
-        scenario: &str,
-    ) -> u8
+    pub(crate) fn report_fault(&self, rt: &HostRuntime, form: DiagnosticForm, scenario: &str) -> u8
         ensures { result ≡ end_status self.now.ended self.now.unread }
     {
         if self.is_unread() {

@@ -1,22 +1,20 @@
 //! A scenario's run on a machine, over files and the standard streams.
-ghost use Rattle.std.specs.Prelude.{◌≡◌, ◌×◌, false, is_some, position, None, IfErr, IfOk};
+ghost use Rattle.std.specs.Prelude.{◌≡◌, false, is_some, position, None, Some, IfErr, IfOk, IfSome};
 ghost use Rattle.std.specs.Str.{bytes_eq};
-ghost use Rattle.cli_base.specs.Files.{IsUnknown};
+ghost use Rattle.cli_base.specs.Files.{IsTooLong, IsUnknown};
 ghost use Rattle.cli_base.specs.Origins.{origin_bytes};
 ghost use Rattle.cli_base.specs.Statuses.{EndsAs};
 ghost use Rattle.cli_base.specs.Unfolding.{EndsUnfolded};
-ghost use Rattle.cli_runs.specs.CommandStatus.{EndsByLine, EndsChosen, EndsLines, EndsNamed, EndsOn, IsRunOf, LacksScenario, LacksWarnings, RunRefused, is_known, named_status, warnings_of};
-ghost use Rattle.cli_runs.specs.LongFiles.{IsTooLong};
+ghost use Rattle.cli_runs.specs.CommandStatus.{EndsByLine, EndsChosen, EndsLines, EndsNamed, EndsOn, IsRunOf, LacksScenario, RunRefused, is_known, named_status, warnings_of};
 ghost use Rattle.cli_runs.specs.RunStatus.{EndsFrom, HasStatus, IsUnbooted, start_by, start_of};
 
 use crate::accounts::print_accounts;
 use crate::run_end::RunEnd;
 use crate::view::{AccountsForm, RunView, view};
-use crate::whole_text::whole_text;
 use cli_base::{
     Host, Machine, MachineChoice, Origin, OutputStream, REFUSED, ReadFailure, STANDARD_INPUT,
-    Settings, Spot, Warnings, made_or_status, no_memory, report_boot_fault, report_error, unfolded,
-    warned_status, watched_reader, writer,
+    Settings, Spot, Warnings, made_or_status, no_memory, read_whole, report_boot_fault,
+    report_error, unfolded, warned_status, watched_reader, writer,
 };
 use init_core::StartList;
 use line_names::RoundMark;
@@ -99,21 +97,25 @@ fn run_named<H: Host>(host: &H, machine: &Machine<'_>, request: RunRequest<'_>) 
     ensures { EndsAs (LacksScenario (H.text_at host.now) request.entry)
         (EndsNamed (H.text_at host.now) machine.now request.entry) result }
 {
-    if is_known(host.rt(), request.settings.form, machine.list(), request.name) {
-        return run_on(host, machine, request);
-    }
+    let form = request.settings.form;
+    let known = is_known(host.rt(), form, machine.list(), request.name);
     let earlier = Counts {
-        errors: 1,
+        errors: u64::from(!known),
         warnings: 0,
     };
-    nobody_status(run_on(host, machine, RunRequest { earlier, ..request }))
+    let status = run_on(host, machine, RunRequest { earlier, ..request });
+    named_status(known, status)
 }
 
-// Returns the exit status of a run in which no component has the name that is asked for: 3, unless a fault comes first.
-fn nobody_status(status: u8) -> u8
-    ensures { result ≡ named_status false status }
+// Returns the exit status of a run: 3 if no component has the name that is asked for, unless a fault comes first.
+fn named_status(known: bool, status: u8) -> u8
+    ensures { result ≡ named_status known status }
 {
-    if status == 0 { NOBODY } else { status }
+    if !known && status == 0 {
+        NOBODY
+    } else {
+        status
+    }
 }
 
 // Runs a scenario of a path on a machine. A strict run isn't of standard input: `run_chosen` refuses that.
@@ -126,7 +128,7 @@ fn run_on<H: Host>(host: &H, machine: &Machine<'_>, request: RunRequest<'_>) -> 
         let origin: Origin<'_, H::File> = Origin::Typed(rt.reader());
         return run_source(rt, machine, request, origin, &[]);
     }
-    match whole_text(host, request.scenario) {
+    match read_whole(host, request.scenario) {
         Ok(Some(text)) => run_text(host, machine, request, &text),
         Ok(None) => run_long(host, machine, request),
         Err(AllocError) => no_memory(rt),
@@ -135,19 +137,20 @@ fn run_on<H: Host>(host: &H, machine: &Machine<'_>, request: RunRequest<'_>) -> 
 
 // Runs the lines of a file that isn't read whole. Refuses a file that can't be opened, and a strict run.
 fn run_long<H: Host>(host: &H, machine: &Machine<'_>, request: RunRequest<'_>) -> u8
-    requires { IsTooLong (H.text_at host.now) request.entry.scenario.now }
+    requires { IsTooLong (H.text_at host.now) request.scenario.now }
     ensures { EndsAs (LacksScenario (H.text_at host.now) request.entry)
         (EndsByLine (H.text_at host.now) machine.now request.entry) result }
 {
     let rt = host.rt();
-    match open_or_status(host, request) {
-        Ok(_) if request.strict => {
-            let why = "expected a file that is read to its end within 64M bytes";
-            refuse_strict(rt, request, why)
-        }
-        Ok(file) => run_source(rt, machine, request, Origin::File(file), &[]),
-        Err(status) => status,
+    let file = match open_or_status(host, request) {
+        Ok(file) => file,
+        Err(status) => return status,
+    };
+    if request.strict {
+        let why = "expected a file that is read to its end within 64M bytes";
+        return refuse_strict(rt, request, why);
     }
+    run_source(rt, machine, request, Origin::File(file), &[])
 }
 
 // Opens the file of a scenario. If that fails, prints why and returns the exit status 2.
@@ -186,12 +189,7 @@ fn refuse_strict(rt: &HostRuntime, request: RunRequest<'_>, why: &str) -> u8
 }
 
 // Runs a scenario of a text, with its rounds unfolded. Before the run of a transcript prints the warnings about its lines.
-fn run_text<H: Host>(
-    host: &H,
-    machine: &Machine<'_>,
-    request: RunRequest<'_>,
-    text: &[u8],
-) -> u8
+fn run_text<H: Host>(host: &H, machine: &Machine<'_>, request: RunRequest<'_>, text: &[u8]) -> u8
     ensures { EndsAs ⊥ (EndsUnfolded request.entry.settings text.now
         (EndsLines machine.now request.entry text.now)) result }
 {

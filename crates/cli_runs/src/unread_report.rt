@@ -3,11 +3,10 @@ ghost use Rattle.std.specs.Prelude.{◌≡◌, ◌∷◌, [], false, is_err, map
 ghost use Rattle.std.specs.Io.KnownBytes.{Appends};
 ghost use Rattle.std.specs.List.{slice_split};
 ghost use Rattle.line_advice.specs.Advice.{is_newline};
-ghost use Rattle.line_steps.specs.ResolvedViews.{reason_column};
 ghost use Rattle.view_diagnostics.specs.Diagnostics.{diagnostic, subject_at};
-ghost use Rattle.view_diagnostics.specs.declared.diagnostics.Severity.TheVariants.{Error as ErrorSeverity};
-ghost use Rattle.view_diagnostics.specs.declared.place.FilePlace.TheVariants.{Byte as ByteAt};
-ghost use Rattle.cli_runs.specs.UnreadReports.{line_at, message_in, unread_errors};
+ghost use Rattle.view_diagnostics.specs.declared.diagnostics.Severity.TheVariants.{Error as AnError};
+ghost use Rattle.run_scenario.specs.Complaints.{WritesUnless};
+ghost use Rattle.cli_runs.specs.UnreadReports.{fault_place, line_at, message_in, unread_errors};
 
 use line_names::token_at;
 use line_steps::UnreadLine;
@@ -33,37 +32,38 @@ pub(crate) fn write_unread<K: Sink>(
         if sink.failed() {
             return Ok(());
         }
-        let _ = write_error(subject, line, message.as_str(), sink);
+        let _ = write_error(subject, place_of(line), message.as_str(), sink);
     }
     Ok(())
 }
 
-// Writes an error with this message about a line, at the place of its fault. The error is a failed write.
+// Writes an error with this message at a place. The error that is returned is a failed write.
 fn write_error<K: Sink>(
     subject: Subject<'_>,
-    line: &UnreadLine,
+    place: FilePlace,
     message: &str,
     sink: &mut K,
 ) -> Result<(), DeviceFault>
     requires { K.has_failed sink.old ≡ false }
-    ensures written { OnOk result (Appends (K.contents sink.old) (K.contents sink.new)
-        (diagnostic (subject_at subject.entry) (ByteAt line.now.number (reason_column line.now.why))
-        ErrorSeverity (message.now ∷ []))) }
+    ensures writes { WritesUnless result (K.contents sink.old) (K.contents sink.new)
+        (diagnostic (subject_at subject.entry) place AnError (message.now ∷ [])) }
     ensures failing { K.has_failed sink.new ≡ is_err result }
 {
-    let place = FilePlace::Byte(line.number, line.why.column() as u64);
     let mut diagnostics = Diagnostics::new(subject);
     diagnostics.begin(sink, place, Severity::Error)?;
     diagnostics.put(sink, message.as_bytes())?;
     diagnostics.end(sink)
 }
 
+// Returns the place of the fault of a line.
+fn place_of(line: &UnreadLine) -> FilePlace
+    ensures { result ≡ fault_place line.now }
+{
+    FilePlace::Byte(line.number, line.why.column() as u64)
+}
+
 // Returns the message about a line among those of its text. The error is out of memory.
-fn message_of(
-    alloc: Global,
-    lines: &[&[u8]],
-    unread: &UnreadLine,
-) -> Result<String, AllocError>
+fn message_of(alloc: Global, lines: &[&[u8]], unread: &UnreadLine) -> Result<String, AllocError>
     ensures { IfOk result (λ message.
         string_bytes message ≡ message_in (map (λ line. line.now) lines.now) unread.now) }
 {
@@ -77,7 +77,7 @@ fn line_at<'a>(lines: &[&'a [u8]], number: u64) -> &'a [u8]
     ensures { result.now ≡ line_at (map (λ line. line.now) lines.now) number }
 {
     match lines.get(number.saturating_sub(1) as usize) {
-        Some(line) => line,
+        Some(line) => *line,
         None => b"",
     }
 }
@@ -86,9 +86,5 @@ fn line_at<'a>(lines: &[&'a [u8]], number: u64) -> &'a [u8]
 fn lines_of(alloc: Global, text: &[u8]) -> Result<Vec<&[u8]>, AllocError>
     ensures { IfOk result (λ lines. map (λ line. line.now) lines.items ≡ slice_split is_newline text.now) }
 {
-    let mut lines = Vec::new(alloc);
-    for line in text.split(|byte| *byte == b'\n') {
-        lines.push(line)?;
-    }
-    Ok(lines)
+    text.split(|byte| *byte == b'\n').collect(alloc)
 }

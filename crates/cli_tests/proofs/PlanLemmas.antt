@@ -1,5 +1,5 @@
 -- Files and filters.
-use Rattle.std.proofs.Common.{inl, inr, arith, ◌≡◌, ◌||◌, ◌∙◌, ◌<◌, ◌+◌, ◌++◌, refl, sym, ap, append_assoc, append-nil, map, ℕ, Any, Bool, true, false, get_or, Global, List, [], ◌∷◌, length, nat_eq, Option, String, subst, take}
+use Rattle.std.proofs.Common.{inl, inr, arith, ◌≡◌, ◌||◌, ◌∙◌, ◌<◌, ◌+◌, ◌++◌, refl, sym, ap, append_assoc, append-nil, map, ℕ, Any, Bool, true, false, get_or, Global, List, [], ◌∷◌, length, nat_eq, Option, String, subst, suc, take, zero}
 use Rattle.std.specs.Borrow.{Bor}
 use Rattle.std.proofs.lemmas.List.{take_more}
 use Rattle.cli_base.specs.Files.{IsUnknown}
@@ -50,5 +50,5 @@ module _ (texts : List ℕ → Option (List ℕ)) where
   -- one of the paths isn't known
   pub lacks_path : (paths : List (Bor (List ℕ))) (place : ℕ) (path : Bor (List ℕ)) → place < length paths → path ≡ get_or paths place path
       → IsUnknown texts path.now → LacksPath texts paths
-  lacks_path (first ∷ paths) 0 path within is unknown = inl (subst (λ p. IsUnknown texts p.now) is unknown)
+  lacks_path (first ∷ paths) zero path within is unknown = inl (subst (λ p. IsUnknown texts p.now) is unknown)
   lacks_path (first ∷ paths) (suc place) path within is unknown = inr (lacks_path paths place path (omega arith) is unknown)

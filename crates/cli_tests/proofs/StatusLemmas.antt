@@ -1,5 +1,6 @@
 -- Exit statuses, and the texts of percentages.
 use Rattle.std.proofs.Common.{inl, inr, arith, ◌≡◌, ◌⊎◌, ◌<◌, ◌≤◌, ◌^◌, ℕ, Bool, true, false, if◌then◌else◌, length, List, [], ◌∷◌, nat_eq, Option, refl}
+use Rattle.std.proofs.lemmas.Bool.Decides.{nat_tests}
 use Rattle.std.proofs.Math.Nat.{lt_of_not-le}
 use Rattle.std.specs.Str.Parse.{IsNumeral, digits_value, without_leading_plus}
 use Rattle.cli_options.specs.declared.command_options.TestOptions.{TestOptions}
@@ -12,7 +13,7 @@ use Rattle.cli_tests.specs.declared.planned_test.PlannedTest.{PlannedTest}
 -- a list without elements
 pub empty_list : {X : Type 0} (xs : List X) → nat_eq (length xs) 0 ≡ true → xs ≡ []
 empty_list [] is = refl
-empty_list (x ∷ xs) is = absurd (search is)
+empty_list (x ∷ xs) is = absurd (grind (arith, nat_tests, is))
 
 -- a text that isn't read as a number of 8 bits is no percentage
 pub unread_percentage : (text : List ℕ)

@@ -31,7 +31,7 @@ IsResultOf texts asked settings (Policy path) passed = IsPolicyResult texts sett
 
 -- each test has its result, in the order of the tests
 abbrev pub AreResults : (List ℕ → Option (List ℕ)) → TestOptions → Settings → List PlannedTest → List TimedResult → Type 0
-AreResults texts asked settings tests trials = AllZip (λ test trial. IsResultOf texts asked settings test trial.result.passed) tests trials
+AreResults texts asked settings tests trials = AllZip (λ (test : PlannedTest) (trial : TimedResult). IsResultOf texts asked settings test trial.result.passed) tests trials
 
 -- ---- coverage
 

@@ -82,4 +82,4 @@ is_selected texts test = length texts == 0 || list_any (has_text (path_of test))
 abbrev pub AreSelected : (List ℕ → Option (List ℕ)) → List (Bor (List ℕ)) → List (Bor (List ℕ)) → List PlannedTest → Type 0
 AreSelected texts paths filters tests = (files : List (String Global)) × AreFiles texts paths files
     × ((found : List PlannedTest) × ArePlanned texts files found
-    × (tests ≡ filter (is_selected (map (λ filter. filter.now) filters)) found))
+    × (tests ≡ filter (is_selected (map (λ given. given.now) filters)) found))

@@ -5,6 +5,7 @@
 #![tactic(auto)]
 
 mod coverage_printer;
+mod file_presence;
 mod file_search;
 mod planned_test;
 mod policy_test;

@@ -5,6 +5,7 @@ ghost use Rattle.std.specs.List.{list_any};
 ghost use Rattle.cli_tests.specs.declared.planned_test.PlannedTest.TheVariants.{Policy, Scenario};
 ghost use Rattle.cli_tests.specs.Plan.{ArePlanned, IsPolicyBeside, has_text, holds_policy, is_selected, path_of, with_file, with_policy, with_policy_beside};
 
+use crate::file_presence::may_exist;
 use cli_base::{Host, is_policy, policy_path};
 use memchr::memmem;
 use std::alloc::{AllocError, AllocFailed};
@@ -39,10 +40,10 @@ fn policy_next_to<H: Host>(host: &H, scenario: &str) -> Result<Option<String>, A
     ensures { IfOk result (IsPolicyBeside (H.text_at host.now) scenario.now) }
 {
     let policy = policy_path(host.rt().alloc(), scenario)?;
-    match host.exists(policy.as_str()) {
-        Ok(false) => Ok(None),
-        _ => Ok(Some(policy)),
+    if !may_exist(host, policy.as_str()) {
+        return Ok(None);
     }
+    Ok(Some(policy))
 }
 
 /// Removes the tests whose paths have none of these texts. Without a text all tests remain.

@@ -4,6 +4,7 @@ ghost use Rattle.cli_base.specs.ListFailures.{boot_lacks_memory, lacks_memory};
 ghost use Rattle.cli_base.specs.Texts.{bytes_of};
 ghost use Rattle.cli_tests.specs.PolicyTest.{IsKeptBy, IsListResult, IsPolicyResult, is_kept};
 
+use crate::file_presence::may_exist;
 use crate::scenario_test::lacks_memory;
 use cli_base::{
     Host, ListFaultMessage, Machine, PolicyDiagnostic, PolicyVerdict, Settings, Spot,
@@ -28,7 +29,7 @@ pub(crate) fn test_policy<H: Host>(
     let rt = host.rt();
     let list = machine_path(rt.alloc(), policy)?;
     let name = format!(in rt.alloc(); "{list} keeps {policy}")?;
-    if let Ok(false) = host.exists(list.as_str()) {
+    if !may_exist(host, list.as_str()) {
         let message = format_args!(
             "expected the start list `{list}` next to the policy, found none"
         );

@@ -6,6 +6,7 @@ ghost use Rattle.cli_base.specs.ListFailures.{lacks_memory};
 ghost use Rattle.cli_tests.specs.ScenarioTest.{IsFileResult, IsFound, IsMachineResult, IsScenarioResult, IsTextResult, IsUnfoldedResult, IsUnreadResult, is_warned};
 
 use crate::coverage_printer::CoveragePrinter;
+use crate::file_presence::may_exist;
 use crate::scenario_run::{TestCase, failed, test_lines};
 use cli_base::{
     Host, Machine, Origin, ReadFailure, Settings, Spot, StartListFailure, UNWRITTEN, Warnings,
@@ -14,7 +15,6 @@ use cli_base::{
 use cli_options::TestOptions;
 use line_rounds::{UnfoldError, UnfoldedText, unfold};
 use std::alloc::AllocError;
-use std::fs::File;
 use view_test_report::TestResult;
 
 /// The error of a scenario that has no warnings since it isn't read whole, where a warning is a fault.
@@ -45,7 +45,7 @@ pub(crate) fn test_scenario<H: Host>(
         conditions.entry.settings (option_copied conditions.entry.asked.now.machine) scenario.now test.passed) }
 {
     let list = machine_path(host.rt().alloc(), scenario)?;
-    if let Ok(false) = host.exists(list.as_str()) {
+    if !may_exist(host, list.as_str()) {
         return test_on(host, scenario, conditions.other, conditions, coverings);
     }
     let machine = Machine::find(host, Some(list.as_str()), conditions.settings);
@@ -109,7 +109,7 @@ fn test_file<H: Host>(
         case.entry.list.now case.entry.scenario.now test.passed) }
 {
     match read_whole(host, case.scenario)? {
-        Some(text) => test_text(host.rt(), case, &text, coverings),
+        Some(text) => test_text(host, case, &text, coverings),
         None => test_unread(host, case, coverings),
     }
 }
@@ -138,8 +138,8 @@ fn test_unread<H: Host>(
 
 // Runs a scenario of a text, with its rounds unfolded.
 #[tactic(auto, unfolding(cli_base::specs::Unfolding::rounds_of))]
-fn test_text(
-    rt: &HostRuntime,
+fn test_text<H: Host>(
+    host: &H,
     case: TestCase<'_>,
     text: &[u8],
     coverings: &mut CoveragePrinter,
@@ -147,9 +147,10 @@ fn test_text(
     ensures { IfOk result (λ test. IsTextResult case.entry.strict case.entry.settings case.entry.list.now
         text.now test.passed) }
 {
+    let rt = host.rt();
     let scenario = case.scenario;
     match unfold(rt.alloc(), text, case.settings.known(rt.alloc())?) {
-        Ok(lines) => test_unfolded(rt, case, text, &lines, coverings),
+        Ok(lines) => test_unfolded(host, case, text, &lines, coverings),
         Err(UnfoldError::Fault(fault)) => {
             let token = rounds_token(rt, text, fault)?;
             let message = fault.reason.about(token.as_str());
@@ -161,18 +162,19 @@ fn test_text(
 }
 
 // Runs the unfolded lines of a scenario's text, after its warnings.
-fn test_unfolded(
-    rt: &HostRuntime,
-    case: TestCase<'_>,
-    text: &[u8],
+fn test_unfolded<'a, H: Host>(
+    host: &H,
+    case: TestCase<'a>,
+    text: &'a [u8],
     lines: &UnfoldedText<'_>,
     coverings: &mut CoveragePrinter,
 ) -> Result<TestResult, AllocError>
     ensures { IfOk result (λ test. IsUnfoldedResult case.entry.strict case.entry.settings case.entry.list.now
         text.now (whole_view lines.now) test.passed) }
 {
+    let rt = host.rt();
     let warnings = Warnings::of(rt, case.list, None, case.scenario, text)?;
-    let origin: Origin<'_, File> = Origin::Held(lines.bytes());
+    let origin: Origin<'_, H::File> = Origin::Held(lines.bytes());
     let result = test_lines(rt, case, origin, lines.marks(), coverings)?;
     warned(rt, &warnings, case.strict, result)
 }

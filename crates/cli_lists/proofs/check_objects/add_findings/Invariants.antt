@@ -1,6 +1,6 @@
 -- The objects of those so far.
 use Rattle.std.proofs.Common.{map, take}
-use Rattle.view_differences.specs.Listings.{Extends}
+use Rattle.view_json.specs.Listings.{Extends}
 use Rattle.cli_lists.specs.CheckDocuments.{finding_object}
 use Rattle.cli_lists.proofs.check_objects.add_findings.Given as goal
 

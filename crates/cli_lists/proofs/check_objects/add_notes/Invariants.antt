@@ -1,6 +1,6 @@
 -- The objects of those so far.
 use Rattle.std.proofs.Common.{map, take}
-use Rattle.view_differences.specs.Listings.{Extends}
+use Rattle.view_json.specs.Listings.{Extends}
 use Rattle.cli_base.specs.PolicyVerdict.{note_message}
 use Rattle.cli_base.specs.declared.policy_verdict.PolicyDiagnostic.{PolicyDiagnostic}
 use Rattle.cli_lists.specs.CheckDocuments.{note_object}

@@ -1,6 +1,6 @@
 -- The objects of those so far.
 use Rattle.std.proofs.Common.{take}
-use Rattle.view_differences.specs.Listings.{Extends}
+use Rattle.view_json.specs.Listings.{Extends}
 use Rattle.cli_lists.specs.ReachDocuments.{reach_objects}
 use Rattle.cli_lists.proofs.reach_documents.add_cells.Given as goal
 

@@ -1,6 +1,6 @@
 -- The objects of all cells.
 use Rattle.std.proofs.Common.{[]}
-use Rattle.view_differences.specs.Listings.{Extends}
+use Rattle.view_json.specs.Listings.{Extends}
 use Rattle.cli_lists.specs.ReachDocuments.{reach_objects}
 use Rattle.cli_lists.proofs.reach_documents.reach_text.Goals as goal
 
