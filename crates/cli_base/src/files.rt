@@ -15,8 +15,12 @@ use view_diagnostics::DiagnosticForm;
 const LONGEST_WHOLE: usize = 64 << 20;
 
 impl ReadFailure {
+    ghost use Rattle.std.specs.Prelude.{◌≡◌};
+
     /// Returns the message that names the file by its path.
-    pub fn about(self, path: &str) -> FileReadMessage<'_> {
+    pub fn about(self, path: &str) -> FileReadMessage<'_>
+        ensures { result.why ≡ self }
+    {
         FileReadMessage { path, why: self }
     }
 }

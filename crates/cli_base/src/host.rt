@@ -103,7 +103,7 @@ fn read_all<S: Source>(alloc: Global, source: &mut S, most: usize) -> Result<Vec
     let mut text = Vec::new(alloc);
     let mut block = [0; BLOCK];
     for _ in 0..u64::MAX {
-        let room = BLOCK.min(most - text.len());
+        let room = BLOCK.min(most.saturating_sub(text.len()));
         if room == 0 {
             return Ok(text);
         }

@@ -9,5 +9,5 @@ use Rattle.cli_runs.proofs.accounts.print_accounts.Goals as goal
 pub returns-in-Ok-clause-status : goal.returns-in-Ok-clause-status
 returns-in-Ok-clause-status g c = λ view.
     let input = origin_bytes g.F.Read.remaining c.args.reader.now.reader.origin in
-    has_status_after (Accounts view) (start_of (Accounts view) c.args.input) input c.in-Ok.list.ending c.print_list.result.0 c.print_list.ensures
+    has_status_after (Accounts view) (start_of (Accounts view) c.args.input) input c.in-Ok.list.ending c.print_list-unread.result.0 c.print_list-unread.ensures
     (status_of_more (Accounts view) (start_of (Accounts view) c.args.input) input _ _ _ c.in-Ok.list.ending _ (λ steps. refl) c.in-Ok.ensures.played c.in-Ok.ensures.before)

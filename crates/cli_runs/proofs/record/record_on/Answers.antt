@@ -1,7 +1,7 @@
 -- The recording is that of the lines that are run.
-use Rattle.std.proofs.Common.{◌≡◌, ℕ, length, None, inl}
+use Rattle.std.proofs.Common.{◌≡◌, ℕ, length, None}
 use Rattle.line_rounds.specs.Views.{whole_view}
-use Rattle.cli_runs.proofs.CommandLemmas.{machine_ends, of_made, recorded, unbooted_ends}
+use Rattle.cli_runs.proofs.CommandLemmas.{of_made, recorded}
 use Rattle.cli_runs.specs.CommandStatus.{advice_of}
 use Rattle.cli_runs.proofs.record.record_on.Goals as goal
 
@@ -14,8 +14,3 @@ returns-in-Ok-record c =
     (of_made (λ (count : ℕ). count ≡ length (advice_of None c.list-list.result.now c.args.text.now)) c.warn-warned.result
     c.in-Ok-made_or_status.warnings c.in-Ok-made_or_status.ensures.ok c.warn-warned.ensures)
     c.in-Ok-record.ensures.unread c.print_recording-status.ensures c.warned_status.ensures
-
-pub returns-in-Err-record : goal.returns-in-Err-record
-returns-in-Err-record c =
-    inl (machine_ends c.args.machine.now c.list-list.result.now c.report_boot_fault.result c.list-list.ensures
-    (unbooted_ends c.list-list.result.now c.in-Err-record.fault c.report_boot_fault.result c.in-Err-record.ensures.unbooted c.report_boot_fault.ensures))

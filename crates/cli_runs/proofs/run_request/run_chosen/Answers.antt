@@ -1,14 +1,7 @@
 -- The machine is that of the list that is chosen.
 use Rattle.cli_base.proofs.UnfoldingLemmas.{machine_for}
-use Rattle.cli_runs.proofs.CommandLemmas.{chosen_ran, chosen_unread, list_unread}
+use Rattle.cli_runs.proofs.CommandLemmas.{chosen_ran}
 use Rattle.cli_runs.proofs.run_request.run_chosen.Goals as goal
-
-pub returns-in-Err-read : goal.returns-in-Err-read
-returns-in-Err-read g c =
-    let texts = g.H.Host.text_at c.args.host.now in
-    chosen_unread texts c.args.named c.args.request c.in-Err-read.status
-    (list_unread texts c.args.request.settings c.args.named c.args.request.scenario.now c.in-Ok.list c.path.result c.in-Err-read.status
-    c.in-Ok.ensures.chosen c.path.ensures c.in-Err-read.ensures.failed)
 
 pub returns-in-Ok-read : goal.returns-in-Ok-read
 returns-in-Ok-read g c =

@@ -7,9 +7,6 @@ use Rattle.cli_runs.proofs.run_request.run_long.Goals as goal
 pub returns-in-Err : goal.returns-in-Err
 returns-in-Err g c = inl (inr (c.in-Err.ensures.failed.0, inr c.in-Err.ensures.failed.1))
 
-pub returns-then-strict : goal.returns-then-strict
-returns-then-strict g c = inl (inr (c.refuse_strict.ensures, inl (search rules, inr c.requires)))
-
 pub returns : goal.returns
 returns g c =
     let request = c.args.request in
