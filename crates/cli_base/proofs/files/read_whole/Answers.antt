@@ -1,5 +1,5 @@
 -- A text is all of the file unless it is longer than a scenario that is read whole.
-use Rattle.std.proofs.Common.{◌≡◌, arith, length, subst}
+use Rattle.std.proofs.Common.{◌≡◌, arith, length, refl, subst}
 use Rattle.cli_base.proofs.FileLemmas.{long_text, whole_text}
 use Rattle.cli_base.proofs.files.read_whole.Goals as goal
 
@@ -13,5 +13,6 @@ pub returns-in-Ok-2-clause-text : goal.returns-in-Ok-2-clause-text
 returns-in-Ok-2-clause-text g c =
     let same : c.in-Ok.text ≡ c.in-Ok-2.text = cc in
     let shorter = c.if-len-gt-LONGEST_WHOLE.false in
-    let long = subst (λ text. c.len.result ≡ length text.items) same c.len.ensures in
-    whole_text (g.H.Host.text_at c.args.host.now) c.args.path.now 67108865 c.in-Ok-2.text.items (omega (arith, shorter, long)) c.in-Ok-2.ensures.text
+    let long = c.len.ensures in
+    let same_length : length c.in-Ok.text.items ≡ length c.in-Ok-2.text.items = subst (λ text. length c.in-Ok.text.items ≡ length text.items) same refl in
+    whole_text (g.H.Host.text_at c.args.host.now) c.args.path.now 67108865 c.in-Ok-2.text.items (omega (arith, shorter, long, same_length)) c.in-Ok-2.ensures.text
