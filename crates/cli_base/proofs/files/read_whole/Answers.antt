@@ -1,5 +1,5 @@
 -- A text is all of the file unless it is longer than a scenario that is read whole.
-use Rattle.std.proofs.Common.{◌≡◌, arith, length, refl, subst}
+use Rattle.std.proofs.Common.{arith}
 use Rattle.cli_base.proofs.FileLemmas.{long_text, whole_text}
 use Rattle.cli_base.proofs.files.read_whole.Goals as goal
 
@@ -11,8 +11,6 @@ returns-in-Ok-clause-unread g c =
 
 pub returns-in-Ok-2-clause-text : goal.returns-in-Ok-2-clause-text
 returns-in-Ok-2-clause-text g c =
-    let same : c.in-Ok.text ≡ c.in-Ok-2.text = cc in
     let shorter = c.if-len-gt-LONGEST_WHOLE.false in
     let long = c.len.ensures in
-    let same_length : length c.in-Ok.text.items ≡ length c.in-Ok-2.text.items = subst (λ text. length c.in-Ok.text.items ≡ length text.items) same refl in
-    whole_text (g.H.Host.text_at c.args.host.now) c.args.path.now 67108865 c.in-Ok-2.text.items (omega (arith, shorter, long, same_length)) c.in-Ok-2.ensures.text
+    whole_text (g.H.Host.text_at c.args.host.now) c.args.path.now 67108865 c.in-Ok.text.items (omega (arith, shorter, long)) c.in-Ok.ensures.text
