@@ -1,5 +1,5 @@
 -- Accounts component by component, while inits get what their lists need.
-use Rattle.std.proofs.Common.{arith, ◌≡◌, ℕ, zero, suc, ◌+◌, ◌<◌, true, false, List, [], ◌∷◌, ◌++◌, length, nat_eq, refl, sym, ap, subst, ◌∙◌}
+use Rattle.std.proofs.Common.{arith, ◌≡◌, ℕ, zero, suc, ◌+◌, true, false, List, [], ◌∷◌, ◌++◌, length, nat_eq, refl, sym, ap, subst, ◌∙◌}
 use Rattle.std.proofs.lemmas.Bool.Decides.{nat_tests}
 use Rattle.std.specs.Prelude.{if◌then◌else◌, is_some, Option, Some, None, Vec}
 use Rattle.std.specs.List.{slice_get}
@@ -12,15 +12,14 @@ use Rattle.list_parser.specs.Depth.{is_init, runs_init}
 use Rattle.budget_meter.specs.Needs.{amounts_of}
 use Rattle.budget_search.proofs.AlikeLemmas.{entry_named}
 use Rattle.budget_search.specs.AccountNeeds.{need_rows, AreSessionAccounts, IsChanged, IsIdle, IsSessionAccount}
-use Rattle.budget_search.specs.Alike.{given_in, most_in, own_entry}
+use Rattle.budget_search.specs.Alike.{most_in, own_entry}
 use Rattle.budget_search.specs.BudgetIntervals.{lowest_of, safe_of}
 use Rattle.budget_search.specs.Own.{suffices_with, AreExact}
 use Rattle.budget_search.specs.Sufficient.{HasLeast, HasSafe}
 use Rattle.budget_search.specs.declared.account_budgets.AccountBudgets.{AccountBudgets}
 use Rattle.budget_search.specs.declared.component_line.ComponentLine.{ComponentLine}
-use Rattle.budget_search.specs.declared.script_search.ScriptSearch.{ScriptSearch}
 use Rattle.budget_search.specs.declared.script_search.ScriptSessions.{ScriptSessions}
-use Rattle.budget_least.specs.ComponentAccounts.{steps_at, AreAccounts, AreAccountsOf, AreSessionsFrom, IsGiven, IsMeasured, IsOwnOf, IsSessionsOf}
+use Rattle.budget_least.specs.ComponentAccounts.{steps_at, AreAccounts, AreAccountsOf, AreSessionsFrom, IsMeasured, IsOwnOf, IsSessionsOf}
 use Rattle.budget_least.specs.InitNeeds.{is_init_at, AreChanged}
 
 -- ---- sessions of one component more
@@ -179,29 +178,3 @@ module _ (list : Listed) (place : ℕ) (need : Option Amounts) (starts : is_init
         before_are = all_kept steps count joined.before split.front split.front_are joined.before_are;
         after_are = its_kept count (steps_at steps count) joined.after split.back split.back_are joined.after_are;
       }
-
--- ---- accounts of one component more
-
-pub joined : {Z : Type 0} (list : Listed) (steps : List (Vec ComponentLine Z)) (component : ℕ) (before its all : List AccountBudgets) → all ≡ before ++ its →
-    AreAccounts list steps component before → AreAccountsOf list component (steps_at steps component) its → AreAccounts list steps (component + 1) all
-joined list steps component before its all these before_are its_are =
-    let next : component + 1 ≡ suc component = omega arith in
-    subst (λ n. AreAccounts list steps n all) (sym next) (joined_at list steps component before its all these before_are its_are)
-  where
-    joined_at : {Z : Type 0} (l : Listed) (s : List (Vec ComponentLine Z)) (n : ℕ) (firsts last accounts : List AccountBudgets) → accounts ≡ firsts ++ last →
-        AreAccounts l s n firsts → AreAccountsOf l n (steps_at s n) last → AreAccounts l s (suc n) accounts
-    joined_at l s n firsts last accounts is firsts_are last_is = record { before = firsts; after = last; these = is; before_are = firsts_are; after_are = last_is }
-
--- the accounts that a search finds are those of its component
-pub own_search : (search : ScriptSearch) (list : Listed) (component : ℕ) (steps : List ComponentLine) (accounts : List AccountBudgets) → search.component ≡ component →
-    search.list.now ≡ list → AreAccountsOf search.list.now search.component steps accounts → AreAccountsOf list component steps accounts
-own_search search list component steps accounts same lists are =
-    subst (λ l. AreAccountsOf l component steps accounts) lists (subst (λ n. AreAccountsOf search.list.now n steps accounts) same are)
-
-pub is_given : (search : ScriptSearch) (list : Listed) (component : ℕ) → search.component ≡ component → search.list.now ≡ list → component < length list.entries →
-    (own_entry list component).kind ≡ Script → amounts_of search.given ≡ given_in list component → IsGiven search
-is_given search list component same lists there script given = record {
-  there = subst (λ n. n < length search.list.now.entries) (sym same) (subst (λ l. component < length l.entries) (sym lists) there);
-  script = ap (λ n. (own_entry search.list.now n).kind) same ∙ ap (λ l. (own_entry l component).kind) lists ∙ script;
-  given = given ∙ sym (ap (λ n. given_in search.list.now n) same ∙ ap (λ l. given_in l component) lists);
-}

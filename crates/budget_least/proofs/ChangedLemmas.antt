@@ -1,44 +1,13 @@
 -- Lines that are compared with those of another reading, and lines whose donations are set.
-use Rattle.std.proofs.Common.{arith, ◌≡◌, ℕ, zero, suc, ◌+◌, ◌<◌, ◌&&◌, ◌==◌, Bool, true, false, List, [], ◌∷◌, ◌++◌, length, map, drop, get_or, set, refl, sym, ap, ◌∙◌, append_assoc}
-use Rattle.std.proofs.lemmas.Bool.Decides.{same_from_decides, Decides-and, Decides-eqb, Decides-like}
+use Rattle.std.proofs.Common.{arith, ◌≡◌, ℕ, zero, suc, ◌+◌, ◌<◌, List, [], ◌∷◌, ◌++◌, length, map, get_or, set, refl, sym, ap, ◌∙◌, append_assoc}
 use Rattle.std.proofs.lemmas.Option.{slice_get-map}
-use Rattle.std.proofs.lemmas.Slice.Eq.{bytes_eq-Decides}
-use Rattle.std.specs.Bool.{Decides}
 use Rattle.std.specs.List.{slice_get}
 use Rattle.std.specs.Option.{option_map, unwrap_or}
-use Rattle.std.specs.Prelude.{if◌then◌else◌, not, option_to_list, Option, Some, None, Vec}
-use Rattle.std.specs.Str.{bytes_eq}
-use Rattle.own_model.specs.Amounts.{Amounts}
-use Rattle.budget_search.specs.Lines.{Donates, IsSameLine}
+use Rattle.std.specs.Prelude.{option_to_list, Option, Some, None, Vec}
 use Rattle.budget_search.specs.declared.component_line.ComponentLine.{ComponentLine}
-use Rattle.budget_least.specs.ChangedLines.{changed_before, changed_below, changed_lines, changed_number, is_same, lines_at}
+use Rattle.budget_least.specs.ChangedLines.{changed_before, changed_below, changed_lines, changed_number, lines_at}
 use Rattle.budget_least.specs.ComponentAccounts.{steps_at}
 use Rattle.budget_least.specs.ComponentLines.{line_of, lines_of, ReadLine}
-use Rattle.budget_least.specs.declared.changed_line.ChangedLine.{ChangedLine}
-
--- ---- lines that are the same
-
-both_decide : (a b : Bool) → Decides (if a then b else not b) (a ≡ b)
-both_decide true true = (λ is. refl, λ is. refl)
-both_decide true false = (λ is. absurd (cc), λ is. absurd (cc))
-both_decide false true = (λ is. absurd (cc), λ is. absurd (cc))
-both_decide false false = (λ is. refl, λ is. refl)
-
-pub same_decides : (one other : ComponentLine) → Decides (is_same (line_of one) (line_of other)) (IsSameLine one other)
-same_decides one other =
-    Decides-like (is_same (line_of one) (line_of other))
-    (λ (parts : (one.number ≡ other.number) × ((one.is_left_out ≡ other.is_left_out) × (one.line.items ≡ other.line.items))).
-    record { number = parts.0; left_out = parts.1.0; text = parts.1.1 })
-    (λ same. (same.number, (same.left_out, same.text)))
-    (Decides-and (one.number == other.number)
-    ((if one.is_left_out then other.is_left_out else not other.is_left_out) && bytes_eq one.line.items other.line.items)
-    (Decides-eqb one.number other.number)
-    (Decides-and (if one.is_left_out then other.is_left_out else not other.is_left_out) (bytes_eq one.line.items other.line.items)
-    (both_decide one.is_left_out other.is_left_out)
-    (bytes_eq-Decides one.line.items other.line.items)))
-
-pub like_same : (like : Bool) (one other : ComponentLine) → Decides like (IsSameLine one other) → like ≡ is_same (line_of one) (line_of other)
-like_same like one other decides = same_from_decides like (is_same (line_of one) (line_of other)) decides (same_decides one other)
 
 -- ---- lines of two readings, place by place
 
@@ -52,12 +21,13 @@ pub place_more : (steps others : List ComponentLine) (place : ℕ) (step other :
     new ≡ before ++ changed_before (place + 1) (lines_of steps) (lines_of others)
 place_more steps others place step other number before old new is_step is_other told so_far longer =
     let next : suc place ≡ place + 1 = omega arith in
+    let more : new ≡ before ++ changed_before (suc place) (lines_of steps) (lines_of others) =
     longer
     ∙ ap (λ numbers. numbers ++ option_to_list number) so_far
     ∙ append_assoc before (changed_before place (lines_of steps) (lines_of others)) (option_to_list number)
     ∙ ap (λ (n : Option ℕ). before ++ changed_before place (lines_of steps) (lines_of others) ++ option_to_list n)
-    (told ∙ (λ i. changed_number (line_seen steps place step is_step i) (line_seen others place other is_other i)))
-    ∙ ap (λ n. before ++ changed_before n (lines_of steps) (lines_of others)) next
+    (told ∙ (λ i. changed_number (line_seen steps place step is_step i) (line_seen others place other is_other i))) in
+    more ∙ ap (λ n. before ++ changed_before n (lines_of steps) (lines_of others)) next
 
 -- the lines of a component
 module _ {Z : Type 0} where
@@ -77,29 +47,14 @@ module _ {Z : Type 0} where
       new ≡ changed_below (component + 1) (seen steps) (seen others)
   component_more steps others component these those old new is_these is_those so_far longer =
       let next : suc component ≡ component + 1 = omega arith in
+      let more : new ≡ changed_below (suc component) (seen steps) (seen others) =
       longer
       ∙ ap (λ numbers. numbers ++ changed_lines (lines_of these) (lines_of those)) so_far
       ∙ (λ i. changed_below component (seen steps) (seen others)
-          ++ changed_lines ((ap lines_of is_these ∙ lines_seen steps component) i) ((ap lines_of is_those ∙ lines_seen others component) i))
-      ∙ ap (λ n. changed_below n (seen steps) (seen others)) next
-
--- ---- lines that are left out
-
--- the number of the next line
-pub number_more : (changed : List ChangedLine) (index : ℕ) (line : ChangedLine) (old new start : List ℕ) → drop index changed ≡ line ∷ drop (index + 1) changed →
-    new ≡ old ++ line.number ∷ [] → old ++ map (λ (l : ChangedLine). l.number) (drop index changed) ≡ start →
-    new ++ map (λ (l : ChangedLine). l.number) (drop (index + 1) changed) ≡ start
-number_more changed index line old new start first longer before =
-    ap (λ numbers. numbers ++ map (λ (l : ChangedLine). l.number) (drop (index + 1) changed)) longer
-    ∙ append_assoc old (line.number ∷ []) (map (λ (l : ChangedLine). l.number) (drop (index + 1) changed))
-    ∙ ap (λ lines. old ++ map (λ (l : ChangedLine). l.number) lines) (sym first)
-    ∙ before
+          ++ changed_lines ((ap lines_of is_these ∙ lines_seen steps component) i) ((ap lines_of is_those ∙ lines_seen others component) i)) in
+      more ∙ ap (λ n. changed_below n (seen steps) (seen others)) next
 
 -- ---- lines whose donations are set
-
--- a donation changes neither the number of a line nor its text
-pub donated_line : (donation : Amounts) (old new : ComponentLine) → Donates donation old new → line_of new ≡ line_of old
-donated_line donation old new is = λ i. record { number = is.number i; left_out = is.left_out i; text = is.line i }
 
 -- what is seen of elements stays, if the element that is written looks the same
 pub kept_at : {X Y : Type 0} (seen : X → Y) (xs : List X) (place : ℕ) (old new : X) → place < length xs → old ≡ get_or xs place old → seen new ≡ seen old →

@@ -37,17 +37,6 @@ module _ (question : BudgetQuery) (start : RunPosition) where
       subst (λ (lines : List (List ReadLine)). AreRead (slice_split (λ b. b == 10) question.scenario.now)
       (first_reading question.list.now question.scenario.now start budgets) (record { run = run; lines = lines; unmeasured = unread })) (sym same) read
 
-  -- a report with other donations in the lines that were read
-  pub same_lines : (budgets : BindingBudgets) (report : BudgetReport) (lines : LinesByComponent) → lines_in report.scene ≡ lines_in lines →
-      numbers_in report.scene ≡ numbers_in lines → HasRead question.list.now question.scenario.now start budgets lines →
-      AreLinesOf question start budgets (numbers_in report.scene) report
-  same_lines budgets report lines same numbers read = (
-    read.0,
-    subst (λ (unread : List ℕ). AreRead (slice_split (λ b. b == 10) question.scenario.now) (first_reading question.list.now question.scenario.now start budgets)
-    (record { run = read.0; lines = lines_in report.scene; unmeasured = unread })) (sym numbers)
-    (reading_kept budgets (numbers_in lines) read.0 (lines_in lines) (lines_in report.scene) same read.1),
-  )
-
   -- ---- lines that are added to those that aren't measured
 
   draft_kept : (budgets : BindingBudgets) (unread : List ℕ) (report : BudgetReport) (scene : LinesByComponent) → scene.steps ≡ report.scene.steps →
@@ -146,8 +135,3 @@ module _ (question : BudgetQuery) (start : RunPosition) where
 pub named_as : (question : BudgetQuery) (start : RunPosition) (report : BudgetReport) (named found : Bool) → found ≡ has_names question.scenario.now → found ≡ named →
     IsReportIf named question start report → IsReportIf (has_names question.scenario.now) question start report
 named_as question start report named found told is reported = subst (λ b. IsReportIf b question start report) (sym is ∙ told) reported
-
--- lines of a run with these budgets, which a report writes
-pub filled_by : (question : BudgetQuery) (start : RunPosition) (budgets : BindingBudgets) (report : BudgetReport) (lines : LinesByComponent) →
-    HasRead question.list.now question.scenario.now start budgets lines → AreWrittenBy report budgets → AreFilledBy question start report lines
-filled_by question start budgets report lines read written = (budgets, (written, read))

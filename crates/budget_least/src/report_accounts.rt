@@ -1,5 +1,5 @@
 //! The accounts of a report, component by component.
-ghost use Rattle.std.specs.Prelude.{◌≡◌, ◌≢◌, ◌++◌, ◌<◌, List, length, IfOk, OnOk};
+ghost use Rattle.std.specs.Prelude.{◌≡◌, ◌≢◌, ◌++◌, ◌∷◌, ◌<◌, [], List, length, IfOk, OnOk};
 ghost use Rattle.own_model.specs.StartList.Kind.{Script as AScript};
 ghost use Rattle.budget_search.specs.Alike.{own_entry};
 ghost use Rattle.budget_search.specs.AccountNeeds.{AreSessionAccounts};
@@ -216,8 +216,16 @@ fn server_accounts(
         AreAccountsOf list.now component steps accounts.items) }
 {
     let given = budget_of(&list.entries()[component]);
-    let mut accounts = Vec::new(alloc);
     let idle = AccountBudgets::idle(alloc, component, given)?;
-    accounts.push(idle)?;
+    let accounts = alone(alloc, idle)?;
+    Ok(accounts)
+}
+
+// Returns one account alone.
+fn alone(alloc: Global, account: AccountBudgets) -> Result<Vec<AccountBudgets>, AllocError>
+    ensures { IfOk result (λ accounts. accounts.items ≡ account ∷ []) }
+{
+    let mut accounts = Vec::new(alloc);
+    accounts.push(account)?;
     Ok(accounts)
 }

@@ -178,10 +178,8 @@ pub(crate) fn test_boot(alloc: Global, list: &StartList, is_to_boot: bool) -> Re
     if !is_to_boot {
         return Ok(());
     }
-    match boot(alloc, list) {
-        Ok(_) => Ok(()),
-        Err(fault) => Err(fault),
-    }
+    let _core = boot(alloc, list)?;
+    Ok(())
 }
 
 // Returns the steps to each entry of a list in its text.

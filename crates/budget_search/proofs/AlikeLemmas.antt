@@ -1,5 +1,5 @@
 -- What a start list tells of a component's calls hangs on no budget.
-use Rattle.std.proofs.Common.{◌≡◌, ℕ, zero, suc, ◌+◌, ◌<◌, ◌==◌, cond, ◌&&◌, Bool, false, List, [], ◌∷◌, ◌++◌, inl, inr, length, map, refl, sym, ap, arith, ◌∙◌}
+use Rattle.std.proofs.Common.{◌≡◌, ℕ, zero, suc, ◌+◌, ◌<◌, ◌==◌, cond, ◌&&◌, Bool, false, true, List, [], ◌∷◌, ◌++◌, inl, inr, length, map, refl, sym, ap, arith, ◌∙◌}
 use Rattle.std.proofs.lemmas.List.{length-map}
 use Rattle.std.proofs.lemmas.Option.{none-some, same_Some, slice_get-map, slice_get_cases, unwrap_or-slice_get}
 use Rattle.std.proofs.lemmas.List.Sums.{sum_by-cons}
@@ -125,6 +125,11 @@ other_kind AScript other is = absurd (cc)
 other_kind (AServer service offer) other is = absurd (cc)
 other_kind AnInit other is = absurd (cc)
 
+script_kind : (binary : Binary) → runs_script binary ≡ true → kind_of binary ≡ Script
+script_kind AScript script = refl
+script_kind (AServer service offer) script = absurd (cc)
+script_kind AnInit script = absurd (cc)
+
 module _ (list : Listed) (component : ℕ) (entry : ListedEntry) (is : slice_get list.entries component ≡ Some entry) where
   pub given_told : (budget : Budget) → budget.ram ≡ entry.ram → budget.caps ≡ entry.caps → amounts_of budget ≡ given_in list component
   given_told budget ram caps = (λ i. record { ram = ram i; caps = caps i }) ∙ ap (λ o. unwrap_or (option_map budget_at o) no_amounts) (sym is)
@@ -138,6 +143,9 @@ module _ (list : Listed) (component : ℕ) (entry : ListedEntry) (is : slice_get
 
   pub entry_named : own_entry list component ≡ (start_of list entry).entry
   entry_named = named (λ start. start.entry) nobody
+
+  pub is_script : runs_script entry.binary ≡ true → (own_entry list component).kind ≡ Script
+  is_script script = ap (λ e. e.kind) entry_named ∙ script_kind entry.binary script
 
   pub not_script : runs_script entry.binary ≡ false → (own_entry list component).kind ≡ Script → ⊥
   not_script other script = other_kind entry.binary other (ap (λ e. e.kind) (sym entry_named) ∙ script)

@@ -56,6 +56,7 @@ impl ScriptSearch<'_> {
         ensures list { IfSome result (λ search. search.list.now ≡ list.now) }
         ensures given { IfSome result (λ search.
             amounts_of search.given ≡ given_in list.now component) }
+        ensures script { IfSome result (λ _. (own_entry list.now component).kind ≡ AScript) }
         ensures other { IfNone result ((own_entry list.now component).kind ≢ AScript) }
     {
         let entry = &list.entries()[component];
