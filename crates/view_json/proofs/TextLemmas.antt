@@ -3,7 +3,9 @@ use Rattle.std.proofs.Common.{◌≡◌, ℕ, if◌then◌else◌, List, [], ◌
 use Rattle.std.specs.List.{flat_map}
 use Rattle.std.proofs.lemmas.List.Concat.{flat_map-append}
 use Rattle.serde_json.specs.Data.{Data}
-use Rattle.view_json.specs.Documents.{object_text, objects_text, separator}
+use Rattle.view_json.specs.Documents.{object_text, objects_text, separator, Lists, Member}
+use Rattle.view_json.specs.Listings.{Extends}
+use Rattle.view_json.specs.declared.listing.Listing.{Listing}
 
 -- one more object
 pub objects_more : (objects : List (List (List ℕ × Data))) (members : List (List ℕ × Data)) (text : List ℕ) → text ≡ objects_text objects →
@@ -17,7 +19,9 @@ objects_more (first ∷ others) members text is =
     ∙ ap (λ t. object_text first ++ (flat_map after others ++ t)) (sym (append-nil (after members)))
     ∙ ap (λ t. object_text first ++ t) (sym (flat_map-append after others (members ∷ [])))
 
--- a text that is put behind another, if there is room
-pub put_behind : {T E : Type 0} (r : Result T E) (old more : List ℕ) {new text : List ℕ} → new ≡ (if is_ok r then old ++ more else old) → old ++ more ≡ text → OnOk r (new ≡ text)
-put_behind (Ok x) old more new_is is = new_is ∙ is
-put_behind (Err e) old more new_is is = tt
+-- a listing whose text, with what is put behind its separator, is that of more objects, if there is room
+pub extends_by : {T E : Type 0} (r : Result T E) (old new : Listing) (parted text : List ℕ) (more : List (List Member)) →
+    new.text.items ≡ (if is_ok r then parted ++ text else parted) →
+    ((objects : List (List Member)) → Lists old objects → parted ++ text ≡ objects_text (objects ++ more)) → OnOk r (Extends old new more)
+extends_by (Ok x) old new parted text more is grown = record { has = λ objects lists. is ∙ grown objects lists }
+extends_by (Err e) old new parted text more is grown = tt

@@ -1,7 +1,6 @@
 //! Lists of documents.
-ghost use Rattle.std.specs.Prelude.{◌≡◌, ◌∷◌, ◌++◌, [], ℕ, List, IfOk, OnOk};
-ghost use Rattle.serde_json.specs.Data.{Data};
-ghost use Rattle.view_json.specs.Documents.{list_text, members_data, objects_text, separator};
+ghost use Rattle.std.specs.Prelude.{◌≡◌, ◌∷◌, [], List, IfOk, OnOk};
+ghost use Rattle.view_json.specs.Documents.{list_text, members_data, separator};
 
 use crate::document::Document;
 use crate::field::JsonMember;
@@ -16,9 +15,12 @@ pub struct Listing {
 }
 
 impl Listing {
+    ghost use Rattle.view_json.specs.Documents.{Lists, Member};
+    ghost use Rattle.view_json.specs.Listings.{Extends};
+
     /// Returns a list of JSON that has no documents yet.
     pub fn new(alloc: Global) -> Listing
-        ensures { result.text.items ≡ objects_text [] }
+        ensures { Lists result [] }
     {
         Listing {
             alloc,
@@ -28,10 +30,7 @@ impl Listing {
 
     /// Adds a document with these members. After an error, which is out of memory, the list is of no further use.
     pub fn add(&mut self, members: &[JsonMember<'_>]) -> Result<(), AllocError>
-        ensures { (objects : List (List (List ℕ × Data))) →
-            self.old.text.items ≡ objects_text objects →
-            OnOk result (self.new.text.items
-            ≡ objects_text (objects ++ members_data members.now ∷ [])) }
+        ensures { OnOk result (Extends self.old self.new (members_data members.now ∷ [])) }
     {
         let text = Document::of(self.alloc, members)?.into_text(self.alloc)?;
         self.text
@@ -41,7 +40,7 @@ impl Listing {
 
     /// Renders the list as text. The error is out of memory.
     pub fn into_text(self) -> Result<Vec<u8>, AllocError>
-        ensures { (objects : List (List (List ℕ × Data))) → self.text.items ≡ objects_text objects →
+        ensures { (objects : List (List Member)) → Lists self objects →
             IfOk result (λ text. text.items ≡ list_text objects) }
     {
         let mut list = Vec::from_slice(self.alloc, b"[")?;
