@@ -1,3 +1,4 @@
 pub mod LeftLemmas
 pub mod NestLemmas
 pub mod TextLemmas
+mod WordLemmas

@@ -14,15 +14,11 @@ use std::fmt;
 use view_json::{JsonField, ObjectList, ObjectListBuilder};
 
 /// Returns the word for a binary, as a start list has it.
+#[tactic(auto, using(crate::proofs::WordLemmas::word_is))]
 pub fn binary_word(binary: &Binary) -> &'static str
     ensures { result.now ≡ binary_word (model_binary binary.now) }
 {
-    match binary {
-        Binary::Script => "script",
-        Binary::Server(service) => service.binary(),
-        Binary::Declared(_) => "server",
-        Binary::Init => "init",
-    }
+    binary.as_str()
 }
 
 // Returns the kinds that a server declares.

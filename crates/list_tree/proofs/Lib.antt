@@ -1,3 +1,2 @@
-mod ListingLemmas
 pub mod NodeLemmas
 mod PartLemmas

@@ -6,7 +6,7 @@ ghost use Rattle.view_json.specs.Documents.{field_data, list_data, members_data,
 ghost use Rattle.list_tree.specs.DecisionTexts.{rules_text};
 ghost use Rattle.list_tree.specs.Documents.{budget_members, component_object, decision_object, extra_members, init_object, kinds_members, machine_object, node_objects, request_objects, service_members};
 ghost use Rattle.list_parts.specs.Kinds.{kinds_data};
-ghost use Rattle.list_tree.specs.Listings.{Extends};
+ghost use Rattle.view_json.specs.Listings.{Extends};
 
 use crate::node::{ExtraBudget, TreeNode};
 use crate::script_decision::ScriptDecision;
@@ -21,28 +21,22 @@ use view_json::{JsonField, JsonMember, Listing, ObjectList};
 pub(crate) fn add_machine(listing: &mut Listing, list: &StartList) -> Result<(), AllocError>
     ensures { OnOk result (Extends listing.old listing.new (machine_object list.now ∷ [])) }
 {
-    add_object(
-        listing,
-        &[
-            ("kind", JsonField::Word("machine")),
-            ("pages", number_of(list.pages())),
-            ("caps", number_of(list.caps())),
-        ],
-    )
+    listing.add(&[
+        ("kind", JsonField::Word("machine")),
+        ("pages", number_of(list.pages())),
+        ("caps", number_of(list.caps())),
+    ])
 }
 
 /// Adds what the machine's init keeps. Fails if the host is out of memory.
 pub(crate) fn add_kept(listing: &mut Listing, keeps: StartQuota) -> Result<(), AllocError>
     ensures { OnOk result (Extends listing.old listing.new (init_object keeps ∷ [])) }
 {
-    add_object(
-        listing,
-        &[
-            ("kind", JsonField::Word("init")),
-            ("keeps_ram", JsonField::Number(keeps.ram)),
-            ("keeps_caps", number_of(keeps.caps)),
-        ],
-    )
+    listing.add(&[
+        ("kind", JsonField::Word("init")),
+        ("keeps_ram", JsonField::Number(keeps.ram)),
+        ("keeps_caps", number_of(keeps.caps)),
+    ])
 }
 
 /// Adds components, each followed by the decisions on its requests. Fails if the host is out of memory.
@@ -74,13 +68,6 @@ fn add_node<'a>(
     Ok(())
 }
 
-// Adds an object with these members.
-fn add_object(listing: &mut Listing, members: &[JsonMember<'_>]) -> Result<(), AllocError>
-    ensures { OnOk result (Extends listing.old listing.new (members_data members.now ∷ [])) }
-{
-    listing.add(members)
-}
-
 // ---- components
 
 // Adds a component with its budget, the service that it provides, and the kinds that it declares.
@@ -93,7 +80,7 @@ fn add_component(
 {
     let kinds = kinds_of(alloc, node.entry.binary())?;
     let members = component_members(alloc, node, kinds.as_ref())?;
-    add_object(listing, members.as_slice())
+    listing.add(members.as_slice())
 }
 
 // Returns the members of a component with these kinds.
@@ -266,17 +253,14 @@ fn add_request<'a>(
         (decision_object decision.entry.list.now decision.entry.one.now decision.entry.trail.now
         ∷ [])) }
 {
-    add_object(
-        listing,
-        &[
-            ("kind", JsonField::Word("wish")),
-            ("name", JsonField::Text(decision.one.entry.path())),
-            ("service", JsonField::Text(decision.one.service.as_bytes())),
-            ("to", path_of(decision.server())),
-            ("by", JsonField::Text(by.as_bytes())),
-            ("label", label_field(decision.label())),
-        ],
-    )
+    listing.add(&[
+        ("kind", JsonField::Word("wish")),
+        ("name", JsonField::Text(decision.one.entry.path())),
+        ("service", JsonField::Text(decision.one.service.as_bytes())),
+        ("to", path_of(decision.server())),
+        ("by", JsonField::Text(by.as_bytes())),
+        ("label", label_field(decision.label())),
+    ])
 }
 
 // The path of an entry as a field, or nothing if there is no entry.

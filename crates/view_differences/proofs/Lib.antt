@@ -1,2 +1,1 @@
-pub mod ListingLemmas
 mod PartLemmas

@@ -1,10 +1,5 @@
 -- Texts and lists, part by part.
-use Rattle.std.proofs.Common.{◌≡◌, ◌∙◌, List, ◌++◌, append_assoc, Result, Ok, Err, IfOk, ap}
-
--- what follows of the value of a call that succeeds
-pub if_ok : {T E : Type 0} {P Q : T → Type 0} (r : Result T E) → ((x : T) → P x → Q x) → IfOk r P → IfOk r Q
-if_ok (Ok x) f p = f x p
-if_ok (Err e) f p = tt
+use Rattle.std.proofs.Common.{◌≡◌, ◌∙◌, List, ◌++◌, append_assoc, ap}
 
 -- one part after another
 pub joined : {A : Type 0} (a x y : List A) {b c : List A} → b ≡ a ++ x → c ≡ b ++ y → c ≡ a ++ (x ++ y)

@@ -2,7 +2,6 @@ pub mod BreachTexts
 pub mod DifferenceTexts
 pub mod Documents
 pub mod LabelObjects
-pub mod Listings
 pub mod NeedTexts
 pub mod ReachTexts
 pub mod ReplyTexts

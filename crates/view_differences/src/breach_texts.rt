@@ -3,7 +3,7 @@ ghost use Rattle.std.specs.Prelude.{◌≡◌};
 ghost use Rattle.list_diff.specs.Breaches.{change_at};
 ghost use Rattle.view_differences.specs.BreachTexts.{breach_line, breach_objects, breach_sign};
 
-use crate::documents::{DifferenceDocument, add_object};
+use crate::documents::DifferenceDocument;
 use crate::lines::DifferenceLine;
 use list_diff::BreachChange;
 use std::alloc::{AllocError, Global};
@@ -27,16 +27,13 @@ impl DifferenceDocument for BreachChange<'_> {
 
     fn add_document(&self, _alloc: Global, listing: &mut Listing) -> Result<(), AllocError> {
         let (sign, breach) = (sign_of(self), self.breach());
-        add_object(
-            listing,
-            &[
-                ("kind", JsonField::Word("breach")),
-                ("change", JsonField::Word(sign)),
-                ("line", JsonField::Number(breach.line as u64)),
-                ("column", JsonField::Number(breach.column as u64)),
-                ("text", JsonField::Text(breach.text.as_bytes())),
-            ],
-        )
+        listing.add(&[
+            ("kind", JsonField::Word("breach")),
+            ("change", JsonField::Word(sign)),
+            ("line", JsonField::Number(breach.line as u64)),
+            ("column", JsonField::Number(breach.column as u64)),
+            ("text", JsonField::Text(breach.text.as_bytes())),
+        ])
     }
 }
 

@@ -4,7 +4,7 @@ ghost use Rattle.std.specs.List.{flat_map};
 ghost use Rattle.view_json.specs.Documents.{Member, list_text, members_data};
 ghost use Rattle.view_differences.specs.DifferenceTexts.{difference_objects};
 ghost use Rattle.view_differences.specs.Documents.{change_objects, front, machine_objects};
-ghost use Rattle.view_differences.specs.Listings.{Extends};
+ghost use Rattle.view_json.specs.Listings.{Extends};
 
 use crate::entry_documents::add_change;
 use list_diff::{EntryChange, ListDifferences, has_same_machine};
@@ -46,24 +46,21 @@ pub fn difference_documents(
 }
 
 // Adds the machine of the list after, and that of the list before, unless they are the same.
-#[tactic(auto, using(crate::proofs::ListingLemmas::extends_none))]
+#[tactic(auto, using(view_json::proofs::ListingLemmas::extends_none))]
 fn add_machine(listing: &mut Listing, was: &StartList, now: &StartList) -> Result<(), AllocError>
     ensures { OnOk result (Extends listing.old listing.new (machine_objects was.now now.now)) }
 {
     if has_same_machine(was, now) {
         return Ok(());
     }
-    add_object(
-        listing,
-        &[
-            ("kind", JsonField::Word("machine")),
-            ("change", JsonField::Word("~")),
-            ("pages", JsonField::Number(u64::from(now.pages()))),
-            ("caps", JsonField::Number(u64::from(now.caps()))),
-            ("was_pages", JsonField::Number(u64::from(was.pages()))),
-            ("was_caps", JsonField::Number(u64::from(was.caps()))),
-        ],
-    )
+    listing.add(&[
+        ("kind", JsonField::Word("machine")),
+        ("change", JsonField::Word("~")),
+        ("pages", JsonField::Number(u64::from(now.pages()))),
+        ("caps", JsonField::Number(u64::from(now.caps()))),
+        ("was_pages", JsonField::Number(u64::from(was.pages()))),
+        ("was_caps", JsonField::Number(u64::from(was.caps()))),
+    ])
 }
 
 // Adds the changes of entries.
@@ -95,16 +92,6 @@ fn add_documents<D: DifferenceDocument>(
         difference.add_document(alloc, listing)?;
     }
     Ok(())
-}
-
-/// Adds an object with these members. Fails if the host is out of memory.
-pub(crate) fn add_object(
-    listing: &mut Listing,
-    members: &[JsonMember<'_>],
-) -> Result<(), AllocError>
-    ensures { OnOk result (Extends listing.old listing.new (members_data members.now ∷ [])) }
-{
-    listing.add(members)
 }
 
 /// Returns the first members of an object: the kind of the difference, and its sign. Fails if the host is out of memory.

@@ -5,9 +5,9 @@ ghost use Rattle.core_calls.specs.Quotas.{reserve_amounts};
 ghost use Rattle.list_parts.specs.Kinds.{kinds_data};
 ghost use Rattle.view_json.specs.Documents.{list_data, members_data};
 ghost use Rattle.view_differences.specs.Documents.{both_objects, budget_members, change_objects, entry_members, kinds_members, names_in, one_objects, reserve_members, service_members};
-ghost use Rattle.view_differences.specs.Listings.{Extends};
+ghost use Rattle.view_json.specs.Listings.{Extends};
 
-use crate::documents::{add_object, front};
+use crate::documents::front;
 use core_calls::Reserve;
 use list_diff::EntryChange;
 use list_parser::{ListEntry, StartList};
@@ -69,7 +69,7 @@ pub(crate) fn add_change(
 }
 
 // Adds an entry that one list alone has, if it is there, by the sign of the change, with its members under these names.
-#[tactic(auto, using(crate::proofs::ListingLemmas::extends_none))]
+#[tactic(auto, using(view_json::proofs::ListingLemmas::extends_none))]
 fn add_one(
     alloc: Global,
     listing: &mut Listing,
@@ -86,11 +86,11 @@ fn add_one(
     let kinds = kinds_of(alloc, entry.binary())?;
     let first = front(alloc, "entry", sign)?;
     let members = with_entry(first, names, entry, kinds.as_ref())?;
-    add_object(listing, members.as_slice())
+    listing.add(members.as_slice())
 }
 
 // Adds an entry that both lists have, if it is there, as it was and as it is.
-#[tactic(auto, using(crate::proofs::ListingLemmas::extends_none))]
+#[tactic(auto, using(view_json::proofs::ListingLemmas::extends_none))]
 fn add_both(
     alloc: Global,
     listing: &mut Listing,
@@ -110,7 +110,7 @@ fn add_both(
     let first = front(alloc, "entry", "~")?;
     let more = with_entry(first, OLD_NAMES, was, old_kinds.as_ref())?;
     let members = with_entry(more, NEW_NAMES, now, kinds.as_ref())?;
-    add_object(listing, members.as_slice())
+    listing.add(members.as_slice())
 }
 
 // Returns the members followed by those of an entry with its kinds, under these names.

@@ -2,7 +2,7 @@
 ghost use Rattle.std.specs.Prelude.{◌≡◌, ◌++◌, OnOk};
 ghost use Rattle.view_differences.specs.NeedTexts.{amounts_text, budgets_text, need_line, need_objects, needs_text};
 
-use crate::documents::{DifferenceDocument, add_object};
+use crate::documents::DifferenceDocument;
 use crate::lines::DifferenceLine;
 use list_diff::{NeedChange, QuotaAmounts};
 use std::alloc::{AllocError, Global};
@@ -30,20 +30,17 @@ impl DifferenceDocument for NeedChange<'_> {
             Some(needs) => (JsonField::Number(needs.ram), JsonField::Number(needs.caps)),
             None => (JsonField::Nothing, JsonField::Nothing),
         };
-        add_object(
-            listing,
-            &[
-                ("kind", JsonField::Word("need")),
-                ("change", JsonField::Word("~")),
-                ("name", JsonField::Text(now.name)),
-                ("needs_ram", ram),
-                ("needs_caps", caps),
-                ("ram", JsonField::Number(now.has.ram)),
-                ("caps", JsonField::Number(now.has.caps)),
-                ("was_ram", JsonField::Number(had.ram)),
-                ("was_caps", JsonField::Number(had.caps)),
-            ],
-        )
+        listing.add(&[
+            ("kind", JsonField::Word("need")),
+            ("change", JsonField::Word("~")),
+            ("name", JsonField::Text(now.name)),
+            ("needs_ram", ram),
+            ("needs_caps", caps),
+            ("ram", JsonField::Number(now.has.ram)),
+            ("caps", JsonField::Number(now.has.caps)),
+            ("was_ram", JsonField::Number(had.ram)),
+            ("was_caps", JsonField::Number(had.caps)),
+        ])
     }
 }
 

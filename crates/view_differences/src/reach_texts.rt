@@ -5,7 +5,7 @@ ghost use Rattle.list_reach.specs.RuleTexts.{summary_text};
 ghost use Rattle.view_json.specs.Documents.{field_data, members_data, text_or_null};
 ghost use Rattle.view_differences.specs.ReachTexts.{is_both, lost_word, moved_members, moved_text, names_in, pair_members, pair_text, reach_front, reach_label, reach_line, reach_members, reach_objects, reach_word, reach_words, route_text, routes_text, set_words, target_path, texts_in, texts_of, witness_text};
 
-use crate::documents::{DifferenceDocument, add_object, front};
+use crate::documents::{DifferenceDocument, front};
 use crate::label_sets::label_documents;
 use crate::lines::DifferenceLine;
 use list_diff::{MovedLabels, ReachChange};
@@ -184,7 +184,7 @@ impl DifferenceDocument for ReachChange<'_> {
         let gained = MovedTexts::of(alloc, &self.gained)?;
         let lost = MovedTexts::of(alloc, &self.lost)?;
         let members = members_of(alloc, self, &gained, &lost)?;
-        add_object(listing, members.as_slice())
+        listing.add(members.as_slice())
     }
 }
 

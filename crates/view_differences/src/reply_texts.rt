@@ -2,10 +2,10 @@
 ghost use Rattle.std.specs.Prelude.{◌≡◌, ◌∷◌, ◌++◌, [], IfOk, OnOk};
 ghost use Rattle.std.specs.Option.{option_copied};
 ghost use Rattle.view_json.specs.Documents.{members_data};
-ghost use Rattle.view_differences.specs.Listings.{Extends};
+ghost use Rattle.view_json.specs.Listings.{Extends};
 ghost use Rattle.view_differences.specs.ReplyTexts.{added_line, answer_in, call_members, call_text, changed_line, fault_text, made_text, number_of, other_text, reason_in, removed_line, reply_line, reply_members, reply_object, reply_objects, side_members};
 
-use crate::documents::{DifferenceDocument, add_object, front};
+use crate::documents::{DifferenceDocument, front};
 use crate::lines::DifferenceLine;
 use line_names::token_at;
 use list_diff::{LineOutcome, LineResult, ReplyChange, ResolutionFault};
@@ -33,7 +33,7 @@ impl DifferenceLine for ReplyChange<'_> {
 impl DifferenceDocument for ReplyChange<'_> {
     ghost objects = { reply_objects };
 
-    #[tactic(auto, using(crate::proofs::ListingLemmas::extends_none))]
+    #[tactic(auto, using(view_json::proofs::ListingLemmas::extends_none))]
     fn add_document(&self, alloc: Global, listing: &mut Listing) -> Result<(), AllocError> {
         match (answer_to(self.was), answer_to(self.now)) {
             (Some(_), Some(now)) => add_document_as(alloc, listing, "~", self, now),
@@ -104,7 +104,7 @@ fn add_document_as(
     let old_reason = reason_of(alloc, change.was)?;
     let why = (reason.as_slice(), old_reason.as_slice());
     let members = members_of(alloc, sign, change, made, why)?;
-    add_object(listing, members.as_slice())
+    listing.add(members.as_slice())
 }
 
 // Returns the number of the line in the scenario after, or in the one before if that alone has the line.

@@ -1,7 +1,7 @@
 -- The objects of those so far.
 use Rattle.std.proofs.Common.{take, map}
 use Rattle.list_tree.specs.Documents.{decision_object}
-use Rattle.list_tree.specs.Listings.{Extends}
+use Rattle.view_json.specs.Listings.{Extends}
 use Rattle.list_tree.proofs.documents.add_decisions.Given as goal
 
 abbrev pub invariant-loop-trail : goal.invariant-loop-trail

@@ -1,5 +1,5 @@
 -- The component, and then the decisions.
-use Rattle.list_tree.proofs.ListingLemmas.{extends_then}
+use Rattle.view_json.proofs.ListingLemmas.{extends_then}
 use Rattle.list_tree.proofs.documents.add_node.Goals as goal
 
 pub returns : goal.returns

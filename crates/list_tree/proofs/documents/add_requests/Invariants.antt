@@ -2,7 +2,7 @@
 use Rattle.std.proofs.Common.{take}
 use Rattle.std.specs.List.{flat_map}
 use Rattle.list_tree.specs.Documents.{request_objects}
-use Rattle.list_tree.specs.Listings.{Extends}
+use Rattle.view_json.specs.Listings.{Extends}
 use Rattle.list_tree.proofs.documents.add_requests.Given as goal
 
 abbrev pub invariant-loop-one : goal.invariant-loop-one

@@ -2,7 +2,7 @@
 use Rattle.std.proofs.Common.{take}
 use Rattle.std.specs.List.{flat_map}
 use Rattle.view_differences.specs.Documents.{change_objects}
-use Rattle.view_differences.specs.Listings.{Extends}
+use Rattle.view_json.specs.Listings.{Extends}
 use Rattle.view_differences.proofs.documents.add_changes.Given as goal
 
 abbrev pub invariant-loop-change : goal.invariant-loop-change

@@ -1,6 +1,6 @@
 -- The objects of each part, one after another.
 use Rattle.std.proofs.Common.{[]}
-use Rattle.view_differences.proofs.ListingLemmas.{extends_then}
+use Rattle.view_json.proofs.ListingLemmas.{extends_then}
 use Rattle.view_differences.proofs.documents.difference_documents.Goals as goal
 
 pub returns : goal.returns

@@ -2,7 +2,7 @@
 use Rattle.std.proofs.Common.{◌≡◌, ◌∙◌, ◌++◌, ◌∷◌, [], OnOk, ap, codes, subst}
 use Rattle.view_json.specs.Documents.{members_data}
 use Rattle.view_differences.specs.Documents.{changed_object, entry_members, front, new_names, old_names}
-use Rattle.view_differences.specs.Listings.{Extends}
+use Rattle.view_json.specs.Listings.{Extends}
 use Rattle.view_differences.proofs.PartLemmas.{joined}
 use Rattle.view_differences.proofs.entry_documents.add_both.Goals as goal
 
@@ -15,4 +15,4 @@ returns c =
     ∙ joined (front (codes "entry") (codes "~")) (entry_members old_names was) (entry_members new_names now)
     (c.in_ok-more.ensures ∙ ap (λ m. m ++ entry_members old_names was) c.in_ok-first.ensures) c.in_ok-members.ensures in
     rw (c.in-Some-Some.is-0, c.in-Some-Some.is-1)
-    (subst (λ m. OnOk c.add_object.result (Extends c.args.listing.now c.add_object.new.listing (m ∷ []))) is c.add_object.ensures)
+    (subst (λ m. OnOk c.add.result (Extends c.args.listing.now c.add.new.listing (m ∷ []))) is c.add.ensures)

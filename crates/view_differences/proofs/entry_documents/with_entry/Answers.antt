@@ -1,11 +1,12 @@
 -- The members of each part, one after another.
 use Rattle.std.proofs.Common.{◌≡◌, ◌∙◌, ◌++◌, ap}
 use Rattle.std.specs.Option.{option_copied}
+use Rattle.std.proofs.lemmas.Result.{IfOk-weaker}
 use Rattle.own_model.specs.Listed.{service_in}
 use Rattle.list_parts.specs.Kinds.{kinds_data}
 use Rattle.view_json.specs.Documents.{members_data}
 use Rattle.view_differences.specs.Documents.{budget_members, kinds_members, names_in, reserve_members, service_members}
-use Rattle.view_differences.proofs.PartLemmas.{if_ok, joined}
+use Rattle.view_differences.proofs.PartLemmas.{joined}
 use Rattle.view_differences.proofs.entry_documents.with_entry.Goals as goal
 
 pub returns : goal.returns
@@ -25,7 +26,7 @@ returns c =
     let reserves = reserve_members names entry.reserve in
     let services = service_members names entry.provides (service_in entry.binary) in
     let kinds = kinds_members names (kinds_data entry.binary) in
-    if_ok c.with_kinds.result
+    IfOk-weaker c.with_kinds.result _ _
     (λ all is. joined old own (reserves ++ (services ++ kinds)) c.in_ok-front.ensures (joined front reserves (services ++ kinds) reserve
     (joined more services kinds service (is ∙ ap (λ k. most ++ kinds_members names k) c.requires))))
     c.with_kinds.ensures

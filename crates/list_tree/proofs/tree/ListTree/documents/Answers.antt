@@ -2,8 +2,8 @@
 use Rattle.std.proofs.Common.{[]}
 use Rattle.std.specs.List.{flat_map}
 use Rattle.list_tree.specs.Documents.{node_objects, tree_objects}
-use Rattle.list_tree.specs.Listings.{Extends}
-use Rattle.list_tree.proofs.ListingLemmas.{extends_then}
+use Rattle.view_json.specs.Listings.{Extends}
+use Rattle.view_json.proofs.ListingLemmas.{extends_then}
 use Rattle.list_tree.proofs.tree.ListTree.documents.Goals as goal
 
 pub returns : goal.returns

@@ -1,7 +1,7 @@
 -- With the texts of both sets.
 use Rattle.std.proofs.Common.{◌≡◌, ◌∙◌, ◌∷◌, [], OnOk, ap, subst}
 use Rattle.view_json.specs.Documents.{members_data}
-use Rattle.view_differences.specs.Listings.{Extends}
+use Rattle.view_json.specs.Listings.{Extends}
 use Rattle.view_differences.specs.ReachTexts.{reach_members, reach_object, texts_in, texts_of}
 use Rattle.view_differences.proofs.reach_texts.ReachChangeDifferenceDocument.add_document.Goals as goal
 
@@ -12,4 +12,4 @@ returns c =
     ap members_data c.as_slice.ensures.value ∙ c.in_ok-members.ensures
     ∙ ap (λ gained. reach_members change gained (texts_in c.in_ok-lost.lost)) c.in_ok-gained.ensures
     ∙ ap (λ lost. reach_members change (texts_of change.gained) lost) c.in_ok-lost.ensures in
-    subst (λ m. OnOk c.add_object.result (Extends c.args.listing.now c.add_object.new.listing (m ∷ []))) is c.add_object.ensures
+    subst (λ m. OnOk c.add.result (Extends c.args.listing.now c.add.new.listing (m ∷ []))) is c.add.ensures
