@@ -1,5 +1,6 @@
 -- Lines with their colours.
-use Rattle.std.specs.Prelude.{ℕ, ◌==◌, Bool, List, [], ◌∷◌, ◌++◌, codes, nat_eq, if◌then◌else◌, Option, Some, None}
+use Rattle.std.specs.Prelude.{◌≡◌, ℕ, ◌==◌, Bool, List, [], ◌∷◌, ◌++◌, codes, nat_eq, if◌then◌else◌, Option, Some, None}
+use Rattle.std.specs.Io.KnownBytes.{Appends}
 use Rattle.std.specs.List.{starts_with, ends_with}
 use Rattle.std.specs.Option.{unwrap_or}
 use Rattle.own_model.specs.Text.{first_word}
@@ -53,3 +54,10 @@ left_of line (b ∷ bs) = if b == 10 then left_of [] bs else left_of (line ++ b 
 abbrev pub contents_of : Option Lines → Option (List ℕ) → Option (List ℕ)
 contents_of None known = known
 contents_of (Some lines) known = None
+
+-- a sink takes bytes: without colours the sink below has them; with colours it has the lines that they complete, each between
+-- its colours, and the bytes of the next line are kept
+abbrev pub Shows : Option Lines → List ℕ → Option (List ℕ) → List ℕ → Option (List ℕ) → List ℕ → Type 0
+Shows None line below now_line now_below bytes = Appends below now_below bytes
+Shows (Some lines) line below now_line now_below bytes =
+    Appends below now_below (painted_lines lines line bytes) × (now_line ≡ left_of line bytes)

@@ -1,10 +1,12 @@
 //! A sink that colours lines.
-ghost use Rattle.std.specs.Prelude.{◌≡◌, ◌++◌, ◌∷◌, ◌||◌, [], false, IfOk, OnOk};
-ghost use Rattle.std.specs.Io.KnownBytes.{Appends};
-ghost use Rattle.view_colors.specs.ColorSink.{contents_of, left_of, painted, painted_lines, shade_of};
+ghost use Rattle.std.specs.Prelude.{◌≡◌, ◌++◌, ◌∷◌, ◌||◌, [], false, is_err, length, take, IfOk, OnOk};
+ghost use Rattle.std.specs.Io.{WritesAtMost};
+ghost use Rattle.std.specs.Io.KnownBytes.{Appends, WriteAppends};
+ghost use Rattle.run_lines.specs.Device.{is_write_failure};
+ghost use Rattle.view_colors.specs.ColorSink.{contents_of, left_of, painted, painted_lines, shade_of, Shows};
 
 use crate::shade::{Lines, Shade};
-use run_lines::{DeviceFault, Sink, WriteBuffer};
+use run_lines::{DeviceFault, Sink, write_out};
 use std::alloc::{AllocError, Global};
 
 /// A sink that colours each complete line, and writes the line to another sink; or one that passes bytes on unchanged.
@@ -16,7 +18,7 @@ pub struct ColorSink<S> {
     lines: Option<Lines>,
     // The bytes of the line that isn't complete yet.
     line: Vec<u8>,
-    gathered: WriteBuffer,
+    // Whether the host was out of memory for a line.
     failed: bool,
 }
 
@@ -31,7 +33,6 @@ impl<S: Sink> ColorSink<S> {
             sink,
             lines: Some(lines),
             line: Vec::new(alloc),
-            gathered: WriteBuffer::new(),
             failed: false,
         }
     }
@@ -46,7 +47,6 @@ impl<S: Sink> ColorSink<S> {
             sink,
             lines: None,
             line: Vec::new(alloc),
-            gathered: WriteBuffer::new(),
             failed: false,
         }
     }
@@ -63,38 +63,53 @@ impl<S: Sink> ColorSink<S> {
         self.sink
     }
 
-    // Takes bytes, and writes the lines that they complete, coloured by the kind of these lines.
-    fn take(&mut self, lines: Lines, bytes: &[u8]) -> Result<(), DeviceFault>
-        requires { S.has_failed self.old.sink ≡ false }
-        ensures works { OnOk result (S.has_failed self.new.sink ≡ false) }
-        ensures kept { self.new.failed ≡ self.old.failed }
+    // Writes the lines that bytes complete, coloured by the kind of these lines, and returns the number of bytes. The error is that
+    // the host is out of memory or that a write failed.
+    fn write_painted(&mut self, lines: Lines, bytes: &[u8]) -> Result<usize, DeviceFault>
+        requires works { S.has_failed self.old.sink ≡ false }
+        requires unfailed { self.old.failed ≡ false }
+        ensures all { IfOk result (λ count. count ≡ length bytes.now) }
+        ensures failing { self.new.failed || S.has_failed self.new.sink ≡ is_err result }
         ensures lines { self.new.lines ≡ self.old.lines }
-        ensures left { OnOk result (self.new.line.items ≡ left_of self.old.line.items bytes.now) }
-        ensures told { OnOk result (Appends (S.contents self.old.sink) (S.contents self.new.sink)
-            (self.old.gathered ++ painted_lines lines self.old.line.items bytes.now)) }
-        ensures written { OnOk result (self.new.gathered ≡ []) }
+        ensures line { OnOk result (self.new.line.items ≡ left_of self.old.line.items bytes.now) }
+        ensures shown { OnOk result (Appends (S.contents self.old.sink) (S.contents self.new.sink)
+            (painted_lines lines self.old.line.items bytes.now)) }
     {
-        let text = complete_lines(self.alloc, lines, &mut self.line, bytes)?;
-        self.gathered.put(&mut self.sink, text.as_slice())?;
-        self.gathered.flush(&mut self.sink)
+        let Ok(text) = complete_lines(self.alloc, lines, &mut self.line, bytes) else {
+            self.failed = true;
+            return Err(DeviceFault);
+        };
+        if write_out(&mut self.sink, text.as_slice()) < text.len() {
+            return Err(DeviceFault);
+        }
+        Ok(bytes.len())
     }
 }
 
 impl<S: Sink> Sink for ColorSink<S> {
-    // Of lines with colours the bytes that were taken aren't known, since the sink below has them with their colours (`take`).
+    // A line can have the text of another one with colours. So the bytes that were taken aren't known from those below if lines
+    // are coloured; `shown` relates both.
     ghost contents = { λ painted. contents_of painted.lines (S.contents painted.sink) };
 
     ghost has_failed = { λ painted. painted.failed || S.has_failed painted.sink };
 
-    fn write(&mut self, buffer: &[u8]) -> Result<usize, DeviceFault> {
-        let Some(lines) = self.lines else {
-            return self.sink.write(buffer);
-        };
-        if self.take(lines, buffer).is_err() {
-            self.failed = true;
-            return Err(DeviceFault);
+    fn write(&mut self, buffer: &[u8]) -> Result<usize, DeviceFault>
+        requires { self.old.failed || S.has_failed self.old.sink ≡ false }
+        ensures bound { WritesAtMost result buffer.now }
+        ensures bytes { WriteAppends
+            (contents_of self.old.lines (S.contents self.old.sink))
+            (contents_of self.new.lines (S.contents self.new.sink)) result buffer.now }
+        ensures failing { self.new.failed || S.has_failed self.new.sink
+            ≡ is_write_failure result buffer.now }
+        ensures lines { self.new.lines ≡ self.old.lines }
+        ensures shown { IfOk result (λ count. Shows self.old.lines
+            self.old.line.items (S.contents self.old.sink)
+            self.new.line.items (S.contents self.new.sink) (take count buffer.now)) }
+    {
+        match self.lines {
+            Some(lines) => self.write_painted(lines, buffer),
+            None => self.sink.write(buffer),
         }
-        Ok(buffer.len())
     }
 
     fn failed(&self) -> bool {
