@@ -1,10 +1,11 @@
 //! The rows of an account list as JSON.
-ghost use Rattle.std.specs.Prelude.{◌≡◌, ◌∷◌, ◌++◌, [], List, map, IfOk, OnOk};
+ghost use Rattle.std.specs.Prelude.{◌≡◌, ◌∷◌, ◌++◌, [], map, IfOk, OnOk};
 ghost use Rattle.std.specs.List.{flat_map};
 ghost use Rattle.std.specs.Option.{option_map};
 ghost use Rattle.core_calls.specs.Quotas.{quotas_account};
 ghost use Rattle.budget_meter.specs.Needs.{amounts_of};
-ghost use Rattle.view_json.specs.Documents.{Lists, Member, field_data, members_data};
+ghost use Rattle.view_json.specs.Documents.{field_data, members_data};
+ghost use Rattle.view_json.specs.Listings.{Extends};
 ghost use Rattle.view_accounts.specs.AccountDocuments.{account_front, account_members, accounts_json, component_documents, figure_members, gone_members, measure_members, open_members, quota_members, server_members, session_documents, session_front, session_members, sum_data, total_members};
 ghost use Rattle.view_accounts.specs.Kept.{peaked};
 ghost use Rattle.view_accounts.specs.Meters.{needed_in};
@@ -42,9 +43,8 @@ fn add_components(
     components: &[ComponentRows],
     listing: &mut Listing,
 ) -> Result<(), AllocError>
-    ensures { (documents : List (List Member)) → Lists listing.old documents →
-        OnOk result (Lists listing.new
-        (documents ++ flat_map component_documents (map component_view components.now))) }
+    ensures { OnOk result (Extends listing.old listing.new
+        (flat_map component_documents (map component_view components.now))) }
 {
     for component in components {
         add_component(alloc, component, listing)?;
@@ -58,9 +58,8 @@ fn add_component(
     component: &ComponentRows,
     listing: &mut Listing,
 ) -> Result<(), AllocError>
-    ensures { (documents : List (List Member)) → Lists listing.old documents →
-        OnOk result (Lists listing.new
-        (documents ++ component_documents (component_view component.now))) }
+    ensures { OnOk result (Extends listing.old listing.new
+        (component_documents (component_view component.now))) }
 {
     add_account(alloc, &component.account, listing)?;
     match component.reserve {
@@ -80,9 +79,8 @@ fn add_all_sessions(
     components: &[ComponentRows],
     listing: &mut Listing,
 ) -> Result<(), AllocError>
-    ensures { (documents : List (List Member)) → Lists listing.old documents →
-        OnOk result (Lists listing.new
-        (documents ++ flat_map session_documents (map component_view components.now))) }
+    ensures { OnOk result (Extends listing.old listing.new
+        (flat_map session_documents (map component_view components.now))) }
 {
     for component in components {
         add_sessions(alloc, component.sessions.as_slice(), listing)?;
@@ -92,9 +90,8 @@ fn add_all_sessions(
 
 // Adds the document of the sums.
 fn add_total(rows: &AccountRows, listing: &mut Listing) -> Result<(), AllocError>
-    ensures { (documents : List (List Member)) → Lists listing.old documents →
-        OnOk result (Lists listing.new
-        (documents ++ total_members (accounts_view rows.now).total ∷ [])) }
+    ensures { OnOk result (Extends listing.old listing.new
+        (total_members (accounts_view rows.now).total ∷ [])) }
 {
     listing.add(&[
         ("kind", JsonField::Word("total")),
@@ -105,9 +102,8 @@ fn add_total(rows: &AccountRows, listing: &mut Listing) -> Result<(), AllocError
 
 // Adds the document of an account.
 fn add_account(alloc: Global, row: &AccountRow, listing: &mut Listing) -> Result<(), AllocError>
-    ensures { (documents : List (List Member)) → Lists listing.old documents →
-        OnOk result (Lists listing.new
-        (documents ++ account_members (account_view row.now) ∷ [])) }
+    ensures { OnOk result (Extends listing.old listing.new
+        (account_members (account_view row.now) ∷ [])) }
 {
     let members = account_members(alloc, row)?;
     listing.add(members.as_slice())
@@ -119,9 +115,8 @@ fn add_sessions(
     sessions: &[SessionRow],
     listing: &mut Listing,
 ) -> Result<(), AllocError>
-    ensures { (documents : List (List Member)) → Lists listing.old documents →
-        OnOk result (Lists listing.new
-        (documents ++ map session_members (map session_view sessions.now))) }
+    ensures { OnOk result (Extends listing.old listing.new
+        (map session_members (map session_view sessions.now))) }
 {
     for session in sessions {
         add_session(alloc, session, listing)?;
@@ -131,9 +126,8 @@ fn add_sessions(
 
 // Adds the document of a session.
 fn add_session(alloc: Global, session: &SessionRow, listing: &mut Listing) -> Result<(), AllocError>
-    ensures { (documents : List (List Member)) → Lists listing.old documents →
-        OnOk result (Lists listing.new
-        (documents ++ session_members (session_view session.now) ∷ [])) }
+    ensures { OnOk result (Extends listing.old listing.new
+        (session_members (session_view session.now) ∷ [])) }
 {
     let members = session_members(alloc, session)?;
     listing.add(members.as_slice())

@@ -4,7 +4,8 @@ ghost use Rattle.std.specs.List.{flat_map};
 ghost use Rattle.std.specs.Option.{option_map};
 ghost use Rattle.budget_meter.specs.Needs.{amounts_of};
 ghost use Rattle.budget_least.specs.declared.unmeasured_line.UnmeasuredLine.{UnmeasuredLine};
-ghost use Rattle.view_json.specs.Documents.{field_data, list_data, number_or_null, objects_in, Lists, Member};
+ghost use Rattle.view_json.specs.Documents.{field_data, list_data, number_or_null, objects_in};
+ghost use Rattle.view_json.specs.Listings.{Extends};
 ghost use Rattle.view_budgets.specs.Columns.{column_values, named_line, named_lines, path_of};
 ghost use Rattle.view_budgets.specs.Documents.{account_documents, machine_members, members_of, unmeasured_data, unmeasured_object, IsReportJson};
 
@@ -33,9 +34,8 @@ fn add_accounts(
     report: &BudgetReport<'_>,
     accounts: &[AccountBudgets],
 ) -> Result<(), AllocError>
-    ensures { (objects : List (List Member)) → Lists listing.old objects →
-        OnOk result (Lists listing.new
-        (objects ++ flat_map (account_documents report.now) accounts.now)) }
+    ensures { OnOk result (Extends listing.old listing.new
+        (flat_map (account_documents report.now) accounts.now)) }
 {
     for account in accounts {
         add_account(alloc, listing, report, account)?;
@@ -50,8 +50,8 @@ fn add_account(
     report: &BudgetReport<'_>,
     account: &AccountBudgets,
 ) -> Result<(), AllocError>
-    ensures { (objects : List (List Member)) → Lists listing.old objects →
-        OnOk result (Lists listing.new (objects ++ account_documents report.now account.now)) }
+    ensures { OnOk result (Extends listing.old listing.new
+        (account_documents report.now account.now)) }
 {
     let path = path_of(report.list(), account);
     let unmeasured = unmeasured_objects(alloc, report.unmeasured(), account)?;
@@ -67,9 +67,8 @@ fn add_machine(
     sum: Option<Budget>,
     machine: Option<MachineSize>,
 ) -> Result<(), AllocError>
-    ensures { (objects : List (List Member)) → Lists listing.old objects →
-        OnOk result (Lists listing.new (objects
-        ++ machine_members (option_map amounts_of sum) machine ∷ [])) }
+    ensures { OnOk result (Extends listing.old listing.new
+        (machine_members (option_map amounts_of sum) machine ∷ [])) }
 {
     let (ram, caps) = budget_numbers(sum);
     let (pages, machine_caps) = size_numbers(machine);
@@ -138,9 +137,8 @@ fn add_row<'a>(
     unmeasured: &'a ObjectList,
 ) -> Result<(), AllocError>
     ensures { (lines : List UnmeasuredLine) → list_data unmeasured.now ≡ unmeasured_data lines →
-        (objects : List (List Member)) → Lists listing.old objects →
-        OnOk result (Lists listing.new
-        (objects ++ members_of (column_values path.now lines account.now row.now) ∷ [])) }
+        OnOk result (Extends listing.old listing.new
+        (members_of (column_values path.now lines account.now row.now) ∷ [])) }
 {
     let (selector, line) = session_numbers(account.session());
     let (safe_ram, safe_caps) = budget_numbers(account.safe());

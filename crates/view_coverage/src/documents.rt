@@ -1,7 +1,8 @@
 //! The coverage of all scenarios, as a document for programs.
-ghost use Rattle.std.specs.Prelude.{◌≡◌, ◌∷◌, ◌++◌, [], List, map, IfOk, OnOk};
+ghost use Rattle.std.specs.Prelude.{◌≡◌, ◌∷◌, ◌++◌, [], map, IfOk, OnOk};
 ghost use Rattle.std.specs.List.{enumerate_from, flat_map};
-ghost use Rattle.view_json.specs.Documents.{Lists, Member, members_data};
+ghost use Rattle.view_json.specs.Documents.{members_data};
+ghost use Rattle.view_json.specs.Listings.{Extends};
 ghost use Rattle.view_coverage.specs.Documents.{coverage_json, event_members, event_object, kind_of_event, kind_of_part, met_front, met_part, met_part_object, met_row, name_members, part_object, sheet_objects, table_object, tables_objects};
 
 use crate::event::CoverageEvent;
@@ -34,8 +35,8 @@ fn add_parts(
     report: &CoverageReport,
     parts: &[CoveragePart],
 ) -> Result<(), AllocError>
-    ensures { (objects : List (List Member)) → Lists listing.old objects →
-        OnOk result (Lists listing.new (objects ++ map (part_object report.now) parts.now)) }
+    ensures { OnOk result (Extends listing.old listing.new
+        (map (part_object report.now) parts.now)) }
 {
     for part in parts {
         add_part(alloc, listing, report, part)?;
@@ -50,8 +51,7 @@ fn add_part<'a>(
     report: &'a CoverageReport,
     part: &'a CoveragePart,
 ) -> Result<(), AllocError>
-    ensures { (objects : List (List Member)) → Lists listing.old objects →
-        OnOk result (Lists listing.new (objects ++ part_object report.now part.now ∷ [])) }
+    ensures { OnOk result (Extends listing.old listing.new (part_object report.now part.now ∷ [])) }
 {
     let mut members: Vec<JsonMember<'a>> = Vec::new(alloc);
     let times = report.times_of(part);
@@ -94,14 +94,13 @@ fn with_name<'a>(
 }
 
 // Adds the rows of both tables, if they are reported.
-#[tactic(auto, using(view_json::proofs::ListingLemmas::lists_none))]
+#[tactic(auto, using(view_json::proofs::ListingLemmas::extends_none))]
 fn add_tables(
     alloc: Global,
     listing: &mut Listing,
     report: &CoverageReport,
 ) -> Result<(), AllocError>
-    ensures { (objects : List (List Member)) → Lists listing.old objects →
-        OnOk result (Lists listing.new (objects ++ tables_objects report.now)) }
+    ensures { OnOk result (Extends listing.old listing.new (tables_objects report.now)) }
 {
     if report.calls {
         return add_rows(alloc, listing, report, report.tables());
@@ -116,8 +115,8 @@ fn add_rows(
     report: &CoverageReport,
     rows: &[CoverageRow],
 ) -> Result<(), AllocError>
-    ensures { (objects : List (List Member)) → Lists listing.old objects → OnOk result
-        (Lists listing.new (objects ++ map (table_object report.now) (enumerate_from 0 rows.now))) }
+    ensures { OnOk result (Extends listing.old listing.new
+        (map (table_object report.now) (enumerate_from 0 rows.now))) }
 {
     for place in 0..rows.len() {
         let row = &rows[place];
@@ -134,8 +133,8 @@ fn add_row<'a>(
     place: usize,
     event: CoverageEvent,
 ) -> Result<(), AllocError>
-    ensures { (objects : List (List Member)) → Lists listing.old objects → OnOk result (Lists listing.new
-        (objects ++ event_object report.now place event ∷ [])) }
+    ensures { OnOk result (Extends listing.old listing.new
+        (event_object report.now place event ∷ [])) }
 {
     let mut members: Vec<JsonMember<'a>> = Vec::new(alloc);
     members.push(("kind", JsonField::Word(kind_of_event(event))))?;
@@ -192,8 +191,8 @@ fn add_sheets(
     report: &CoverageReport,
     sheets: &[CoverageSheet],
 ) -> Result<(), AllocError>
-    ensures { (objects : List (List Member)) → Lists listing.old objects → OnOk result
-        (Lists listing.new (objects ++ flat_map (sheet_objects report.now) sheets.now)) }
+    ensures { OnOk result (Extends listing.old listing.new
+        (flat_map (sheet_objects report.now) sheets.now)) }
 {
     for sheet in sheets {
         add_sheet(alloc, listing, report, sheet)?;
@@ -208,8 +207,7 @@ fn add_sheet(
     report: &CoverageReport,
     sheet: &CoverageSheet,
 ) -> Result<(), AllocError>
-    ensures { (objects : List (List Member)) → Lists listing.old objects →
-        OnOk result (Lists listing.new (objects ++ sheet_objects report.now sheet.now)) }
+    ensures { OnOk result (Extends listing.old listing.new (sheet_objects report.now sheet.now)) }
 {
     let all = sheet.rows.as_slice();
     let parts = report.parts.as_slice();
@@ -227,8 +225,8 @@ fn add_met_rows(
     path: &[u8],
     rows: &[CoverageRow],
 ) -> Result<(), AllocError>
-    ensures { (objects : List (List Member)) → Lists listing.old objects → OnOk result
-        (Lists listing.new (objects ++ flat_map (met_row calls path.now) rows.now)) }
+    ensures { OnOk result (Extends listing.old listing.new
+        (flat_map (met_row calls path.now) rows.now)) }
 {
     for row in rows {
         add_met_row(alloc, listing, calls, path, row)?;
@@ -237,7 +235,7 @@ fn add_met_rows(
 }
 
 // Adds a row, if the scenario of a path meets it and it is reported.
-#[tactic(auto, using(view_json::proofs::ListingLemmas::lists_none))]
+#[tactic(auto, using(view_json::proofs::ListingLemmas::extends_none))]
 fn add_met_row<'a>(
     alloc: Global,
     listing: &mut Listing,
@@ -245,8 +243,7 @@ fn add_met_row<'a>(
     path: &'a [u8],
     row: &CoverageRow,
 ) -> Result<(), AllocError>
-    ensures { (objects : List (List Member)) → Lists listing.old objects → OnOk result
-        (Lists listing.new (objects ++ met_row calls path.now row.now)) }
+    ensures { OnOk result (Extends listing.old listing.new (met_row calls path.now row.now)) }
 {
     if !calls || !row.met {
         return Ok(());
@@ -274,8 +271,8 @@ fn add_met_parts(
     sheet: &CoverageSheet,
     parts: &[CoveragePart],
 ) -> Result<(), AllocError>
-    ensures { (objects : List (List Member)) → Lists listing.old objects → OnOk result
-        (Lists listing.new (objects ++ flat_map (met_part report.now sheet.now) parts.now)) }
+    ensures { OnOk result (Extends listing.old listing.new
+        (flat_map (met_part report.now sheet.now) parts.now)) }
 {
     for part in parts {
         add_met_part(alloc, listing, report, sheet, part)?;
@@ -284,7 +281,7 @@ fn add_met_parts(
 }
 
 // Adds a part, if a scenario on its start list meets it.
-#[tactic(auto, using(view_json::proofs::ListingLemmas::lists_none))]
+#[tactic(auto, using(view_json::proofs::ListingLemmas::extends_none))]
 fn add_met_part(
     alloc: Global,
     listing: &mut Listing,
@@ -292,8 +289,8 @@ fn add_met_part(
     sheet: &CoverageSheet,
     part: &CoveragePart,
 ) -> Result<(), AllocError>
-    ensures { (objects : List (List Member)) → Lists listing.old objects → OnOk result
-        (Lists listing.new (objects ++ met_part report.now sheet.now part.now)) }
+    ensures { OnOk result (Extends listing.old listing.new
+        (met_part report.now sheet.now part.now)) }
 {
     if sheet.meets_part(part) {
         return list_part(alloc, listing, report, sheet.path.as_bytes(), part);
@@ -309,8 +306,8 @@ fn list_part<'a>(
     path: &'a [u8],
     part: &'a CoveragePart,
 ) -> Result<(), AllocError>
-    ensures { (objects : List (List Member)) → Lists listing.old objects → OnOk result
-        (Lists listing.new (objects ++ met_part_object report.now path.now part.now ∷ [])) }
+    ensures { OnOk result (Extends listing.old listing.new
+        (met_part_object report.now path.now part.now ∷ [])) }
 {
     let mut members: Vec<JsonMember<'a>> = met_front(alloc, path)?;
     members.push((

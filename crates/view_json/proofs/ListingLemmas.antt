@@ -31,13 +31,15 @@ extends_then {first} {old} {new} {xs} {ys} before one = record {
   has = λ objects lists. subst (λ l. Lists new l) (append_assoc objects xs ys) (one.has (objects ++ xs) (before.has objects lists));
 }
 
+pub extends_more : {first old new : Listing} {pieces piece more : List (List Member)} → more ≡ pieces ++ piece
+    → Extends first old pieces → Extends old new piece → Extends first new more
+extends_more {first} {new = new} is before one = subst (λ l. Extends first new l) (sym is) (extends_then before one)
+
 -- the objects of one element more
 pub extends_next : {X : Type 0} (f : X → List (List Member)) (xs : List X) (i : ℕ) (x : X) (first old new : Listing) → i < length xs → x ≡ get_or xs i x
     → Extends first old (flat_map f (take i xs)) → Extends old new (f x) → Extends first new (flat_map f (take (i + 1) xs))
-extends_next f xs i x first old new within is before one =
-    subst (λ l. Extends first new l) (sym (flat_next f xs i x within is)) (extends_then before one)
+extends_next f xs i x first old new within is before one = extends_more (flat_next f xs i x within is) before one
 
 pub extends_map : {X : Type 0} (f : X → List Member) (xs : List X) (i : ℕ) (x : X) (first old new : Listing) → i < length xs → x ≡ get_or xs i x
     → Extends first old (map f (take i xs)) → Extends old new (f x ∷ []) → Extends first new (map f (take (i + 1) xs))
-extends_map f xs i x first old new within is before one =
-    subst (λ l. Extends first new l) (sym (map_next f xs i x within is)) (extends_then before one)
+extends_map f xs i x first old new within is before one = extends_more (map_next f xs i x within is) before one

@@ -1,14 +1,14 @@
 -- One more.
 use Rattle.std.proofs.Common.{◌∙◌, ap}
-use Rattle.view_json.proofs.ListingLemmas.{lists_more}
+use Rattle.view_json.proofs.ListingLemmas.{extends_more}
 use Rattle.view_budgets.specs.Columns.{named_lines, path_of}
 use Rattle.view_budgets.proofs.DocumentLemmas.{interval_next}
 use Rattle.view_budgets.proofs.documents.add_account.Goals as goal
 
 pub loop-row-preserved : goal.loop-row-preserved
-loop-row-preserved c = λ objects lists.
+loop-row-preserved c =
     let account = c.args.account.now in
-    lists_more c.add_row.new.listing objects _ _ _
+    extends_more
     (interval_next c.args.report.now account _ _ c.rows-row-items.result.now c.loop-row.row-index _ c.rows-row-items.ensures
     (c.path_of-path.ensures ∙ ap (λ list. path_of list account) c.list.ensures) c.unmeasured.ensures c.loop-row-test.true)
-    (c.in_ok-add_row.ensures (named_lines account c.unmeasured.result.now) c.in_ok-unmeasured.ensures _ (c.loop-row.invariant objects lists))
+    c.loop-row.invariant (c.in_ok-add_row.ensures (named_lines account c.unmeasured.result.now) c.in_ok-unmeasured.ensures)

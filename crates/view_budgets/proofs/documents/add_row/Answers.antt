@@ -2,7 +2,7 @@
 use Rattle.view_budgets.proofs.documents.add_row.Goals as goal
 
 pub returns : goal.returns
-returns c = λ lines is objects lists.
+returns c = λ lines is.
     simp (
       c.session_numbers-selector.ensures.selector,
       c.session_numbers-selector.ensures.line,
@@ -18,4 +18,4 @@ returns c = λ lines is objects lists.
       c.count.ensures,
       is,
     )
-    at (c.add.ensures objects lists)
+    at c.add.ensures
