@@ -15,4 +15,4 @@ returns c =
     ∙ joined (front (codes "entry") (codes "~")) (entry_members old_names was) (entry_members new_names now)
     (c.in_ok-more.ensures ∙ ap (λ m. m ++ entry_members old_names was) c.in_ok-first.ensures) c.in_ok-members.ensures in
     rw (c.in-Some-Some.is-0, c.in-Some-Some.is-1)
-    (subst (λ m. OnOk c.add.result (Extends c.args.listing.now c.add.new.listing (m ∷ []))) is c.add.ensures)
+    (subst (λ m. OnOk c.add.result (Extends c.args.listing.now c.add.new.self (m ∷ []))) is c.add.ensures)

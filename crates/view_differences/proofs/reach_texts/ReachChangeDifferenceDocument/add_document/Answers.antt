@@ -12,4 +12,4 @@ returns c =
     ap members_data c.as_slice.ensures.value ∙ c.in_ok-members.ensures
     ∙ ap (λ gained. reach_members change gained (texts_in c.in_ok-lost.lost)) c.in_ok-gained.ensures
     ∙ ap (λ lost. reach_members change (texts_of change.gained) lost) c.in_ok-lost.ensures in
-    subst (λ m. OnOk c.add.result (Extends c.args.listing.now c.add.new.listing (m ∷ []))) is c.add.ensures
+    subst (λ m. OnOk c.add.result (Extends c.args.listing.now c.add.new.self (m ∷ []))) is c.add.ensures
