@@ -1,6 +1,11 @@
 //! The needs of sessions, of open ones and of closed ones.
-ghost use Rattle.std.specs.Prelude.{◌≡◌, ◌<◌, ◌==◌, ℕ, length, true, false, None, OnOk};
+ghost use Rattle.std.specs.Prelude.{◌≡◌, ◌++◌, ◌<◌, ◌==◌, ℕ, List, Option, length, true, false, None, IfOk, OnOk};
+ghost use Rattle.std.specs.List.{flat_map};
+ghost use Rattle.std.specs.Option.{option_map};
 ghost use Rattle.core_calls.specs.Call.{model_call};
+ghost use Rattle.own_model.specs.Call.Call.{Close, Exit};
+ghost use Rattle.budget_meter.specs.declared.budget.Budget.{Budget as NeedOf};
+ghost use Rattle.view_accounts.specs.ClosedSessions.{Closes, ClosesAll, closed_as, closed_of, closing, closing_of, ended_at, ended_from};
 ghost use Rattle.view_accounts.specs.Meters.{needed_of_session};
 ghost use Rattle.view_accounts.specs.Peaks.{session_at};
 ghost use Rattle.view_accounts.specs.SessionNeeds.{Asks, Begins, ChangesAt, Ends, EndsAll, HearsCall, Opens, Raises, is_done, opened_in};
@@ -74,6 +79,7 @@ impl SessionNeeds {
 
     /// Observes a component's call that opens, calls, upgrades or ends a session, with its reply, the core after it, and the
     /// peaks before it. The error is that the host is out of memory.
+    #[tactic(auto, using(crate::proofs::ClosingLemmas::closed_still))]
     pub(crate) fn hear<R: Router + Drop>(
         &mut self,
         core: &Core<R>,
@@ -83,9 +89,12 @@ impl SessionNeeds {
         peaks: &Peaks,
     ) -> Result<(), AllocError>
         requires { component < length core.now.entries }
-        ensures { OnOk result ((c q : ℕ) → HearsCall core.now component (model_call call.entry)
+        ensures opened { OnOk result ((c q : ℕ) → HearsCall core.now component (model_call call.entry)
             reply.entry.outcome reply.entry.text.now c q
             (value_at self.old.opened c q) (value_at self.new.opened c q)) }
+        ensures closed { OnOk result (Closes peaks.now.sessions self.old.opened component
+            (model_call call.entry) (is_done reply.entry.outcome)
+            (closed_of self.old.closed.items) (closed_of self.new.closed.items)) }
     {
         match call {
             Call::Open { .. } => self.begin(core, component, reply.outcome),
@@ -107,8 +116,9 @@ impl SessionNeeds {
         outcome: Outcome,
     ) -> Result<(), AllocError>
         requires { component < length core.now.entries }
-        ensures { OnOk result ((c q : ℕ) → Opens core.now component (opened_in outcome) c q
+        ensures opened { OnOk result ((c q : ℕ) → Opens core.now component (opened_in outcome) c q
             (value_at self.old.opened c q) (value_at self.new.opened c q)) }
+        ensures closed { self.new.closed ≡ self.old.closed }
     {
         match outcome {
             Outcome::Selected(selector) => {
@@ -126,9 +136,10 @@ impl SessionNeeds {
         selector: u64,
     ) -> Result<(), AllocError>
         requires { component < length core.now.entries }
-        ensures { OnOk result ((c q : ℕ) → ChangesAt component selector
+        ensures opened { OnOk result ((c q : ℕ) → ChangesAt component selector
             (Begins (session_at component selector core.now)) c q
             (value_at self.old.opened c q) (value_at self.new.opened c q)) }
+        ensures closed { self.new.closed ≡ self.old.closed }
     {
         let Some(account) = core.session_account(component, selector) else {
             return Ok(());
@@ -154,9 +165,10 @@ impl SessionNeeds {
         reply: Answer<'_>,
     ) -> Result<(), AllocError>
         requires { component < length core.now.entries }
-        ensures { OnOk result ((c q : ℕ) → ChangesAt component selector
+        ensures opened { OnOk result ((c q : ℕ) → ChangesAt component selector
             (Asks request.now reply.entry.text.now (session_at component selector core.now)) c q
             (value_at self.old.opened c q) (value_at self.new.opened c q)) }
+        ensures closed { self.new.closed ≡ self.old.closed }
     {
         let Some(account) = core.session_account(component, selector) else {
             return Ok(());
@@ -177,9 +189,10 @@ impl SessionNeeds {
         selector: u64,
     ) -> Result<(), AllocError>
         requires { component < length core.now.entries }
-        ensures { OnOk result ((c q : ℕ) → ChangesAt component selector
+        ensures opened { OnOk result ((c q : ℕ) → ChangesAt component selector
             (Raises (session_at component selector core.now)) c q
             (value_at self.old.opened c q) (value_at self.new.opened c q)) }
+        ensures closed { self.new.closed ≡ self.old.closed }
     {
         let Some(account) = core.session_account(component, selector) else {
             return Ok(());
@@ -193,6 +206,7 @@ impl SessionNeeds {
     }
 
     // Keeps the session under a selector of a component as closed, if its call closed it.
+    #[tactic(auto, using(crate::proofs::ClosingLemmas::closes_one, crate::proofs::ClosingLemmas::closes_none))]
     fn end(
         &mut self,
         component: usize,
@@ -200,14 +214,19 @@ impl SessionNeeds {
         outcome: Outcome,
         peaks: &Peaks,
     ) -> Result<(), AllocError>
-        ensures { OnOk result ((c q : ℕ) → ChangesAt component selector (Ends (is_done outcome)) c q
+        ensures opened { OnOk result ((c q : ℕ) → ChangesAt component selector (Ends (is_done outcome)) c q
             (value_at self.old.opened c q) (value_at self.new.opened c q)) }
+        ensures closed { OnOk result (Closes peaks.now.sessions self.old.opened component
+            (Close selector) (is_done outcome)
+            (closed_of self.old.closed.items) (closed_of self.new.closed.items)) }
     {
         let Outcome::Done = outcome else {
             return Ok(());
         };
         match self.opened.take(component, selector) {
-            Some(session) => self.keep_closed(peaks.session(component, selector), session.need),
+            Some(session) => {
+                self.keep_closed(peaks.sessions.get(component, selector), session.need)
+            },
             None => Ok(()),
         }
     }
@@ -219,8 +238,11 @@ impl SessionNeeds {
         outcome: Outcome,
         peaks: &Peaks,
     ) -> Result<(), AllocError>
-        ensures { OnOk result ((c q : ℕ) → EndsAll component (is_done outcome) c
+        ensures opened { OnOk result ((c q : ℕ) → EndsAll component (is_done outcome) c
             (value_at self.old.opened c q) (value_at self.new.opened c q)) }
+        ensures closed { OnOk result (Closes peaks.now.sessions self.old.opened component
+            Exit (is_done outcome)
+            (closed_of self.old.closed.items) (closed_of self.new.closed.items)) }
     {
         let Outcome::Done = outcome else {
             return Ok(());
@@ -237,17 +259,41 @@ impl SessionNeeds {
         peaks: &Peaks,
     ) -> Result<(), AllocError>
         ensures same { self.new.opened ≡ self.old.opened }
+        ensures closed { OnOk result ((row : List (Option MeteredSession)) → ended.items ≡ ended_from 0 row →
+            ClosesAll peaks.now.sessions component row
+            (closed_of self.old.closed.items) (closed_of self.new.closed.items)) }
     {
         ended.sort_unstable_by_key(|session| session.earlier);
+        self.keep_each_closed(component, ended.as_slice(), peaks)
+    }
+
+    // Keeps sessions of a component as closed, in this order.
+    #[tactic(auto, using(crate::proofs::ClosingLemmas::closing_next))]
+    fn keep_each_closed(
+        &mut self,
+        component: usize,
+        ended: &[Ended],
+        peaks: &Peaks,
+    ) -> Result<(), AllocError>
+        ensures same { self.new.opened ≡ self.old.opened }
+        ensures closed { OnOk result (closed_of self.new.closed.items ≡ closed_of self.old.closed.items
+            ++ flat_map (closing_of peaks.now.sessions component) ended.now) }
+    {
         for session in ended {
-            self.keep_closed(peaks.session(component, session.selector), session.need)?;
+            self.keep_closed(
+                peaks.sessions.get(component, session.selector),
+                session.need,
+            )?;
         }
         Ok(())
     }
 
     // Keeps a session as closed, as it was until then.
+    #[tactic(auto, using(crate::proofs::ClosingLemmas::closed_more))]
     fn keep_closed(&mut self, session: Option<&SessionPeak>, need: Budget) -> Result<(), AllocError>
         ensures same { self.new.opened ≡ self.old.opened }
+        ensures closed { OnOk result (closed_of self.new.closed.items
+            ≡ closed_of self.old.closed.items ++ closing (option_map (λ session. session.now) session.entry) need) }
     {
         if let Some(session) = session {
             self.closed.push(ClosedSession {
@@ -260,25 +306,40 @@ impl SessionNeeds {
 }
 
 // The sessions of a component that end, by what it has under its selectors.
-fn ended_of(
-    alloc: Global,
-    sessions: Vec<Option<MeteredSession>>,
-) -> Result<Vec<Ended>, AllocError> {
+#[tactic(auto, using(crate::proofs::ClosingLemmas::ended_next))]
+fn ended_of(alloc: Global, sessions: Vec<Option<MeteredSession>>) -> Result<Vec<Ended>, AllocError>
+    ensures { IfOk result (λ ended. ended.items ≡ ended_from 0 sessions.items) }
+{
     let mut ended = Vec::new(alloc);
     for (selector, session) in sessions.iter().enumerate() {
-        if let Some(session) = session {
-            ended.push(Ended {
-                earlier: session.earlier,
-                selector: selector as u64,
-                need: session.need,
-            })?;
-        }
+        add_ended(&mut ended, selector as u64, session.as_ref())?;
     }
     Ok(ended)
 }
 
+// Adds the session that ends under a selector, if there is one.
+fn add_ended(
+    ended: &mut Vec<Ended>,
+    selector: u64,
+    session: Option<&MeteredSession>,
+) -> Result<(), AllocError>
+    ensures { OnOk result (ended.new.items
+        ≡ ended.old.items ++ ended_at selector (option_map (λ session. session.now) session.entry)) }
+{
+    if let Some(session) = session {
+        ended.push(Ended {
+            earlier: session.earlier,
+            selector,
+            need: session.need,
+        })?;
+    }
+    Ok(())
+}
+
 // A session once more, as a value of its own.
-fn copied(alloc: Global, session: &SessionPeak) -> Result<SessionPeak, AllocError> {
+fn copied(alloc: Global, session: &SessionPeak) -> Result<SessionPeak, AllocError>
+    ensures { IfOk result (λ copy. (need : NeedOf) → closed_as copy need ≡ closed_as session.now need) }
+{
     let mut label = Vec::new(alloc);
     label.extend_from_slice(session.label.as_slice())?;
     Ok(SessionPeak {
