@@ -1,3 +1,4 @@
+mod FileLemmas
 mod MadeLemmas
 pub mod StatusLemmas
 pub mod UnfoldingLemmas

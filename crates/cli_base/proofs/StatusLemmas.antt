@@ -4,7 +4,7 @@ use Rattle.std.specs.Prelude.{◌==◌, ◌&&◌, nat_lt, if◌then◌else◌}
 use Rattle.std.specs.IoError.{error_kind}
 use Rattle.std.specs.declared.io.Error.{Error}
 use Rattle.std.specs.declared.io.ErrorKind.TheVariants.{BrokenPipe}
-use Rattle.cli_base.specs.Statuses.{EndsAs, HasFailed, HasWritten, IsZero, warned}
+use Rattle.cli_base.specs.Statuses.{EndsAs, HasNoResult, HasWritten, IsZero, warned}
 
 -- the write didn't fail
 pub written_whole : {T : Type 0} (written : Result T Error) (status : ℕ) (P : Type 0) → HasWritten written status → OnOk written P → status ≡ 0 → P
@@ -13,24 +13,36 @@ written_whole (Err error) status P has holds zero =
     let open_pipe : error_kind error ≢ BrokenPipe = λ closed. omega (arith, zero, has.0 closed) in
     absurd (omega (arith, zero, has.1 open_pipe))
 
--- what holds of each status of a result
-pub ends_more : (P Q : ℕ → Type 0) → ((ended : ℕ) → P ended → Q ended) → (status : ℕ) → EndsAs P status → EndsAs Q status
-ends_more P Q more status (inl failed) = inl failed
-ends_more P Q more status (inr is) = inr (more status is)
+-- each reason of a refusal is one of others
+refused_by : (R S : Type 0) (Q : ℕ → Type 0) → (R → S) → (status : ℕ) → HasNoResult R status → EndsAs S Q status
+refused_by R S Q why status (inl failed) = inl (inl failed)
+refused_by R S Q why status (inr (two, refused)) = inl (inr (two, why refused))
+
+-- what holds of each status of a result, and of each reason of a refusal
+pub ends_by : (R S : Type 0) (P Q : ℕ → Type 0) → (R → S) → ((ended : ℕ) → P ended → Q ended) → (status : ℕ) → EndsAs R P status
+    → EndsAs S Q status
+ends_by R S P Q why more status (inl ended) = refused_by R S Q why status ended
+ends_by R S P Q why more status (inr is) = inr (more status is)
 
 -- a status without a result stays, where a function keeps each
-pub failed_by : (f : ℕ → ℕ) (ran status : ℕ) → f 1 ≡ 1 → f 2 ≡ 2 → f 141 ≡ 141 → status ≡ f ran → HasFailed ran → HasFailed status
-failed_by f ran status one two closed is (inl ran_is) = inl (is ∙ ap f ran_is ∙ one)
-failed_by f ran status one two closed is (inr (inl ran_is)) = inr (inl (is ∙ ap f ran_is ∙ two))
-failed_by f ran status one two closed is (inr (inr ran_is)) = inr (inr (is ∙ ap f ran_is ∙ closed))
+pub failed_by : (R : Type 0) (f : ℕ → ℕ) (ran status : ℕ) → f 1 ≡ 1 → f 2 ≡ 2 → f 141 ≡ 141 → status ≡ f ran → HasNoResult R ran
+    → HasNoResult R status
+failed_by R f ran status one two closed is (inl (inl ran_is)) = inl (inl (is ∙ ap f ran_is ∙ one))
+failed_by R f ran status one two closed is (inl (inr ran_is)) = inl (inr (is ∙ ap f ran_is ∙ closed))
+failed_by R f ran status one two closed is (inr (ran_is, refused)) = inr (is ∙ ap f ran_is ∙ two, refused)
+
+-- a status without a result, where nothing is refused
+unrefused : (R : Type 0) (status : ℕ) → HasNoResult ⊥ status → HasNoResult R status
+unrefused R status (inl failed) = inl failed
+unrefused R status (inr (two, refused)) = absurd refused
 
 -- a result that was printed, or the write that failed
-pub ends_printed : (P : ℕ → Type 0) (printed status ended : ℕ) → EndsAs IsZero printed → EndsAs P status
-    → ended ≡ (if printed == 0 then status else printed) → EndsAs P ended
-ends_printed P printed status ended (inl failed) ends is =
-    inl (failed_by (λ p. if p == 0 then status else p) printed ended refl refl refl is failed)
-ends_printed P printed status ended (inr zero) ends is =
-    subst (λ s. EndsAs P s) (sym (is ∙ ap (λ p. if p == 0 then status else p) zero)) ends
+pub ends_printed : (R : Type 0) (P : ℕ → Type 0) (printed status ended : ℕ) → EndsAs ⊥ IsZero printed → EndsAs R P status
+    → ended ≡ (if printed == 0 then status else printed) → EndsAs R P ended
+ends_printed R P printed status ended (inl failed) ends is =
+    inl (unrefused R ended (failed_by ⊥ (λ p. if p == 0 then status else p) printed ended refl refl refl is failed))
+ends_printed R P printed status ended (inr zero) ends is =
+    subst (λ s. EndsAs R P s) (sym (is ∙ ap (λ p. if p == 0 then status else p) zero)) ends
 
 -- warnings don't count if something else is reported
 unwarned : (strict some : Bool) (status : ℕ) → (if strict && (some && false) then 3 else status) ≡ status
@@ -38,13 +50,10 @@ unwarned true true status = refl
 unwarned true false status = refl
 unwarned false some status = refl
 
-pub failed_warned : (strict : Bool) (warnings ran status : ℕ) → status ≡ warned strict warnings ran → HasFailed ran → HasFailed status
-failed_warned strict warnings ran status is failed =
-    failed_by (λ r. warned strict warnings r) ran status (unwarned strict (nat_lt 0 warnings) 1) (unwarned strict (nat_lt 0 warnings) 2)
-    (unwarned strict (nat_lt 0 warnings) 141) is failed
-
 -- the status of a result with its warnings
-pub ends_warned : (P Q : ℕ → Type 0) (strict : Bool) (warnings ran status : ℕ) → ((ended : ℕ) → P ended → Q (warned strict warnings ended))
-    → EndsAs P ran → status ≡ warned strict warnings ran → EndsAs Q status
-ends_warned P Q strict warnings ran status more (inl failed) is = inl (failed_warned strict warnings ran status is failed)
-ends_warned P Q strict warnings ran status more (inr ends) is = inr (subst Q (sym is) (more ran ends))
+pub ends_warned : (R S : Type 0) (P Q : ℕ → Type 0) (strict : Bool) (warnings ran status : ℕ) → (R → S)
+    → ((ended : ℕ) → P ended → Q (warned strict warnings ended)) → EndsAs R P ran → status ≡ warned strict warnings ran → EndsAs S Q status
+ends_warned R S P Q strict warnings ran status why more (inl failed) is =
+    refused_by R S Q why status ((failed_by R (λ r. warned strict warnings r) ran status
+    (unwarned strict (nat_lt 0 warnings) 1) (unwarned strict (nat_lt 0 warnings) 2) (unwarned strict (nat_lt 0 warnings) 141) is failed))
+ends_warned R S P Q strict warnings ran status why more (inr ends) is = inr (subst Q (sym is) (more ran ends))

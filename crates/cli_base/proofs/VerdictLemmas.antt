@@ -1,6 +1,6 @@
 -- One diagnostic after another.
 use Rattle.std.proofs.Common.{◌≡◌, ℕ, ◌<◌, ◌≤◌, ◌+◌, List, [], ◌∷◌, ◌++◌, length, map, drop, get_or, refl, sym, subst, ap, ◌∙◌, inl, inr}
-use Rattle.std.specs.Prelude.{IfOk, IfSome, OnOk, MatchOption, Option, Some, None, Result, Ok, Err}
+use Rattle.std.specs.Prelude.{IfOk, OnOk, MatchOption, Option, Some, None, Result, Ok, Err}
 use Rattle.std.specs.Str.{IsUtf8}
 use Rattle.std.proofs.lemmas.List.{append_assoc, append-nil, drop_all, drop_more, map-append}
 use Rattle.list_policy.specs.Verdict.{MessageAt}
@@ -37,16 +37,17 @@ too_long bytes long = inl long
 pub not_text : (bytes : List ℕ) → (¬ (IsUtf8 bytes)) → IsNoPolicy bytes
 not_text bytes broken = inr broken
 
-some_one : {X : Type 0} (o : Option X) (unread : Type 0) (is : List ℕ → X → Type 0) (text : List ℕ) → MatchOption o unread (is text)
-    → IfSome o (λ x. (t : List ℕ) × is t x)
-some_one None unread is text found = tt
-some_one (Some x) unread is text found = (text, found)
+-- a result is that of the text at a path
+at_text_some : {X : Type 0} (o : Option X) (No : Type 0) (At : List ℕ → Type 0) (is : List ℕ → X → Type 0) (text : List ℕ) → At text
+    → MatchOption o ⊥ (is text) → MatchOption o No (λ x. (t : List ℕ) × At t × is t x)
+at_text_some None No At is text at found = absurd found
+at_text_some (Some x) No At is text at found = (text, at, found)
 
--- a result is that of some text
-pub some_text : {V E X : Type 0} (places : V → Option X) (unread : List ℕ → Type 0) (is : List ℕ → X → Type 0) (text : List ℕ) (r : Result V E)
-    → IfOk r (λ v. MatchOption (places v) (unread text) (is text)) → IfOk r (λ v. IfSome (places v) (λ x. (t : List ℕ) × is t x))
-some_text places unread is text (Ok v) found = some_one (places v) (unread text) is text found
-some_text places unread is text (Err fault) found = found
+pub at_text : {V E X : Type 0} (notes : V → Option X) (No : Type 0) (At : List ℕ → Type 0) (is : List ℕ → X → Type 0) (text : List ℕ)
+    (r : Result V E) → At text → IfOk r (λ v. MatchOption (notes v) ⊥ (is text))
+    → IfOk r (λ v. MatchOption (notes v) No (λ x. (t : List ℕ) × At t × is t x))
+at_text notes No At is text (Ok v) at found = at_text_some (notes v) No At is text at found
+at_text notes No At is text (Err fault) at found = found
 
 -- what is shown was found
 pub with_found : {V E X : Type 0} (is : List X → Type 0) (shows : List X → Type 0) (found shown : List X) (r : Result V E) → shown ≡ found

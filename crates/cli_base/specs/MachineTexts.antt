@@ -1,17 +1,28 @@
 -- The text of a machine's start list.
 use Rattle.std.specs.Prelude.{◌≡◌, ℕ, List, Option, Some, None, Ok}
-use Rattle.std.specs.Borrow.{Bor}
-use Rattle.line_names.specs.Lists.{filled}
+use Rattle.std.specs.Option.{option_copied}
+use Rattle.own_model.specs.MachineA.{machine_a}
+use Rattle.list_parser.specs.StartText.{list_in}
+use Rattle.cli_base.specs.Files.{HasNoList, IsFrontAt, list_filled}
 use Rattle.cli_base.specs.Texts.{bytes_of}
-use Rattle.cli_base.specs.Unfolding.{names_of}
-use Rattle.cli_base.specs.declared.machine.MachineText.{MachineText}
+use Rattle.cli_base.specs.declared.machine.Machine.{Machine}
 use Rattle.cli_base.specs.declared.settings.Settings.{Settings}
 
--- a text is another one with the values of its names
-abbrev pub IsFilled : Settings → List ℕ → Type 0
-IsFilled settings text = (file : List ℕ) × (filled (names_of settings) file ≡ Ok text)
+-- a text is that of the file at a path, with the values of names
+abbrev pub IsFilled : (List ℕ → Option (List ℕ)) → Settings → List ℕ → List ℕ → Type 0
+IsFilled texts settings path text = (file : List ℕ) × IsFrontAt texts path file × (list_filled settings file ≡ Ok text)
 
--- the built-in text if no list is named, and else a filled one
-abbrev pub IsTextFor : List ℕ → Settings → Option (Bor (List ℕ)) → MachineText → Type 0
-IsTextFor built_in settings None text = bytes_of text ≡ built_in
-IsTextFor built_in settings (Some path) text = IsFilled settings (bytes_of text)
+-- the text of a list is that of its file; without a path it is that of machine A
+abbrev pub IsTextFor : (List ℕ → Option (List ℕ)) → Settings → Option (List ℕ) → List ℕ → Type 0
+IsTextFor texts settings None text = list_in text ≡ Ok machine_a
+IsTextFor texts settings (Some path) text = IsFilled texts settings path text
+
+-- a machine is that of the list of a path
+abbrev pub IsMachineOf : (List ℕ → Option (List ℕ)) → Settings → Option (List ℕ) → Machine → Type 0
+IsMachineOf texts settings path machine =
+    (option_copied machine.path ≡ path) × IsTextFor texts settings path (bytes_of machine.text)
+
+-- a path is that of no start list; without a path there is one
+abbrev pub LacksList : (List ℕ → Option (List ℕ)) → Settings → Option (List ℕ) → Type 0
+LacksList texts settings None = ⊥
+LacksList texts settings (Some path) = HasNoList texts settings path

@@ -1,9 +1,14 @@
 -- The result of a check of a start list against a policy: its messages, and its exit status.
-use Rattle.std.specs.Prelude.{ℕ, List, ◌<◌, ◌⊎◌, length, map, Option, Some, None, Result, Ok, Err, string_bytes}
+use Rattle.std.specs.Prelude.{ℕ, List, ◌<◌, ◌⊎◌, Bool, false, length, map, Option, Some, None, IfSome, MatchOption, Result, Ok, Err, string_bytes}
 use Rattle.std.specs.Str.{IsUtf8}
 use Rattle.list_policy.specs.Status.{exit_status}
-use Rattle.list_policy.specs.Verdict.{MessageAt}
+use Rattle.list_policy.specs.Verdict.{IsVerdict, MessageAt}
+use Rattle.own_model.specs.Listed.{Listed}
+use Rattle.cli_base.specs.Files.{IsTextAt, front}
+use Rattle.cli_base.specs.ListFailures.{read_lacks_memory}
 use Rattle.cli_base.specs.declared.policy_verdict.PolicyDiagnostic.{PolicyDiagnostic}
+use Rattle.cli_base.specs.declared.policy_verdict.PolicyReadFailure.{PolicyReadFailure}
+use Rattle.cli_base.specs.declared.policy_verdict.PolicyReadFailure.TheVariants.{Unread, TooLong, NoText}
 use Rattle.cli_base.specs.declared.policy_verdict.PolicyVerdict.{PolicyVerdict}
 use Rattle.cli_base.specs.declared.policy_verdict.PolicyVerdict.TheVariants.{Held, Faulty, ReadFailure}
 
@@ -23,6 +28,22 @@ verdict_notes (Held broken) = Some (Ok (map note_message broken.items))
 verdict_notes (Faulty faults) = Some (Err (map note_message faults.items))
 verdict_notes (ReadFailure why) = None
 
+-- the host is out of memory for the text of a policy
+abbrev pub policy_lacks_memory : PolicyReadFailure → Bool
+policy_lacks_memory (Unread message) = read_lacks_memory message.why
+policy_lacks_memory (TooLong path) = false
+policy_lacks_memory (NoText path) = false
+
 -- bytes are no text of a policy
 abbrev pub IsNoPolicy : List ℕ → Type 0
 IsNoPolicy bytes = (65536 < length bytes) ⊎ (¬ (IsUtf8 bytes))
+
+-- the file at a path is no policy, as far as it is known
+abbrev pub HasNoPolicy : (List ℕ → Option (List ℕ)) → List ℕ → Type 0
+HasNoPolicy texts path = IfSome (texts path) (λ bytes. IsNoPolicy (front bytes))
+
+-- a verdict is that of a list by the text of the policy at a path, if that is one
+abbrev pub IsVerdictAt : (List ℕ → Option (List ℕ)) → List ℕ → Listed → PolicyVerdict → Type 0
+IsVerdictAt texts path list verdict =
+    MatchOption (verdict_notes verdict) (HasNoPolicy texts path)
+    (λ notes. (text : List ℕ) × IsTextAt texts path text × IsVerdict list text notes)

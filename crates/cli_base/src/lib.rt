@@ -1,14 +1,16 @@
 //! What the commands of `nethrywel` share: files and streams, settings, machines, diagnostics and exit statuses.
 //!
 //! The crates `cli_lists`, `cli_runs`, `cli_budgets` and `cli_tests` and the program `nethrywel` call it.
-//! `scenario_text(rt, form, path)` reads a scenario, or prints why it can't and returns the exit status.
+//! `scenario_text(host, form, path)` reads a scenario, or prints why it can't and returns the exit status.
 #![tactic(auto)]
 
 mod advice;
 mod coloring;
 mod files;
+mod host;
 mod lines;
 mod list_fault;
+mod list_file;
 mod machine;
 mod machine_choice;
 mod paths;
@@ -23,12 +25,11 @@ mod unfolding;
 
 pub use advice::{Warnings, warned_status};
 pub use coloring::Coloring;
-pub use files::{
-    FileReadMessage, ReadFailure, STANDARD_INPUT, StartListFailure, read_list, read_whole,
-    scenario_text, start_list,
-};
+pub use files::{FileReadMessage, read_list, read_whole, scenario_text};
+pub use host::{Host, ReadFailure, STANDARD_INPUT};
 pub use lines::LineStarts;
 pub use list_fault::{ListFaultMessage, fault_spot, tell_fault};
+pub use list_file::{StartListFailure, start_list};
 pub use machine::{Machine, report_boot_fault};
 pub use machine_choice::MachineChoice;
 pub use paths::{is_policy, is_scenario, machine_path, policy_path};
@@ -42,7 +43,7 @@ pub use reports::{
 pub use scenario_reader::{Printing, Reader, silent_reader, watched_reader};
 pub use settings::{Settings, names_given};
 pub use status::{
-    OUT_OF_MEMORY, REFUSED, StopMessage, UNREAD, UNWRITTEN, made_or_status, no_memory,
+    OUT_OF_MEMORY, REFUSED, StopMessage, UNREAD, UNWRITTEN, boot_status, made_or_status, no_memory,
     print_documents, spot_of, status_after, status_of, unread_status,
 };
 pub use streams::{Origin, OutputStream, Writer, plain_writer, text_of, writer};

@@ -1,14 +1,16 @@
 //! Machines: those of start lists, and the built-in one.
 ghost use Rattle.std.specs.Prelude.{◌≡◌, Ok};
 ghost use Rattle.list_parser.specs.StartText.{list_in};
+ghost use Rattle.cli_base.specs.Statuses.{boot_status};
 ghost use Rattle.cli_base.specs.Texts.{bytes_of};
 
-use crate::files::{StartListFailure, filled_list};
+use crate::host::Host;
 use crate::list_fault::tell_fault;
+use crate::list_file::{StartListFailure, filled_list};
 use crate::reports::{Spot, report_error};
 use crate::settings::Settings;
-use crate::status::REFUSED;
-use init_core::{BootFault, MACHINE_A, StartList};
+use crate::status::boot_status;
+use init_core::{BootFault, MACHINE_A, StartList, machine_a_is_read};
 use list_review::Review;
 use view_diagnostics::DiagnosticForm;
 
@@ -43,28 +45,31 @@ impl MachineText {
 }
 
 impl<'a> Machine<'a> {
-    ghost use Rattle.std.specs.Prelude.{◌≡◌, IfErr, IfOk, Ok};
+    ghost use Rattle.std.specs.Prelude.{◌≡◌, ◌≢◌, ◌⊎◌, false, is_err, true, IfErr, IfOk, Ok};
     ghost use Rattle.std.specs.Option.{option_copied};
     ghost use Rattle.list_parser.specs.StartText.{list_in};
-    ghost use Rattle.cli_base.specs.MachineTexts.{IsTextFor};
+    ghost use Rattle.cli_base.specs.ListFailures.{lacks_memory};
+    ghost use Rattle.cli_base.specs.MachineTexts.{IsMachineOf, LacksList};
     ghost use Rattle.cli_base.specs.Texts.{bytes_of};
 
     /// Reads the machine of a start list's path, or the built-in machine if there is no path. Returns why the list can't be read
     /// otherwise.
-    pub fn find(
-        rt: &HostRuntime,
+    pub fn find<H: Host>(
+        host: &H,
         path: Option<&'a str>,
         settings: Settings<'_>,
     ) -> Result<Machine<'a>, StartListFailure<'a>>
-        ensures named { IfOk result (λ machine. option_copied machine.path ≡ option_copied path.entry) }
-        ensures text { IfOk result (λ machine.
-            IsTextFor MACHINE_A.now settings.entry path.entry machine.text) }
+        ensures found { IfOk result
+            (IsMachineOf (H.text_at host.now) settings.entry (option_copied path.entry)) }
+        ensures failed { IfErr result (λ failure. lacks_memory failure ≡ false
+            → LacksList (H.text_at host.now) settings.entry (option_copied path.entry)) }
     {
         let Some(file) = path else {
-            return Machine::of_text(rt, None, MachineText::BuiltIn(MACHINE_A));
+            machine_a_is_read();
+            return Machine::of_text(host.rt(), None, MachineText::BuiltIn(MACHINE_A));
         };
-        match filled_list(rt, file, settings) {
-            Ok(text) => Machine::of_text(rt, path, MachineText::Read(text)),
+        match filled_list(host, file, settings) {
+            Ok(text) => Machine::of_text(host.rt(), path, MachineText::Read(text)),
             Err(fault) => Err(fault),
         }
     }
@@ -77,6 +82,8 @@ impl<'a> Machine<'a> {
     ) -> Result<Machine<'a>, StartListFailure<'a>>
         ensures named { IfOk result (λ machine. option_copied machine.path ≡ option_copied path.entry) }
         ensures text { IfOk result (λ machine. machine.text ≡ text) }
+        ensures failed { IfErr result
+            (λ failure. lacks_memory failure ≡ false → is_err (list_in (bytes_of text)) ≡ true) }
     {
         match StartList::read(rt.alloc(), text.bytes()) {
             Ok(list) => Ok(Machine { path, text, list }),
@@ -84,22 +91,22 @@ impl<'a> Machine<'a> {
         }
     }
 
-    /// Reads a machine as `find` does. If that fails, prints why and returns the exit status 2.
-    pub fn read(
-        rt: &HostRuntime,
+    /// Reads a machine as `find` does. If that fails, prints why and returns the exit status: 1 if the host is out of memory, else 2.
+    pub fn read<H: Host>(
+        host: &H,
         path: Option<&'a str>,
         settings: Settings<'_>,
     ) -> Result<Machine<'a>, u8>
-        ensures named { IfOk result (λ machine. option_copied machine.path ≡ option_copied path.entry) }
-        ensures text { IfOk result (λ machine.
-            IsTextFor MACHINE_A.now settings.entry path.entry machine.text) }
-        ensures failed { IfErr result (λ status. status ≡ 2) }
+        ensures found { IfOk result
+            (IsMachineOf (H.text_at host.now) settings.entry (option_copied path.entry)) }
+        ensures failed { IfErr result (λ status. (status ≡ 1)
+            ⊎ (status ≡ 2) × LacksList (H.text_at host.now) settings.entry (option_copied path.entry)) }
     {
-        match Machine::find(rt, path, settings) {
+        match Machine::find(host, path, settings) {
             Ok(machine) => Ok(machine),
             Err(fault) => {
-                report_error(rt, settings.form, fault.spot(), &fault);
-                Err(REFUSED)
+                report_error(host.rt(), settings.form, fault.spot(), &fault);
+                Err(fault.exit_status())
             }
         }
     }
@@ -124,21 +131,23 @@ impl<'a> Machine<'a> {
     }
 }
 
-/// Prints why no machine was booted, at the place in its start list if that is a file's. Returns the exit status 2.
+/// Prints why no machine was booted, at the place in its start list if that is a file's. Returns the exit status: 1 if the host is
+/// out of memory, else 2.
 pub fn report_boot_fault(
     rt: &HostRuntime,
     form: DiagnosticForm,
     machine: &Machine<'_>,
     fault: &BootFault,
 ) -> u8
-    ensures { result ≡ 2 }
+    ensures { result ≡ boot_status fault.now }
 {
+    let status = boot_status(fault);
     if let Some(path) = machine.path() {
         if let Err(placed) = Review::read(rt.alloc(), machine.text()) {
             tell_fault(rt, form, path, &placed);
-            return REFUSED;
+            return status;
         }
     }
     report_error(rt, form, Spot::nowhere(), &format_args!("boot: {fault}"));
-    REFUSED
+    status
 }

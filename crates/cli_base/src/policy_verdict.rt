@@ -1,15 +1,17 @@
 //! The check of a start list against a policy: each line of the policy that the list breaks, with its place.
-ghost use Rattle.std.specs.Prelude.{◌≡◌, ◌++◌, ℕ, List, map, MatchOption, IfErr, IfOk, IfSome, OnOk};
+ghost use Rattle.std.specs.Prelude.{◌≡◌, ◌++◌, ◌≤◌, false, List, length, map, MatchOption, IfErr, IfOk, OnOk};
 ghost use Rattle.list_policy.specs.Components.{fault_at};
 ghost use Rattle.list_policy.specs.Demand.{AreBreaches};
 ghost use Rattle.list_policy.specs.Line.{line_at};
 ghost use Rattle.list_policy.specs.Verdict.{AreBrokenAt, IsVerdict, breach_message, fault_message};
 ghost use Rattle.list_policy.specs.declared.breach.Breach.{Breach};
-ghost use Rattle.cli_base.specs.PolicyVerdict.{IsNoPolicy, note_message, verdict_notes, verdict_status};
+ghost use Rattle.cli_base.specs.Files.{IsTextAt};
+ghost use Rattle.cli_base.specs.PolicyVerdict.{HasNoPolicy, IsNoPolicy, IsVerdictAt, note_message, policy_lacks_memory, verdict_notes, verdict_status};
 
 use crate::files::{FileReadMessage, read_list};
+use crate::host::Host;
 use crate::reports::Spot;
-use crate::status::REFUSED;
+use crate::status::{REFUSED, UNWRITTEN};
 use init_core::StartList;
 use list_policy::{Breach, BreachText, Policy, PolicyFault, PolicyLine, exit_status};
 use std::alloc::{AllocError, Global};
@@ -72,6 +74,32 @@ pub enum PolicyReadFailure<'a> {
     NoText(&'a str),
 }
 
+impl PolicyReadFailure<'_> {
+    ghost use Rattle.std.specs.Prelude.{◌≡◌, if◌then◌else◌};
+    ghost use Rattle.cli_base.specs.PolicyVerdict.{policy_lacks_memory};
+
+    // Returns whether the host is out of memory.
+    fn lacks_memory(self) -> bool
+        ensures { result ≡ policy_lacks_memory self.entry }
+    {
+        match self {
+            PolicyReadFailure::Unread(message) => message.lacks_memory(),
+            PolicyReadFailure::TooLong(_) | PolicyReadFailure::NoText(_) => false,
+        }
+    }
+
+    /// Returns the exit status: 1 if the host is out of memory, and else 2.
+    pub fn exit_status(self) -> u8
+        ensures { result ≡ (if policy_lacks_memory self.entry then 1 else 2) }
+    {
+        if self.lacks_memory() {
+            UNWRITTEN
+        } else {
+            REFUSED
+        }
+    }
+}
+
 impl fmt::Display for PolicyReadFailure<'_> {
     fn fmt<W: fmt::Write>(&self, f: &mut fmt::Formatter<W>) -> fmt::Result {
         match self {
@@ -85,8 +113,12 @@ impl fmt::Display for PolicyReadFailure<'_> {
 }
 
 /// Reads the text of the policy of a path. Errors in order: the file can't be read; it has more than 65536 bytes; it isn't UTF-8.
-pub fn policy_text<'a>(rt: &HostRuntime, path: &'a str) -> Result<Vec<u8>, PolicyReadFailure<'a>> {
-    match read_list(rt, path) {
+pub fn policy_text<'a, H: Host>(host: &H, path: &'a str) -> Result<Vec<u8>, PolicyReadFailure<'a>>
+    ensures text { IfOk result (λ text. IsTextAt (H.text_at host.now) path.now text.items) }
+    ensures failed { IfErr result (λ failure. policy_lacks_memory failure ≡ false
+        → HasNoPolicy (H.text_at host.now) path.now) }
+{
+    match read_list(host, path) {
         Ok(bytes) => text_of(path, bytes),
         Err(why) => Err(PolicyReadFailure::Unread(why.about(path))),
     }
@@ -96,7 +128,9 @@ pub fn policy_text<'a>(rt: &HostRuntime, path: &'a str) -> Result<Vec<u8>, Polic
 #[tactic(auto, using(crate::proofs::VerdictLemmas::too_long, crate::proofs::VerdictLemmas::not_text))]
 fn text_of(path: &str, bytes: Vec<u8>) -> Result<Vec<u8>, PolicyReadFailure<'_>>
     ensures text { IfOk result (λ text. text.items ≡ bytes.items) }
-    ensures no_text { IfErr result (λ why. IsNoPolicy bytes.items) }
+    ensures few { IfOk result (λ text. length text.items ≤ LONGEST_POLICY) }
+    ensures no_text { IfErr result (λ failure. IsNoPolicy bytes.items) }
+    ensures no_lack { IfErr result (λ failure. policy_lacks_memory failure ≡ false) }
 {
     if LONGEST_POLICY < bytes.len() {
         return Err(PolicyReadFailure::TooLong(path));
@@ -108,17 +142,17 @@ fn text_of(path: &str, bytes: Vec<u8>) -> Result<Vec<u8>, PolicyReadFailure<'_>>
 }
 
 /// Checks a start list against the policy of a path. Returns an error if the host is out of memory.
-pub fn check_policy(
-    rt: &HostRuntime,
+pub fn check_policy<H: Host>(
+    host: &H,
     list: &StartList,
     path: &str,
 ) -> Result<PolicyVerdict, AllocError>
-    ensures { IfOk result (λ verdict. IfSome (verdict_notes verdict)
-        (λ notes. (text : List ℕ) × IsVerdict list.now text notes)) }
+    ensures { IfOk result (λ verdict. IsVerdictAt (H.text_at host.now) path.now list.now verdict) }
 {
-    let alloc = rt.alloc();
-    match policy_text(rt, path) {
+    let alloc = host.rt().alloc();
+    match policy_text(host, path) {
         Ok(text) => verdict_of(alloc, list, &text),
+        Err(why) if why.lacks_memory() => Err(AllocError),
         Err(why) => Ok(PolicyVerdict::ReadFailure(format!(in alloc; "{why}")?)),
     }
 }

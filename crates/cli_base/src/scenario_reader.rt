@@ -22,19 +22,23 @@ pub enum Printing {
 
 /// The source of a scenario's bytes, which reports the progress of a long run.
 #[derive(Drop)]
-pub struct ScenarioBytes<'a> {
-    origin: Origin<'a>,
+pub struct ScenarioBytes<'a, F> {
+    origin: Origin<'a, F>,
     progress: Option<Progress<'a>>,
 }
 
 /// The reader of a scenario's lines.
-pub type Reader<'a> = Input<ScenarioBytes<'a>>;
+pub type Reader<'a, F> = Input<ScenarioBytes<'a, F>>;
 
 /// Returns a reader of a scenario. If standard error is a terminal, a run of over two seconds reports on it every second how many lines
 /// are read, unless the command prints meanwhile on a terminal.
-pub fn watched_reader<'a>(rt: &'a HostRuntime, origin: Origin<'a>, printing: Printing) -> Reader<'a>
-    ensures bytes { ⟦<Reader<'a> as Source>⟧.remaining result ≡ origin_bytes origin.entry }
-    ensures fresh { ⟦<Reader<'a> as Source>⟧.has_failed result ≡ false }
+pub fn watched_reader<'a, F: Read>(
+    rt: &'a HostRuntime,
+    origin: Origin<'a, F>,
+    printing: Printing,
+) -> Reader<'a, F>
+    ensures bytes { ⟦<Reader<'a, F> as Source>⟧.remaining result ≡ origin_bytes F.remaining origin.entry }
+    ensures fresh { ⟦<Reader<'a, F> as Source>⟧.has_failed result ≡ false }
 {
     let is_seen = printing == Printing::Meanwhile && rt.stdout().is_terminal();
     let progress = if is_seen || !rt.stderr().is_terminal() {
@@ -46,9 +50,9 @@ pub fn watched_reader<'a>(rt: &'a HostRuntime, origin: Origin<'a>, printing: Pri
 }
 
 /// Returns a reader of a scenario that reports no progress.
-pub fn silent_reader<'a>(origin: Origin<'a>) -> Reader<'a>
-    ensures bytes { ⟦<Reader<'a> as Source>⟧.remaining result ≡ origin_bytes origin.entry }
-    ensures fresh { ⟦<Reader<'a> as Source>⟧.has_failed result ≡ false }
+pub fn silent_reader<'a, F: Read>(origin: Origin<'a, F>) -> Reader<'a, F>
+    ensures bytes { ⟦<Reader<'a, F> as Source>⟧.remaining result ≡ origin_bytes F.remaining origin.entry }
+    ensures fresh { ⟦<Reader<'a, F> as Source>⟧.has_failed result ≡ false }
 {
     Input::new(ScenarioBytes {
         origin,
@@ -56,10 +60,10 @@ pub fn silent_reader<'a>(origin: Origin<'a>) -> Reader<'a>
     })
 }
 
-impl Read for ScenarioBytes<'_> {
+impl<F: Read> Read for ScenarioBytes<'_, F> {
     ghost use Rattle.cli_base.specs.Origins.{origin_bytes};
 
-    ghost remaining = { λ source. origin_bytes source.origin };
+    ghost remaining = { λ source. origin_bytes F.remaining source.origin };
 
     fn read(&mut self, buffer: &mut [u8]) -> io::Result<usize> {
         let count = self.origin.read(buffer)?;

@@ -3,8 +3,9 @@ ghost use Rattle.std.specs.Prelude.{◌≡◌, ◌⊎◌, IfErr, IfOk, OnOk, Som
 ghost use Rattle.std.specs.Option.{option_copied};
 ghost use Rattle.line_names.specs.NameTable.{nothing};
 ghost use Rattle.line_steps.specs.RunPosition.{first_position};
-ghost use Rattle.cli_base.specs.Given.{given_by, given_by_all, name_in, value_in};
-ghost use Rattle.cli_base.specs.Unfolding.{names_of};
+ghost use Rattle.std.specs.List.{list_all};
+ghost use Rattle.cli_base.specs.Given.{given_by, given_by_all, is_setting, is_value_byte, name_in, value_in, HasNoSetting};
+ghost use Rattle.cli_base.specs.Given.{names_of};
 
 use crate::reports::{Spot, report_error};
 use crate::status::{REFUSED, made_or_status};
@@ -97,7 +98,8 @@ pub fn names_given(
     form: DiagnosticForm,
 ) -> Result<NameTable, u8>
     ensures known { IfOk result (λ known. known ≡ given_by_all nothing arguments.now) }
-    ensures failed { IfErr result (λ status. (status ≡ 1) ⊎ (status ≡ 2)) }
+    ensures failed { IfErr result (λ status. (status ≡ 1)
+        ⊎ (status ≡ 2) × HasNoSetting arguments.now) }
 {
     for argument in arguments {
         if !is_taken(rt, form, argument) {
@@ -129,8 +131,10 @@ fn give(known: &mut NameTable, argument: &[u8]) -> Result<(), AllocError>
     }
 }
 
-// Whether an argument gives a name a value; why it doesn't is printed.
-fn is_taken(rt: &HostRuntime, form: DiagnosticForm, argument: &str) -> bool {
+// Returns whether an argument gives a name a value. Otherwise prints why it doesn't.
+fn is_taken(rt: &HostRuntime, form: DiagnosticForm, argument: &str) -> bool
+    ensures { result ≡ is_setting argument.now }
+{
     let (name, value) = parted(argument.as_bytes());
     let Some(value) = value else {
         refuse(rt, form, argument, "expected NAME=VALUE");
@@ -145,7 +149,7 @@ fn is_taken(rt: &HostRuntime, form: DiagnosticForm, argument: &str) -> bool {
         );
         return false;
     }
-    if !value.iter().all(|byte| may_stand(*byte)) {
+    if !is_value(value) {
         refuse(
             rt,
             form,
@@ -155,6 +159,13 @@ fn is_taken(rt: &HostRuntime, form: DiagnosticForm, argument: &str) -> bool {
         return false;
     }
     true
+}
+
+// Returns whether each byte is allowed in a value.
+fn is_value(bytes: &[u8]) -> bool
+    ensures { result ≡ list_all is_value_byte bytes.now }
+{
+    bytes.iter().all(|byte| is_value_byte(*byte))
 }
 
 // Prints why an argument of `--set` is invalid.
@@ -179,6 +190,8 @@ fn parted(argument: &[u8]) -> (&[u8], Option<&[u8]>)
 }
 
 // Returns whether a byte is allowed in a value: no quote, backslash or control character.
-fn may_stand(byte: u8) -> bool {
+fn is_value_byte(byte: u8) -> bool
+    ensures { result ≡ is_value_byte byte }
+{
     byte != b'"' && byte != b'\\' && byte >= b' ' && byte != 127
 }

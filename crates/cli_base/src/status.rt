@@ -1,9 +1,10 @@
 //! Exit statuses, and messages for results that can't be written and scenarios that can't be read.
 ghost use Rattle.std.specs.Prelude.{◌≡◌, ◌==◌, if◌then◌else◌, nat_lt, is_err, true, IfErr, IfOk, OnErr, Ok};
 ghost use Rattle.std.specs.Io.KnownBytes.{Appends};
-ghost use Rattle.cli_base.specs.Statuses.{EndsAs, HasWritten, IsZero};
+ghost use Rattle.cli_base.specs.Statuses.{boot_status, EndsAs, HasWritten, IsZero};
 
 use crate::reports::{Spot, report_error, report_write_failure};
+use init_core::BootFault;
 use run_lines::LineRunFault;
 use std::alloc::AllocError;
 use std::io::{ErrorKind, Write};
@@ -28,7 +29,7 @@ pub const UNREAD: u8 = 141;
 /// Returns the exit status after a write: 0, 141 for a closed pipe, or 1 for another failure, which is printed.
 pub fn status_of(rt: &HostRuntime, printed: io::Result<()>) -> u8
     ensures written { HasWritten printed result }
-    ensures ends { EndsAs IsZero result }
+    ensures ends { EndsAs ⊥ IsZero result }
 {
     match printed {
         Ok(()) => 0,
@@ -86,6 +87,16 @@ impl fmt::Display for StopMessage {
     }
 }
 
+/// Returns the exit status of a list that doesn't boot: 1 if the host is out of memory, else 2.
+pub fn boot_status(fault: &BootFault) -> u8
+    ensures { result ≡ boot_status fault.now }
+{
+    match fault {
+        BootFault::NoMemory => UNWRITTEN,
+        _ => REFUSED,
+    }
+}
+
 /// Returns the exit status of a scenario with this number of unread lines: 3 if there are any, else 0.
 pub fn unread_status(lines: usize) -> u8
     ensures { result ≡ (if nat_lt 0 lines then 3 else 0) }
@@ -103,7 +114,7 @@ pub fn status_after(printed: u8, status: u8) -> u8
 /// Prints documents on standard output. Returns the exit status, also if the host is out of memory.
 pub fn print_documents(rt: &HostRuntime, documents: Result<Vec<u8>, AllocError>) -> u8
     ensures failed { OnErr documents (result ≡ 1) }
-    ensures ends { EndsAs IsZero result }
+    ensures ends { EndsAs ⊥ IsZero result }
 {
     print_on(rt, &mut io::writer(rt), documents)
 }
@@ -117,7 +128,7 @@ fn print_on<W: Write>(
     ensures printed { result ≡ 0 → IfOk documents (λ text.
         Appends (W.contents writer.old) (W.contents writer.new) text.items) }
     ensures failed { OnErr documents (result ≡ 1) }
-    ensures ends { EndsAs IsZero result }
+    ensures ends { EndsAs ⊥ IsZero result }
 {
     match documents {
         Ok(text) => status_of(rt, writer.write_all(text.as_slice())),

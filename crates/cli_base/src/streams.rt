@@ -4,26 +4,25 @@ ghost use Rattle.std.specs.Prelude.{◌≡◌, false};
 use cli_engine::Output;
 use run_lines::Sink;
 use std::alloc::Global;
-use std::fs::File;
 use std::io;
 use std::io::{Printer, Read, Stderr, StdinLock, Write};
 use view_colors::{ColorSink, Lines};
 
 /// The source of a scenario's bytes.
 #[derive(Drop)]
-pub enum Origin<'a> {
+pub enum Origin<'a, F> {
     /// Standard input.
     Typed(StdinLock<'a>),
     /// A file.
-    File(File),
+    File(F),
     /// Bytes in memory.
     Held(&'a [u8]),
 }
 
-impl Read for Origin<'_> {
+impl<F: Read> Read for Origin<'_, F> {
     ghost use Rattle.cli_base.specs.Origins.{origin_bytes};
 
-    ghost remaining = { origin_bytes };
+    ghost remaining = { origin_bytes F.remaining };
 
     fn read(&mut self, buffer: &mut [u8]) -> io::Result<usize> {
         match self {

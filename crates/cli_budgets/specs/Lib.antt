@@ -1,1 +1,2 @@
+pub mod BudgetPrinting
 pub mod BudgetStatus

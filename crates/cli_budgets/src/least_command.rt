@@ -1,19 +1,21 @@
 //! The command `least`: the sufficient budgets of a scenario's accounts.
-ghost use Rattle.std.specs.Prelude.{◌≡◌, if◌then◌else◌, length};
+ghost use Rattle.std.specs.Prelude.{◌≡◌, if◌then◌else◌, length, IfOk};
 ghost use Rattle.budget_least.specs.Report.{unmeasured_of};
 ghost use Rattle.budget_search.specs.declared.budget_intervals.BudgetChoice.TheVariants.{Minimum, Safe};
 ghost use Rattle.cli_base.specs.Statuses.{EndsAs, IsZero};
 ghost use Rattle.cli_base.specs.Unfolding.{EndsUnfolded};
-ghost use Rattle.cli_budgets.specs.BudgetStatus.{BudgetsEnd, EndsMeasured, measured_status};
+ghost use Rattle.cli_budgets.specs.BudgetPrinting.{IsReportIn, format_asked};
+ghost use Rattle.cli_budgets.specs.BudgetStatus.{BudgetsEnd, EndsMeasured, LacksReport, measured_status};
 
 use budget_least::{BudgetChoice, BudgetQuery, BudgetReport, UnmeasuredLine};
 use cli_base::{
-    Machine, MachineChoice, Settings, Spot, UNWRITTEN, print_documents, report_boot_fault,
+    Host, Machine, MachineChoice, Settings, Spot, UNWRITTEN, no_memory, report_boot_fault,
     report_error, scenario_text, status_after, status_of, summarize_errors, unfolded,
     unread_status,
 };
 use cli_options::LeastOptions;
 use init_core::BootFault;
+use std::alloc::{AllocError, Global};
 use std::io;
 use std::io::Write;
 use view_budgets::{BudgetCsv, BudgetText, budget_documents};
@@ -35,8 +37,13 @@ enum BudgetFormat {
 }
 
 impl BudgetFormat {
+    ghost use Rattle.std.specs.Prelude.{◌≡◌};
+    ghost use Rattle.cli_budgets.specs.BudgetPrinting.{format_asked};
+
     // Returns the form that the flags of a command line ask for. The first flag that is set decides.
-    fn asked(asked: &LeastOptions<'_>) -> BudgetFormat {
+    fn asked(asked: &LeastOptions<'_>) -> BudgetFormat
+        ensures { result ≡ format_asked asked.now }
+    {
         if asked.csv {
             BudgetFormat::Values
         } else if asked.json {
@@ -64,23 +71,23 @@ fn choice_asked(asked: &LeastOptions<'_>) -> BudgetChoice
 
 /// Prints the sufficient budgets of a scenario's accounts on its machine. Returns the
 /// exit status: 0, 3 if a line isn't measured, 2 if the list is refused.
-pub fn print_minimum_budgets(
-    rt: &HostRuntime,
+pub fn print_minimum_budgets<H: Host>(
+    host: &H,
     asked: &LeastOptions<'_>,
     settings: Settings<'_>,
 ) -> u8
-    ensures { BudgetsEnd asked.now settings.entry result }
+    ensures { BudgetsEnd (H.text_at host.now) asked.now settings.entry result }
 {
-    let list = match MachineChoice::of(rt, settings.form, asked.machine, asked.scenario) {
+    let list = match MachineChoice::of(host, settings.form, asked.machine, asked.scenario) {
         Ok(list) => list,
         Err(status) => return status,
     };
-    let machine = match Machine::read(rt, list.path(), settings) {
+    let machine = match Machine::read(host, list.path(), settings) {
         Ok(machine) => machine,
         Err(status) => return status,
     };
-    match scenario_text(rt, settings.form, asked.scenario) {
-        Ok(scenario) => least_on(rt, &machine, scenario.as_slice(), asked, settings),
+    match scenario_text(host, settings.form, asked.scenario) {
+        Ok(scenario) => least_on(host.rt(), &machine, scenario.as_slice(), asked, settings),
         Err(status) => status,
     }
 }
@@ -93,7 +100,8 @@ fn least_on(
     asked: &LeastOptions<'_>,
     settings: Settings<'_>,
 ) -> u8
-    ensures { EndsAs (EndsUnfolded settings.entry text.now (EndsMeasured machine.now text.now)) result }
+    ensures { EndsAs (LacksReport machine.now)
+        (EndsUnfolded settings.entry text.now (EndsMeasured machine.now text.now)) result }
 {
     let lines = match unfolded(rt, asked.scenario, text, settings) {
         Ok(lines) => lines,
@@ -110,29 +118,33 @@ fn least_on(
         as_donated: asked.as_donated,
     };
     match BudgetReport::of(rt.alloc(), question, start) {
-        Ok(report) => tell_report(rt, machine.text(), text, asked, settings.form, report),
+        Ok(report) => print_report(rt, machine.text(), text, asked, settings.form, &report),
         Err(fault) => report_boot_fault(rt, settings.form, machine, &fault),
     }
 }
 
 // Prints why lines of a scenario's text aren't measured, and then a report. Returns the exit status.
-fn tell_report(
+fn print_report(
     rt: &HostRuntime,
     machine: &[u8],
     text: &[u8],
     asked: &LeastOptions<'_>,
     form: DiagnosticForm,
-    report: BudgetReport<'_>,
+    report: &BudgetReport<'_>,
 ) -> u8
-    ensures { EndsAs (λ status. status ≡ measured_status (length (unmeasured_of report.entry))) result }
+    ensures { EndsAs ⊥ (λ status. status ≡ measured_status (length (unmeasured_of report.now))) result }
 {
-    let status = tell_unmeasured(rt, form, asked.scenario, report.unmeasured());
-    let told = tell(rt, machine, text, BudgetFormat::asked(asked), report);
-    status_after(told, status)
+    let status = report_unmeasured(rt, form, asked.scenario, report.unmeasured());
+    let format = BudgetFormat::asked(asked);
+    let printed = match rendered(rt.alloc(), format, report, machine, text) {
+        Ok(text) => status_of(rt, io::writer(rt).write_all(text.as_slice())),
+        Err(failure) => failure.report(rt),
+    };
+    status_after(printed, status)
 }
 
 // Prints why lines of a scenario aren't measured, and returns the exit status: 3 if there are any, else 0.
-fn tell_unmeasured(
+fn report_unmeasured(
     rt: &HostRuntime,
     form: DiagnosticForm,
     scenario: &str,
@@ -148,46 +160,63 @@ fn tell_unmeasured(
     unread_status(lines.len())
 }
 
-// Prints a report in a form, and returns the exit status.
-fn tell(
-    rt: &HostRuntime,
+// Renders a report in a form: as a text of its own, in a start list of this text, or in a scenario of this text. The error is the
+// reason why that fails.
+fn rendered(
+    alloc: Global,
+    format: BudgetFormat,
+    report: &BudgetReport<'_>,
     machine: &[u8],
     scenario: &[u8],
-    telling: BudgetFormat,
-    report: BudgetReport<'_>,
-) -> u8
-    ensures { EndsAs IsZero result }
+) -> Result<Vec<u8>, RenderFailure>
+    ensures { IfOk result (λ text. IsReportIn format report.now machine.now scenario.now text.items) }
 {
-    match telling {
-        BudgetFormat::Text => {
-            let text = BudgetText::of(&report);
-            status_of(rt, print!(rt; "{text}"))
-        }
-        BudgetFormat::Values => {
-            let values = BudgetCsv::of(&report);
-            status_of(rt, print!(rt; "{values}"))
-        }
-        BudgetFormat::Documents => print_documents(rt, budget_documents(rt.alloc(), &report)),
-        BudgetFormat::List => match report.start_list(rt.alloc(), machine) {
-            Ok(text) => status_of(rt, io::writer(rt).write_all(text.as_slice())),
-            Err(fault) => tell_fault(rt, "the list with these budgets", &fault),
+    match format {
+        BudgetFormat::Text => Ok(BudgetText::of(report).to_string(alloc)?.into_bytes()),
+        BudgetFormat::Values => Ok(BudgetCsv::of(report).to_string(alloc)?.into_bytes()),
+        BudgetFormat::Documents => Ok(budget_documents(alloc, report)?),
+        BudgetFormat::List => match report.start_list(alloc, machine) {
+            Ok(text) => Ok(text),
+            Err(fault) => Err(RenderFailure::List(fault)),
         },
-        BudgetFormat::Scenario => match report.scenario(rt.alloc(), scenario) {
-            Ok(text) => status_of(rt, io::writer(rt).write_all(text.as_slice())),
-            Err(fault) => tell_fault(rt, "run", &fault),
+        BudgetFormat::Scenario => match report.scenario(alloc, scenario) {
+            Ok(text) => Ok(text),
+            Err(fault) => Err(RenderFailure::Scenario(fault)),
         },
     }
 }
 
-// Prints a fault of what has this name, and returns the exit status.
-fn tell_fault(rt: &HostRuntime, name: &str, fault: &BootFault) -> u8
-    ensures { result ≡ 1 }
-{
-    report_error(
-        rt,
-        DiagnosticForm::Text,
-        Spot::nowhere(),
-        &format_args!("{name}: {fault}"),
-    );
-    UNWRITTEN
+// The reason why a report isn't rendered.
+#[derive(Drop)]
+enum RenderFailure {
+    /// The host is out of memory.
+    NoMemory,
+    /// The start list with its budgets has a fault.
+    List(BootFault),
+    /// The scenario with its donations can't be written.
+    Scenario(BootFault),
+}
+
+impl From<AllocError> for RenderFailure {
+    fn from(_fault: AllocError) -> RenderFailure {
+        RenderFailure::NoMemory
+    }
+}
+
+impl RenderFailure {
+    ghost use Rattle.std.specs.Prelude.{◌≡◌};
+
+    // Prints the reason, and returns the exit status 1.
+    fn report(&self, rt: &HostRuntime) -> u8
+        ensures { result ≡ 1 }
+    {
+        let (name, fault) = match self {
+            RenderFailure::NoMemory => return no_memory(rt),
+            RenderFailure::List(fault) => ("the list with these budgets", fault),
+            RenderFailure::Scenario(fault) => ("run", fault),
+        };
+        let form = DiagnosticForm::Text;
+        report_error(rt, form, Spot::nowhere(), &format_args!("{name}: {fault}"));
+        UNWRITTEN
+    }
 }

@@ -1,6 +1,6 @@
 //! The command `least` of `nethrywel`: the budgets that suffice for a scenario are computed and printed.
 //!
-//! `nethrywel` calls `print_minimum_budgets(rt, asked, settings)` with what the command line says, and ends with the exit status that
+//! `nethrywel` calls `print_minimum_budgets(host, asked, settings)` with what the command line says, and ends with the exit status that
 //! this returns.
 #![tactic(auto)]
 

@@ -1,2 +1,5 @@
-mod CheckLemmas
+mod ChangeLemmas
 pub mod ComparisonLemmas
+mod DocumentLemmas
+mod PathLemmas
+mod ReviewLemmas

@@ -24,10 +24,10 @@ use Rattle.list_review.specs.declared.review.Review.{Review}
 use Rattle.view_json.specs.Listings.{Extends}
 use Rattle.cli_options.specs.declared.command_options.CheckOptions.{CheckOptions}
 use Rattle.cli_base.specs.ListFaults.{message_at}
-use Rattle.cli_base.specs.PolicyVerdict.{note_message}
+use Rattle.cli_base.specs.PolicyVerdict.{IsVerdictAt, note_message}
 use Rattle.cli_base.specs.declared.policy_verdict.PolicyVerdict.{PolicyVerdict}
 use Rattle.cli_base.specs.declared.policy_verdict.PolicyVerdict.TheVariants.{Held, Faulty, ReadFailure}
-use Rattle.cli_lists.specs.ListStatus.{IsReviewOf, IsVerdictOn, is_refused}
+use Rattle.cli_lists.specs.ListStatus.{IsReviewOf, is_refused}
 
 -- the kind of an object, and the file that it is about
 abbrev pub about : List ℕ → List ℕ → List Member
@@ -74,21 +74,21 @@ verdict_objects path (Held broken) = map (λ note. note_object (codes "breach") 
 verdict_objects path (Faulty faults) = map (λ note. note_object (codes "fault") path (note_message note)) faults.items
 verdict_objects path (ReadFailure why) = file_object (codes "fault") path (string_bytes why) ∷ []
 
--- a policy's objects are those of its verdict on the list
-abbrev pub AreOfPolicy : Option (Bor (List ℕ)) → Listed → List (List Member) → Type 0
-AreOfPolicy None list objects = objects ≡ []
-AreOfPolicy (Some policy) list objects =
-    (verdict : PolicyVerdict) × IsVerdictOn list verdict × (objects ≡ verdict_objects policy.now verdict)
+-- a policy's objects are those of the verdict on the list by the policy at its path
+abbrev pub AreOfPolicy : (List ℕ → Option (List ℕ)) → Option (Bor (List ℕ)) → Listed → List (List Member) → Type 0
+AreOfPolicy texts None list objects = objects ≡ []
+AreOfPolicy texts (Some policy) list objects =
+    (verdict : PolicyVerdict) × IsVerdictAt texts policy.now list verdict × (objects ≡ verdict_objects policy.now verdict)
 
 -- and none if the findings refuse the list
-abbrev pub AreJudged : Bool → Option (Bor (List ℕ)) → Listed → List (List Member) → Type 0
-AreJudged true policy list objects = objects ≡ []
-AreJudged false policy list objects = AreOfPolicy policy list objects
+abbrev pub AreJudged : (List ℕ → Option (List ℕ)) → Bool → Option (Bor (List ℕ)) → Listed → List (List Member) → Type 0
+AreJudged texts true policy list objects = objects ≡ []
+AreJudged texts false policy list objects = AreOfPolicy texts policy list objects
 
 -- the objects of a review are listed, and then those of the policy
-abbrev pub ListsReview : CheckOptions → Review → Listing → Listing → Type 0
-ListsReview asked review old new =
-    (more : List (List Member)) × AreJudged (is_refused asked.strict review) asked.policy review.list more
+abbrev pub ListsReview : (List ℕ → Option (List ℕ)) → CheckOptions → Review → Listing → Listing → Type 0
+ListsReview texts asked review old new =
+    (more : List (List Member)) × AreJudged texts (is_refused asked.strict review) asked.policy review.list more
     × Extends old new (review_objects asked.list.now review ++ more)
 
 -- ---- a fault
@@ -134,7 +134,7 @@ ListsFault name path fault old new =
 -- ---- a check
 
 -- the objects of the review of a text are listed, or that of its fault
-abbrev pub ListsCheck : (BootFault → Option (List ℕ)) → CheckOptions → List ℕ → Listing → Listing → Type 0
-ListsCheck name asked text old new =
-    ((review : Review) × IsReviewOf text review × ListsReview asked review old new)
+abbrev pub ListsCheck : (BootFault → Option (List ℕ)) → (List ℕ → Option (List ℕ)) → CheckOptions → List ℕ → Listing → Listing → Type 0
+ListsCheck name texts asked text old new =
+    ((review : Review) × IsReviewOf text review × ListsReview texts asked review old new)
     ⊎ ((fault : ListFault) × (fault.fault ≢ NoMemory → fault_of text ≡ Some fault.fault) × ListsFault name asked.list.now fault old new)

@@ -1,19 +1,17 @@
 -- The comparison of two start lists, and the exit status by it.
-use Rattle.std.specs.Prelude.{◌≡◌, ◌⊎◌, ℕ, not, Bool, List, [], map, if◌then◌else◌, Option, Some, None, Result, Ok, Err, All}
+use Rattle.std.specs.Prelude.{◌≡◌, ◌≢◌, ◌⊎◌, ℕ, not, Bool, List, [], map, if◌then◌else◌, Option, Some, None, MatchOption, Result, Ok, Err, All}
+use Rattle.std.specs.Borrow.{Bor}
+use Rattle.std.specs.Option.{option_copied}
 use Rattle.std.specs.declared.io.Error.{Error}
-use Rattle.cli_base.specs.Statuses.{HasWritten}
-use Rattle.cli_lists.specs.declared.diff_text.DiffText.{DiffText}
+use Rattle.line_rounds.specs.Unfolding.{UnfoldedText}
 use Rattle.list_diff.specs.Breaches.{breach_changes, change_at}
 use Rattle.list_diff.specs.PlacedBreaches.{ArePlaced, BreachAt}
 use Rattle.list_diff.specs.Changes.{changes_of}
 use Rattle.list_diff.specs.Differences.{nothing_differs}
-use Rattle.list_diff.specs.Needs.{shortfalls}
+use Rattle.list_diff.specs.LineResults.{LineCall}
 use Rattle.list_diff.specs.Reaches.{AreReachChanges}
-use Rattle.list_diff.specs.Replies.{AreChanges}
 use Rattle.list_diff.specs.declared.policy_breaches.BreachChange.{BreachChange}
 use Rattle.list_diff.specs.declared.differences.ListDifferences.{ListDifferences}
-use Rattle.list_diff.specs.declared.line_outcomes.LineResult.{LineResult}
-use Rattle.list_diff.specs.declared.need_changes.ComponentNeed.{ComponentNeed}
 use Rattle.list_diff.specs.declared.need_changes.NeedChange.{NeedChange}
 use Rattle.list_diff.specs.declared.reach_changes.ReachChange.{ReachChange}
 use Rattle.list_diff.specs.declared.reach_changes.ReachSide.{ReachSide}
@@ -22,7 +20,16 @@ use Rattle.list_policy.specs.Reading.{faults_from, lines_from}
 use Rattle.list_reach.specs.Paths.{is_chosen, pieces}
 use Rattle.list_reach.specs.Rows.{row_of, rows}
 use Rattle.list_reach.specs.Table.{IsTrue}
+use Rattle.list_review.specs.declared.review.Review.{Review}
 use Rattle.own_model.specs.Listed.{Listed}
+use Rattle.cli_options.specs.declared.command_options.DiffOptions.{DiffOptions}
+use Rattle.cli_base.specs.Files.{HasNoBoot, IsTextAt}
+use Rattle.cli_base.specs.PolicyVerdict.{HasNoPolicy}
+use Rattle.cli_base.specs.Statuses.{HasNoResult, HasWritten}
+use Rattle.cli_base.specs.declared.settings.Settings.{Settings}
+use Rattle.cli_lists.specs.ComparedRuns.{AreLinesAt, AreReplyChanges, AreShortfalls, HasFaultIn, LacksScenario, answers_on, path_after, results_by}
+use Rattle.cli_lists.specs.ListStatus.{IsReviewAt}
+use Rattle.cli_lists.specs.declared.diff_text.DiffText.{DiffText}
 
 -- ---- entries and reachability
 
@@ -70,7 +77,7 @@ abbrev pub IsTextOf : ListDifferences → DiffText → Type 0
 IsTextOf so_far text =
     Differ so_far.before.now so_far.after.now so_far.breaches.now so_far.lacks.now so_far.replies.now text.is_changed
 
--- ---- a policy and scenarios
+-- ---- a policy
 
 -- the breaches of a policy's text by two lists; the text has no fault for the list after
 pub record AreBreachesOf (text : List ℕ) (before after : Listed) (olds news : List BreachAt) : Type 0 where
@@ -79,47 +86,78 @@ pub record AreBreachesOf (text : List ℕ) (before after : Listed) (olds news : 
   pub news_are : ArePlaced after (lines_from after 1 (pieces 10 text)) news
 
 -- without a policy there is no breach
-abbrev pub AreBreachesBy : Option (List ℕ) → Listed → Listed → List BreachAt → List BreachAt → Type 0
-AreBreachesBy None before after olds news = (olds ≡ []) × (news ≡ [])
-AreBreachesBy (Some policy) before after olds news = (text : List ℕ) × AreBreachesOf text before after olds news
+abbrev pub AreBreachesBy : (List ℕ → Option (List ℕ)) → Option (List ℕ) → Listed → Listed → List BreachAt → List BreachAt → Type 0
+AreBreachesBy texts None before after olds news = (olds ≡ []) × (news ≡ [])
+AreBreachesBy texts (Some policy) before after olds news =
+    (text : List ℕ) × IsTextAt texts policy text × AreBreachesOf text before after olds news
 
 -- breaches are those that one list alone has
-abbrev pub AreNewBreaches : Option (List ℕ) → Listed → Listed → List BreachChange → Type 0
-AreNewBreaches policy before after breaches =
-    (olds : List BreachAt) × (news : List BreachAt) × AreBreachesBy policy before after olds news
+abbrev pub AreNewBreaches : (List ℕ → Option (List ℕ)) → Option (List ℕ) → Listed → Listed → List BreachChange → Type 0
+AreNewBreaches texts policy before after breaches =
+    (olds : List BreachAt) × (news : List BreachAt) × AreBreachesBy texts policy before after olds news
     × (map change_at breaches ≡ breach_changes olds news)
 
--- needs that aren't covered any more, by the needs on both lists
-abbrev pub AreShortfalls : List NeedChange → Type 0
-AreShortfalls lacks = (had : List ComponentNeed) × (has : List ComponentNeed) × (lacks ≡ shortfalls had has)
+-- a line of a policy's text has a fault for the list after
+abbrev pub HasPolicyFault : List ℕ → Listed → Type 0
+HasPolicyFault text after = faults_from after 1 (pieces 10 text) ≢ []
 
--- replies that differ, by the results of the lines on both lists
-abbrev pub AreReplyChanges : List ReplyChange → Type 0
-AreReplyChanges replies = (was : List LineResult) × (now : List LineResult) × AreChanges was now replies
+-- a policy is refused: the file at its path is none, or its text has a fault
+abbrev pub RefusesPolicy : (List ℕ → Option (List ℕ)) → Option (List ℕ) → Listed → Type 0
+RefusesPolicy texts None after = ⊥
+RefusesPolicy texts (Some policy) after =
+    HasNoPolicy texts policy ⊎ ((text : List ℕ) × IsTextAt texts policy text × HasPolicyFault text after)
 
--- without a scenario there are neither
-abbrev pub AreRunChanges : Option (List ℕ) → List NeedChange → List ReplyChange → Type 0
-AreRunChanges None lacks replies = (lacks ≡ []) × (replies ≡ [])
-AreRunChanges (Some scenario) lacks replies = AreShortfalls lacks × AreReplyChanges replies
+-- ---- scenarios
 
 -- two lists differ, or their breaches or replies do, or their needs for a scenario
 abbrev pub NeedsDiffer : Listed → Listed → List BreachChange → List ReplyChange → Bool → Type 0
-NeedsDiffer before after breaches replies changed = (lacks : List NeedChange) × AreShortfalls lacks × Differ before after breaches lacks replies changed
+NeedsDiffer before after breaches replies changed =
+    (lacks : List NeedChange) × AreShortfalls before after lacks × Differ before after breaches lacks replies changed
 
--- two lists differ, or their breaches do, or the runs of a scenario
-pub record RunsDiffer (scenario : Option (List ℕ)) (before after : Listed) (breaches : List BreachChange) (changed : Bool) : Type 0 where
-  pub lacks : List NeedChange
-  pub replies : List ReplyChange
-  pub are : AreRunChanges scenario lacks replies
-  pub differ : Differ before after breaches lacks replies changed
+-- two lists differ, or their breaches or needs do, or what came of lines
+abbrev pub ResultsDiffer : Listed → Listed → List LineCall → List LineCall → List BreachChange → Bool → Type 0
+ResultsDiffer before after olds news breaches changed =
+    (replies : List ReplyChange) × AreReplyChanges olds news replies × NeedsDiffer before after breaches replies changed
 
--- two lists differ, or their breaches of a policy do, or the runs of a scenario
-pub record ListsDiffer (policy scenario : Option (List ℕ)) (changed : Bool) : Type 0 where
-  pub before : Listed
-  pub after : Listed
-  pub breaches : List BreachChange
-  pub are : AreNewBreaches policy before after breaches
-  pub differ : RunsDiffer scenario before after breaches changed
+-- what came of the lines of a scenario in its run on a list
+abbrev pub results_on : Settings → Listed → UnfoldedText → List LineCall
+results_on settings list lines = results_by settings lines (answers_on settings list lines)
+
+-- two lists differ, or their breaches do, or the runs of lines on them
+abbrev pub LinesDiffer : Settings → Listed → UnfoldedText → Listed → UnfoldedText → List BreachChange → Bool → Type 0
+LinesDiffer settings before was after now breaches changed =
+    ResultsDiffer before after (results_on settings before was) (results_on settings after now) breaches changed
+
+-- or the runs of the scenarios at two paths
+abbrev pub ScenariosDiffer : (List ℕ → Option (List ℕ)) → Settings → List ℕ → List ℕ → Listed → Listed → List BreachChange → Bool → Type 0
+ScenariosDiffer texts settings old new before after breaches changed =
+    (was : UnfoldedText) × (now : UnfoldedText) × AreLinesAt texts settings old was × AreLinesAt texts settings new now
+    × LinesDiffer settings before was after now breaches changed
+
+-- without a scenario there are neither needs nor replies
+abbrev pub RunsDiffer : (List ℕ → Option (List ℕ)) → DiffOptions → Settings → Option (Bor (List ℕ)) → Listed → Listed → List BreachChange
+    → Bool → Type 0
+RunsDiffer texts asked settings None before after breaches changed = Differ before after breaches [] [] changed
+RunsDiffer texts asked settings (Some scenario) before after breaches changed =
+    ScenariosDiffer texts settings scenario.now (path_after asked.scenario_after scenario.now) before after breaches changed
+
+-- ---- all that is compared
+
+-- two lists differ, or their breaches of the policy do, or the runs of the scenarios
+abbrev pub PairDiffers : (List ℕ → Option (List ℕ)) → DiffOptions → Settings → Listed → Listed → Bool → Type 0
+PairDiffers texts asked settings before after changed =
+    (breaches : List BreachChange) × AreNewBreaches texts (option_copied asked.policy) before after breaches
+    × RunsDiffer texts asked settings asked.scenario before after breaches changed
+
+-- a list and that of the file at the path after
+abbrev pub AfterDiffers : (List ℕ → Option (List ℕ)) → DiffOptions → Settings → Listed → Bool → Type 0
+AfterDiffers texts asked settings before changed =
+    (after : Review) × IsReviewAt texts settings asked.after.now after × PairDiffers texts asked settings before after.list changed
+
+-- the lists of the files at both paths
+abbrev pub ListsDiffer : (List ℕ → Option (List ℕ)) → DiffOptions → Settings → Bool → Type 0
+ListsDiffer texts asked settings changed =
+    (before : Review) × IsReviewAt texts settings asked.before.now before × AfterDiffers texts asked settings before.list changed
 
 -- ---- the exit status
 
@@ -127,16 +165,42 @@ pub record ListsDiffer (policy scenario : Option (List ℕ)) (changed : Bool) : 
 abbrev pub diff_status : Bool → ℕ
 diff_status changed = if changed then 4 else 0
 
--- the exit status without a result: the host is out of memory or a write failed, a file is refused, rounds have a fault, nobody reads
--- the result
-abbrev pub HasStopped : ℕ → Type 0
-HasStopped status = (status ≡ 1) ⊎ ((status ≡ 2) ⊎ ((status ≡ 3) ⊎ (status ≡ 141)))
-
 -- after a write, whose failure has its own
 abbrev pub EndsWith : {T : Type 0} → Result T Error → Bool → ℕ → Type 0
 EndsWith (Ok done) changed status = status ≡ diff_status changed
 EndsWith {T} (Err error) changed status = HasWritten {T = T} (Err error) status
 
+-- the status says whether something differs
+abbrev pub EndsChanged : (Bool → Type 0) → ℕ → Type 0
+EndsChanged differ status = (changed : Bool) × differ changed × (status ≡ diff_status changed)
+
+-- the exit status without a result: the host fails, what is asked for or read is refused (2), or rounds have a fault (3)
+abbrev pub HasStopped : Type 0 → Type 0 → ℕ → Type 0
+HasStopped Refused Faulty status = HasNoResult Refused status ⊎ ((status ≡ 3) × Faulty)
+
 -- the status says whether something differs, unless there is no result
-abbrev pub EndsBy : (Bool → Type 0) → ℕ → Type 0
-EndsBy differ status = HasStopped status ⊎ ((changed : Bool) × differ changed × (status ≡ diff_status changed))
+abbrev pub EndsBy : Type 0 → Type 0 → (Bool → Type 0) → ℕ → Type 0
+EndsBy Refused Faulty differ status = HasStopped Refused Faulty status ⊎ EndsChanged differ status
+
+-- both scenarios, if there is one
+abbrev pub OfScenarios : (List ℕ → List ℕ → Type 0) → DiffOptions → Type 0
+OfScenarios Holds asked =
+    MatchOption asked.scenario ⊥ (λ scenario. Holds scenario.now (path_after asked.scenario_after scenario.now))
+
+-- two lists are refused: the policy is refused for the list after, or a scenario isn't known
+abbrev pub PairRefused : (List ℕ → Option (List ℕ)) → DiffOptions → Listed → Type 0
+PairRefused texts asked after = RefusesPolicy texts (option_copied asked.policy) after ⊎ OfScenarios (LacksScenario texts) asked
+
+-- the list after doesn't boot; or it does, and both are refused
+abbrev pub AfterRefused : (List ℕ → Option (List ℕ)) → DiffOptions → Settings → Type 0
+AfterRefused texts asked settings =
+    HasNoBoot texts settings asked.after.now
+    ⊎ ((after : Review) × IsReviewAt texts settings asked.after.now after × PairRefused texts asked after.list)
+
+-- or the list before doesn't
+abbrev pub DiffRefused : (List ℕ → Option (List ℕ)) → DiffOptions → Settings → Type 0
+DiffRefused texts asked settings = HasNoBoot texts settings asked.before.now ⊎ AfterRefused texts asked settings
+
+abbrev pub DiffEnds : (List ℕ → Option (List ℕ)) → DiffOptions → Settings → ℕ → Type 0
+DiffEnds texts asked settings status =
+    EndsBy (DiffRefused texts asked settings) (OfScenarios (HasFaultIn texts settings) asked) (ListsDiffer texts asked settings) status

@@ -1,4 +1,5 @@
 pub mod CheckDocuments
+pub mod ComparedRuns
 pub mod Comparison
 pub mod Findings
 pub mod ListStatus

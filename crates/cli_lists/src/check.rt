@@ -1,48 +1,61 @@
 //! The command `check`: findings of a start list, and its breaches of a policy.
-ghost use Rattle.std.specs.Prelude.{◌≡◌, ◌&&◌, false, nat_lt, IfOk, Some};
+ghost use Rattle.std.specs.Prelude.{◌≡◌, ◌&&◌, nat_lt, Some};
 ghost use Rattle.cli_base.specs.PolicyVerdict.{verdict_status};
-ghost use Rattle.cli_base.specs.Statuses.{EndsAs, IsZero};
+ghost use Rattle.cli_base.specs.Statuses.{EndsAs};
 ghost use Rattle.cli_lists.specs.Findings.{finding_message};
-ghost use Rattle.cli_lists.specs.ListStatus.{CheckEnds, EndsReviewed, EndsVerdict, IsReview, is_refused};
+ghost use Rattle.cli_lists.specs.ListStatus.{CheckEnds, EndsReviewed, EndsVerdict};
 
 use crate::check_documents::check_documents;
 use crate::review::review;
 use cli_base::{
-    PolicyDiagnostic, PolicyVerdict, REFUSED, Settings, Spot, check_policy, no_memory, report,
-    report_error, status_of, summarize,
+    Host, PolicyDiagnostic, PolicyVerdict, REFUSED, Settings, Spot, check_policy, no_memory,
+    report, report_error, status_of, summarize, summarize_errors,
 };
 use cli_options::CheckOptions;
 use list_review::{Finding, ListPart, Review};
+use std::alloc::AllocError;
 use std::fmt;
 use view_diagnostics::{Counts, DiagnosticForm, Severity};
 
 /// Checks a start list, also against a policy if one is named, and prints what is found. Returns the exit status: 0, 2 if the
 /// list or the policy is refused, 3 if the list breaks the policy.
-pub fn check_list(rt: &HostRuntime, asked: &CheckOptions<'_>, settings: Settings<'_>) -> u8
-    ensures { CheckEnds asked.now result }
+pub fn check_list<H: Host>(host: &H, asked: &CheckOptions<'_>, settings: Settings<'_>) -> u8
+    ensures { CheckEnds (H.text_at host.now) asked.now settings.entry result }
 {
     if asked.json {
-        return check_documents(rt, asked, settings);
+        return check_documents(host, asked, settings);
     }
-    match asked.policy {
-        Some(policy) => hold(rt, asked, settings, policy),
-        None => check(rt, asked.list, settings, asked.strict),
+    match review(host, asked.list, settings) {
+        Ok(review) => check_review(host, asked, settings.form, &review),
+        Err(status) => {
+            summarize_errors(host.rt(), settings.form, 1);
+            status
+        }
     }
 }
 
-// Prints the findings of a start list on standard error, and `ok` if nothing counts. Findings count in a strict check, and advice
-// never does. Returns the exit status.
-fn check(rt: &HostRuntime, path: &str, settings: Settings<'_>, strict: bool) -> u8
-    ensures { EndsAs (EndsReviewed strict (λ _. IsZero)) result }
+// Prints the findings and the advice of a start list on standard error. If findings count, the list is refused; they count in a
+// strict check, and advice never does. Else checks the list against the policy, if there is one. Prints `ok` if nothing is broken.
+// Returns the exit status.
+fn check_review<H: Host>(
+    host: &H,
+    asked: &CheckOptions<'_>,
+    form: DiagnosticForm,
+    review: &Review,
+) -> u8
+    ensures { EndsReviewed (H.text_at host.now) asked.now review.now result }
 {
-    match checked(rt, path, settings, strict) {
-        Ok(review) => {
-            summarize(rt, settings.form, counts_of(&review, 0));
+    let rt = host.rt();
+    report_review(rt, form, asked.list, review);
+    if is_refused(asked.strict, review.findings().len()) {
+        summarize(rt, form, counts_of(review, 0));
+        return REFUSED;
+    }
+    match asked.policy {
+        Some(policy) => check_kept(host, form, review, policy),
+        None => {
+            summarize(rt, form, counts_of(review, 0));
             status_of(rt, println!(rt; "ok"))
-        }
-        Err(counts) => {
-            summarize(rt, settings.form, counts);
-            REFUSED
         }
     }
 }
@@ -55,31 +68,6 @@ fn counts_of(review: &Review, errors: usize) -> Counts {
     }
 }
 
-// Prints the findings and the advice of a start list, and returns its review. If the list has a fault, or findings that count,
-// returns the number of errors and warnings that were printed.
-fn checked(
-    rt: &HostRuntime,
-    path: &str,
-    settings: Settings<'_>,
-    strict: bool,
-) -> Result<Review, Counts>
-    ensures reviewed { IfOk result IsReview }
-    ensures kept { IfOk result (λ review. is_refused strict review ≡ false) }
-{
-    let Some(review) = review(rt, path, settings) else {
-        return Err(Counts {
-            errors: 1,
-            warnings: 0,
-        });
-    };
-    tell_review(rt, settings.form, path, &review);
-    if is_refused(strict, review.findings().len()) {
-        Err(counts_of(&review, 0))
-    } else {
-        Ok(review)
-    }
-}
-
 /// Returns whether a list with so many findings is refused: only by a strict check.
 pub(crate) fn is_refused(strict: bool, findings: usize) -> bool
     ensures { result ≡ (strict && nat_lt 0 findings) }
@@ -88,7 +76,7 @@ pub(crate) fn is_refused(strict: bool, findings: usize) -> bool
 }
 
 // Prints the findings and the advice of a start list.
-fn tell_review(rt: &HostRuntime, form: DiagnosticForm, path: &str, review: &Review) {
+fn report_review(rt: &HostRuntime, form: DiagnosticForm, path: &str, review: &Review) {
     for finding in review.findings() {
         let spot = spot_of(path, &finding.part);
         report(rt, form, Severity::Warning, spot, &FindingMessage(finding));
@@ -98,39 +86,33 @@ fn tell_review(rt: &HostRuntime, form: DiagnosticForm, path: &str, review: &Revi
     }
 }
 
-// Prints the findings of a start list, as `check` does, and then each line of a policy that the list breaks. Prints `ok` if no
-// line is broken. Returns the exit status.
-fn hold(rt: &HostRuntime, asked: &CheckOptions<'_>, settings: Settings<'_>, path: &str) -> u8
-    ensures { EndsAs (EndsReviewed asked.now.strict EndsVerdict) result }
+// Checks a reviewed list against the policy of a path. Prints the policy's faults, or each of its lines that the list breaks, and
+// `ok` if there are none. Returns the exit status.
+fn check_kept<H: Host>(host: &H, form: DiagnosticForm, review: &Review, path: &str) -> u8
+    ensures { EndsAs ⊥ (EndsVerdict (H.text_at host.now) path.now review.now.list) result }
 {
-    let review = match checked(rt, asked.list, settings, asked.strict) {
-        Ok(review) => review,
-        Err(counts) => {
-            summarize(rt, settings.form, counts);
-            return REFUSED;
+    let rt = host.rt();
+    match check_policy(host, review.list(), path) {
+        Ok(verdict) => {
+            let errors = report_verdict(rt, form, path, &verdict);
+            summarize(rt, form, counts_of(review, errors));
+            print_ok(rt, &verdict)
         }
-    };
-    match check_policy(rt, review.list(), path) {
-        Ok(standing) => {
-            let errors = tell_errors(rt, settings.form, path, &standing);
-            summarize(rt, settings.form, counts_of(&review, errors));
-            status(rt, &standing)
-        }
-        Err(_) => no_memory(rt),
+        Err(AllocError) => no_memory(rt),
     }
 }
 
 // Prints the faults of a policy, or its broken lines. Returns the number of errors.
-fn tell_errors(
+fn report_verdict(
     rt: &HostRuntime,
     form: DiagnosticForm,
     path: &str,
-    standing: &PolicyVerdict,
+    verdict: &PolicyVerdict,
 ) -> usize {
-    match standing {
+    match verdict {
         PolicyVerdict::Held(notes) | PolicyVerdict::Faulty(notes) => {
-            for noted in notes.as_slice() {
-                tell_noted(rt, form, path, noted);
+            for note in notes.as_slice() {
+                report_note(rt, form, path, note);
             }
             notes.len()
         }
@@ -142,18 +124,18 @@ fn tell_errors(
 }
 
 // Prints `ok` if a policy is kept, and returns the exit status.
-fn status(rt: &HostRuntime, standing: &PolicyVerdict) -> u8
-    ensures { EndsAs (λ status. status ≡ verdict_status standing.now) result }
+fn print_ok(rt: &HostRuntime, verdict: &PolicyVerdict) -> u8
+    ensures { EndsAs ⊥ (λ status. status ≡ verdict_status verdict.now) result }
 {
-    match standing.exit_status() {
+    match verdict.exit_status() {
         0 => status_of(rt, println!(rt; "ok")),
         status => status,
     }
 }
 
 // Prints the diagnostic of a policy's line.
-fn tell_noted(rt: &HostRuntime, form: DiagnosticForm, path: &str, noted: &PolicyDiagnostic) {
-    report_error(rt, form, noted.spot(path), &noted.text);
+fn report_note(rt: &HostRuntime, form: DiagnosticForm, path: &str, note: &PolicyDiagnostic) {
+    report_error(rt, form, note.spot(path), &note.text);
 }
 
 // Returns the place of a part of a start list.

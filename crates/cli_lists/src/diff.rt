@@ -1,51 +1,91 @@
 //! The command `diff`: differences between two start lists.
-ghost use Rattle.std.specs.Prelude.{◌≡◌, Some, IfErr, IfOk};
-ghost use Rattle.std.specs.Option.{option_copied};
-ghost use Rattle.cli_lists.specs.Comparison.{AreReplyChanges, EndsBy, HasStopped, ListsDiffer, NeedsDiffer, RunsDiffer};
+ghost use Rattle.std.specs.Prelude.{◌≡◌, IfErr, IfOk};
+ghost use Rattle.line_rounds.specs.Unfolding.{UnfoldedText};
+ghost use Rattle.line_rounds.specs.Views.{whole_view};
+ghost use Rattle.cli_base.specs.Files.{IsUnknown};
+ghost use Rattle.cli_base.specs.Statuses.{EndsAs};
+ghost use Rattle.cli_lists.specs.ComparedRuns.{AreLinesAt, HasFaultAt, HasFaultIn, LacksScenario, path_after, results_by};
+ghost use Rattle.cli_lists.specs.Comparison.{AfterDiffers, AfterRefused, DiffEnds, EndsBy, EndsChanged, HasStopped, LinesDiffer, NeedsDiffer, OfScenarios, PairDiffers, PairRefused, ResultsDiffer, RunsDiffer, ScenariosDiffer};
 
-use crate::diff_files::{ListFile, ListPair, scenario_file};
+use crate::diff_files::{JudgedPair, ListFile, ListPair, scenario_file};
 use crate::diff_policy::PolicyBreaches;
 use crate::diff_runs::{RunInput, RunPair, answers_on, needs, results_on};
 use crate::diff_text::print_differences;
 use crate::review::review;
-use cli_base::{REFUSED, Settings, made_or_status, unfolded};
+use cli_base::{Host, Settings, made_or_status, unfolded};
 use cli_options::DiffOptions;
 use init_core::StartList;
-use list_diff::{BreachChange, ReplyChange, changed_replies, lacks};
+use list_diff::{ReplyChange, changed_replies, lacks};
 use run_exchanges::Exchange;
 
 /// Prints the differences between two start lists, also the breaches of a policy that one list alone has and the replies to a
 /// scenario that differ, as lines or documents of JSON. Returns the exit status: 0 if nothing differs and 4 if something does; 2 if a
-/// list, the policy or a scenario is refused; 3 if a scenario's rounds have a fault; 1 or 141 if the host is out of memory or a
-/// result can't be written.
-pub fn compare_lists(rt: &HostRuntime, asked: &DiffOptions<'_>, settings: Settings<'_>) -> u8
-    ensures { EndsBy (ListsDiffer (option_copied asked.now.policy)
-        (option_copied asked.now.scenario)) result }
+/// list, the policy or a scenario is refused; 3 if a scenario's rounds have a fault; 1 or 141 if the host is out of memory, or if a
+/// run or a result fails.
+pub fn compare_lists<H: Host>(host: &H, asked: &DiffOptions<'_>, settings: Settings<'_>) -> u8
+    ensures { DiffEnds (H.text_at host.now) asked.now settings.entry result }
 {
-    let before = review(rt, asked.before, settings);
-    let after = review(rt, asked.after, settings);
-    let (Some(before), Some(after)) = (before, after) else {
-        return REFUSED;
-    };
-    match compare(rt, asked, before.list(), after.list(), settings) {
+    match review(host, asked.before, settings) {
+        Ok(before) => compare_before(host, asked, before.list(), settings),
+        Err(status) => {
+            // The faults of the list after are printed too.
+            let _ = review(host, asked.after, settings);
+            status
+        }
+    }
+}
+
+// Compares a list with the list after, and returns the exit status.
+fn compare_before<'a, H: Host>(
+    host: &'a H,
+    asked: &DiffOptions<'a>,
+    before: &'a StartList,
+    settings: Settings<'_>,
+) -> u8
+    ensures { EndsBy (AfterRefused (H.text_at host.now) asked.now settings.entry)
+        (OfScenarios (HasFaultIn (H.text_at host.now) settings.entry) asked.now)
+        (AfterDiffers (H.text_at host.now) asked.now settings.entry before.now) result }
+{
+    match review(host, asked.after, settings) {
+        Ok(after) => compare_both(host, asked, before, after.list(), settings),
+        Err(status) => status,
+    }
+}
+
+// Compares two lists, and returns the exit status.
+fn compare_both<'a, H: Host>(
+    host: &'a H,
+    asked: &DiffOptions<'a>,
+    before: &'a StartList,
+    after: &'a StartList,
+    settings: Settings<'_>,
+) -> u8
+    ensures { EndsBy (PairRefused (H.text_at host.now) asked.now after.now)
+        (OfScenarios (HasFaultIn (H.text_at host.now) settings.entry) asked.now)
+        (PairDiffers (H.text_at host.now) asked.now settings.entry before.now after.now) result }
+{
+    match compare(host, asked, before, after, settings) {
         Ok(status) => status,
         Err(status) => status,
     }
 }
 
-// Compares two lists, with the breaches of a policy if one is named. The error is the exit status of a refused policy, or of a
-// scenario that isn't run.
-fn compare<'a>(
-    rt: &HostRuntime,
+// Compares two lists, with the breaches of a policy if one is named. The error is the exit status of a refused policy,
+// or of a scenario that isn't run.
+fn compare<'a, H: Host>(
+    host: &'a H,
     asked: &DiffOptions<'a>,
     before: &'a StartList,
     after: &'a StartList,
     settings: Settings<'_>,
 ) -> Result<u8, u8>
-    ensures ended { IfOk result
-        (EndsBy (ListsDiffer (option_copied asked.now.policy) (option_copied asked.now.scenario))) }
-    ensures stopped { IfErr result HasStopped }
+    ensures ended { IfOk result (EndsAs ⊥ (EndsChanged
+        (PairDiffers (H.text_at host.now) asked.now settings.entry before.now after.now))) }
+    ensures stopped { IfErr result (HasStopped
+        (PairRefused (H.text_at host.now) asked.now after.now)
+        (OfScenarios (HasFaultIn (H.text_at host.now) settings.entry) asked.now)) }
 {
+    let rt = host.rt();
     let lists = ListPair {
         before: ListFile {
             path: asked.before,
@@ -56,75 +96,100 @@ fn compare<'a>(
             list: after,
         },
     };
-    let breaches = PolicyBreaches::of(rt, lists, asked.policy, settings.form)?;
+    let breaches = PolicyBreaches::of(host, lists, asked.policy, settings.form)?;
     let changes = made_or_status(rt, breaches.changes(rt.alloc()))?;
-    compare_scenario(rt, asked, lists, changes.as_slice(), settings)
+    let pair = JudgedPair::new(lists, changes.as_slice());
+    compare_judged(host, asked, pair, settings)
 }
 
-// Compares two lists with these breaches, and the replies to a scenario if there is one.
-fn compare_scenario<'a>(
-    rt: &HostRuntime,
+// Compares two lists with their breaches, and the replies to a scenario if there is one.
+fn compare_judged<'a, H: Host>(
+    host: &'a H,
     asked: &DiffOptions<'a>,
-    lists: ListPair<'a>,
-    breaches: &'a [BreachChange<'a>],
+    pair: JudgedPair<'a>,
     settings: Settings<'_>,
 ) -> Result<u8, u8>
-    ensures ended { IfOk result (EndsBy (RunsDiffer (option_copied asked.now.scenario)
-        lists.entry.before.list.now lists.entry.after.list.now breaches.now)) }
-    ensures stopped { IfErr result HasStopped }
+    ensures ended { IfOk result (EndsAs ⊥ (EndsChanged (RunsDiffer (H.text_at host.now) asked.now
+        settings.entry asked.now.scenario pair.entry.lists.before.list.now pair.entry.lists.after.list.now
+        pair.entry.breaches.now))) }
+    ensures stopped { IfErr result (HasStopped
+        (OfScenarios (LacksScenario (H.text_at host.now)) asked.now)
+        (OfScenarios (HasFaultIn (H.text_at host.now) settings.entry) asked.now)) }
 {
-    let Some(path) = asked.scenario else {
-        return Ok(print_differences(rt, lists, breaches, &[], &[], settings.form));
-    };
-    let text = scenario_file(rt, path, settings.form)?;
-    let lines = unfolded(rt, path, &text, settings)?;
-    let was = RunInput::new(lists.before, path, &lines);
-    compare_after(
-        rt,
-        was,
-        lists.after,
-        asked.scenario_after,
-        breaches,
-        settings,
-    )
+    match asked.scenario {
+        Some(path) => compare_scenario(host, pair, path, asked.scenario_after, settings),
+        None => Ok(print_differences(host.rt(), pair, &[], &[], settings.form)),
+    }
 }
 
-// Compares a run with that of the list after: of the scenario of a path, if there is one, else of the same scenario.
-fn compare_after<'a>(
-    rt: &HostRuntime,
+// Compares two lists, and the replies to the scenario of a path. On the list after, another scenario is run if there is one.
+fn compare_scenario<'a, H: Host>(
+    host: &'a H,
+    pair: JudgedPair<'a>,
+    path: &'a str,
+    other: Option<&'a str>,
+    settings: Settings<'_>,
+) -> Result<u8, u8>
+    ensures ended { IfOk result (EndsAs ⊥ (EndsChanged (ScenariosDiffer (H.text_at host.now) settings.entry
+        path.now (path_after other.entry path.now) pair.entry.lists.before.list.now
+        pair.entry.lists.after.list.now pair.entry.breaches.now))) }
+    ensures stopped { IfErr result (HasStopped
+        (LacksScenario (H.text_at host.now) path.now (path_after other.entry path.now))
+        (HasFaultIn (H.text_at host.now) settings.entry path.now (path_after other.entry path.now))) }
+{
+    let rt = host.rt();
+    let text = scenario_file(host, path, settings.form)?;
+    let lines = unfolded(rt, path, text.as_slice(), settings)?;
+    let was = RunInput::new(pair.lists.before, path, &lines);
+    match other {
+        Some(other) => compare_other(host, was, pair, other, settings),
+        None => {
+            let now = RunInput::new(pair.lists.after, path, &lines);
+            compare_runs(rt, RunPair::new(was, now, pair.breaches), settings)
+        }
+    }
+}
+
+// Compares two lists, and the replies to a run with those to the scenario of a path on the list after.
+fn compare_other<'a, H: Host>(
+    host: &'a H,
     was: RunInput<'a>,
-    file: ListFile<'a>,
-    path: Option<&'a str>,
-    breaches: &'a [BreachChange<'a>],
+    pair: JudgedPair<'a>,
+    path: &'a str,
     settings: Settings<'_>,
 ) -> Result<u8, u8>
-    ensures ended { IfOk result (EndsBy (RunsDiffer (Some was.entry.path.now)
-        was.entry.file.list.now file.entry.list.now breaches.now)) }
-    ensures stopped { IfErr result HasStopped }
+    ensures ended { IfOk result (EndsAs ⊥ (EndsChanged (λ changed. (now : UnfoldedText)
+        × AreLinesAt (H.text_at host.now) settings.entry path.now now
+        × LinesDiffer settings.entry was.entry.file.list.now (whole_view was.entry.lines.now)
+        pair.entry.lists.after.list.now now pair.entry.breaches.now changed))) }
+    ensures stopped { IfErr result (HasStopped (IsUnknown (H.text_at host.now) path.now)
+        (HasFaultAt (H.text_at host.now) settings.entry path.now)) }
 {
-    let Some(path) = path else {
-        let now = RunInput::new(file, was.path, was.lines);
-        return compare_runs(rt, RunPair::new(was, now, breaches), settings);
-    };
-    let text = scenario_file(rt, path, settings.form)?;
-    let lines = unfolded(rt, path, &text, settings)?;
-    let now = RunInput::new(file, path, &lines);
-    compare_runs(rt, RunPair::new(was, now, breaches), settings)
+    let rt = host.rt();
+    let text = scenario_file(host, path, settings.form)?;
+    let lines = unfolded(rt, path, text.as_slice(), settings)?;
+    let now = RunInput::new(pair.lists.after, path, &lines);
+    compare_runs(rt, RunPair::new(was, now, pair.breaches), settings)
 }
 
-// Runs the scenarios of both sides, and prints all differences. Returns the exit status, as the error if a scenario can't be run
+// Runs the scenarios of both sides, and prints all differences. Returns the exit status; the error is 1, if a scenario can't be run
 // to its end.
-fn compare_runs<'a>(rt: &HostRuntime, runs: RunPair<'a>, settings: Settings<'_>) -> Result<u8, u8>
-    ensures ended { IfOk result (EndsBy (RunsDiffer (Some runs.entry.was.path.now)
-        runs.entry.was.file.list.now runs.entry.now.file.list.now runs.entry.breaches.now)) }
-    ensures stopped { IfErr result HasStopped }
+fn compare_runs<'a>(
+    rt: &'a HostRuntime,
+    runs: RunPair<'a>,
+    settings: Settings<'_>,
+) -> Result<u8, u8>
+    ensures ended { IfOk result (EndsAs ⊥ (EndsChanged (LinesDiffer settings.entry
+        runs.entry.was.file.list.now (whole_view runs.entry.was.lines.now)
+        runs.entry.now.file.list.now (whole_view runs.entry.now.lines.now) runs.entry.breaches.now))) }
+    ensures failed { IfErr result (λ status. status ≡ 1) }
 {
     let olds = answers_on(rt, runs.was, settings)?;
     let news = answers_on(rt, runs.now, settings)?;
     compare_answers(rt, runs, olds.as_slice(), news.as_slice(), settings)
 }
 
-// Compares the answered calls of both runs line by line, and prints all differences. Returns the exit status.
+// Compares the answered calls of both runs line by line, and prints all differences. Returns the exit status; the error is 1.
 fn compare_answers<'a>(
     rt: &HostRuntime,
     runs: RunPair<'a>,
@@ -132,9 +197,12 @@ fn compare_answers<'a>(
     news: &'a [Exchange],
     settings: Settings<'_>,
 ) -> Result<u8, u8>
-    ensures ended { IfOk result (EndsBy (RunsDiffer (Some runs.entry.was.path.now)
-        runs.entry.was.file.list.now runs.entry.now.file.list.now runs.entry.breaches.now)) }
-    ensures stopped { IfErr result HasStopped }
+    ensures ended { IfOk result (EndsAs ⊥ (EndsChanged (ResultsDiffer
+        runs.entry.was.file.list.now runs.entry.now.file.list.now
+        (results_by settings.entry (whole_view runs.entry.was.lines.now) olds.now)
+        (results_by settings.entry (whole_view runs.entry.now.lines.now) news.now)
+        runs.entry.breaches.now))) }
+    ensures failed { IfErr result (λ status. status ≡ 1) }
 {
     let was = results_on(rt, runs.was, olds, settings)?;
     let now = results_on(rt, runs.now, news, settings)?;
@@ -143,24 +211,26 @@ fn compare_answers<'a>(
     compare_needs(rt, runs, replies.as_slice(), settings)
 }
 
-// Compares the needs of both runs, and prints all differences, with these replies. Returns the exit status.
+// Compares the needs of both runs, and prints all differences, with these replies. Returns the exit status; the error is 1.
 fn compare_needs<'a>(
     rt: &HostRuntime,
     runs: RunPair<'a>,
     replies: &'a [ReplyChange<'a>],
     settings: Settings<'_>,
 ) -> Result<u8, u8>
-    ensures ended { IfOk result (EndsBy (NeedsDiffer runs.entry.was.file.list.now
-        runs.entry.now.file.list.now runs.entry.breaches.now replies.now)) }
-    ensures stopped { IfErr result HasStopped }
+    ensures ended { IfOk result (EndsAs ⊥ (EndsChanged (NeedsDiffer runs.entry.was.file.list.now
+        runs.entry.now.file.list.now runs.entry.breaches.now replies.now))) }
+    ensures failed { IfErr result (λ status. status ≡ 1) }
 {
     let had = needs(rt, runs.was, settings)?;
     let has = needs(rt, runs.now, settings)?;
     let lacks = made_or_status(rt, lacks(rt.alloc(), had.as_slice(), has.as_slice()))?;
-    let lists = ListPair {
-        before: runs.was.file,
-        after: runs.now.file,
+    let pair = JudgedPair {
+        lists: ListPair {
+            before: runs.was.file,
+            after: runs.now.file,
+        },
+        breaches: runs.breaches,
     };
-    let form = settings.form;
-    Ok(print_differences(rt, lists, runs.breaches, lacks.as_slice(), replies, form))
+    Ok(print_differences(rt, pair, lacks.as_slice(), replies, settings.form))
 }

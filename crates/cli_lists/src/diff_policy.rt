@@ -1,12 +1,12 @@
 //! The breaches of a policy by two start lists.
-ghost use Rattle.std.specs.Prelude.{◌≡◌, [], map, IfErr, IfOk};
+ghost use Rattle.std.specs.Prelude.{◌≡◌, ◌⊎◌, [], map, IfErr, IfOk};
 ghost use Rattle.std.specs.Option.{option_copied};
 ghost use Rattle.list_policy.specs.Reading.{Reads};
 ghost use Rattle.list_diff.specs.Breaches.{breach_changes, change_at};
-ghost use Rattle.cli_lists.specs.Comparison.{AreBreachesBy, AreBreachesOf, HasStopped};
+ghost use Rattle.cli_lists.specs.Comparison.{AreBreachesBy, AreBreachesOf, HasPolicyFault, RefusesPolicy};
 
 use crate::diff_files::ListPair;
-use cli_base::{REFUSED, Spot, made_or_status, policy_text, report_error, summarize_errors};
+use cli_base::{Host, REFUSED, Spot, made_or_status, policy_text, report_error, summarize_errors};
 use list_diff::{BreachChange, PlacedBreach, breach_changes, placed_breaches};
 use list_policy::{Policy, PolicyFault};
 use std::alloc::{AllocError, Global};
@@ -21,28 +21,31 @@ pub(crate) struct PolicyBreaches<'a> {
 
 impl<'a> PolicyBreaches<'a> {
     /// Checks two lists against the policy of a path, if there is one. It has to be a policy for the list after; a line with a fault
-    /// for the list before has no breach there. If the policy isn't read or has a fault, prints that and returns the exit status 2.
-    pub(crate) fn of(
-        rt: &HostRuntime,
+    /// for the list before has no breach there. If the policy isn't read or has a fault, prints that and returns the exit status: 1 if
+    /// the host is out of memory, else 2.
+    pub(crate) fn of<H: Host>(
+        host: &H,
         lists: ListPair<'a>,
         path: Option<&str>,
         form: DiagnosticForm,
     ) -> Result<PolicyBreaches<'a>, u8>
-        ensures found { IfOk result (λ found. AreBreachesBy (option_copied path.entry)
+        ensures found { IfOk result (λ found. AreBreachesBy (H.text_at host.now) (option_copied path.entry)
             lists.entry.before.list.now lists.entry.after.list.now found.before.items found.after.items) }
-        ensures stopped { IfErr result HasStopped }
+        ensures stopped { IfErr result (λ status. (status ≡ 1) ⊎ (status ≡ 2)
+            × RefusesPolicy (H.text_at host.now) (option_copied path.entry) lists.entry.after.list.now) }
     {
+        let rt = host.rt();
         let Some(path) = path else {
             return Ok(PolicyBreaches {
                 before: Vec::new(rt.alloc()),
                 after: Vec::new(rt.alloc()),
             });
         };
-        match policy_text(rt, path) {
-            Ok(text) => breaches_of(rt, lists, path, &text, form),
+        match policy_text(host, path) {
+            Ok(text) => breaches_of(rt, lists, path, text.as_slice(), form),
             Err(why) => {
                 report_error(rt, form, Spot::nowhere(), &why);
-                Err(REFUSED)
+                Err(why.exit_status())
             }
         }
     }
@@ -57,7 +60,7 @@ impl<'a> PolicyBreaches<'a> {
 }
 
 // Checks two lists against the text of a policy. If the policy has a fault for the list after, prints that and returns the exit
-// status 2.
+// status 2. If the host is out of memory, prints that and returns the exit status 1.
 fn breaches_of<'a>(
     rt: &HostRuntime,
     lists: ListPair<'a>,
@@ -67,7 +70,8 @@ fn breaches_of<'a>(
 ) -> Result<PolicyBreaches<'a>, u8>
     ensures found { IfOk result (λ found. AreBreachesOf text.now
         lists.entry.before.list.now lists.entry.after.list.now found.before.items found.after.items) }
-    ensures stopped { IfErr result HasStopped }
+    ensures stopped { IfErr result (λ status. (status ≡ 1) ⊎ (status ≡ 2)
+        × HasPolicyFault text.now lists.entry.after.list.now) }
 {
     let policy = made_or_status(rt, Policy::read(rt.alloc(), lists.after.list, text))?;
     let faults = policy.faults();

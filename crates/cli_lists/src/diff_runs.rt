@@ -1,20 +1,29 @@
 //! The runs of scenarios on two start lists: needs that aren't covered any more, and replies that differ.
-ghost use Rattle.std.specs.Prelude.{◌≡◌, IfErr};
-ghost use Rattle.cli_lists.specs.Comparison.{HasStopped};
+ghost use Rattle.std.specs.Prelude.{◌≡◌, ◌++◌, map, IfErr, IfOk, OnOk};
+ghost use Rattle.std.specs.List.{flat_map};
+ghost use Rattle.std.specs.Option.{option_map};
+ghost use Rattle.budget_least.specs.Report.{accounts_of};
+ghost use Rattle.budget_meter.specs.Needs.{amounts_of};
+ghost use Rattle.budget_search.specs.BudgetIntervals.{lowest_of};
+ghost use Rattle.line_rounds.specs.Views.{whole_view};
+ghost use Rattle.list_diff.specs.LineResults.{call_in};
+ghost use Rattle.cli_lists.specs.ComparedRuns.{AreNeedsOn, answers_on, need_at, need_of, needs_by, quota_of, results_by};
 
 use crate::diff_files::ListFile;
 use budget_least::{AccountBudgets, Budget, BudgetChoice, BudgetQuery, BudgetReport};
 use cli_base::{
-    Origin, OutputStream, Printing, REFUSED, Settings, Spot, StopMessage, UNWRITTEN,
-    made_or_status, plain_writer, report_error, spot_of, watched_reader,
+    Origin, OutputStream, Printing, Settings, Spot, StopMessage, UNWRITTEN, made_or_status,
+    plain_writer, report_error, spot_of, watched_reader,
 };
 use init_core::{BootFault, ListEntry, StartList};
 use line_rounds::UnfoldedText;
 use list_diff::{BreachChange, ComponentNeed, LineResult, QuotaAmounts, line_results};
+use list_reach::pieces;
 use run_exchanges::Exchange;
 use run_lines::LineRunFault;
 use run_scenario::ScenarioInput;
 use std::alloc::{AllocError, Global};
+use std::fs::File;
 use view_diagnostics::DiagnosticForm;
 use view_runs::answers;
 
@@ -37,7 +46,7 @@ impl<'a> RunInput<'a> {
         lines: &'a UnfoldedText<'a>,
     ) -> RunInput<'a>
         ensures list { result.file.list.now ≡ file.entry.list.now }
-        ensures path { result.path.now ≡ path.now }
+        ensures lines { result.lines.now ≡ lines.now }
     {
         RunInput { file, path, lines }
     }
@@ -62,29 +71,33 @@ impl<'a> RunPair<'a> {
         breaches: &'a [BreachChange<'a>],
     ) -> RunPair<'a>
         ensures before { result.was.file.list.now ≡ was.entry.file.list.now }
-        ensures path { result.was.path.now ≡ was.entry.path.now }
+        ensures was { result.was.lines.now ≡ was.entry.lines.now }
         ensures after { result.now.file.list.now ≡ now.entry.file.list.now }
+        ensures now { result.now.lines.now ≡ now.entry.lines.now }
         ensures breaches { result.breaches.now ≡ breaches.now }
     {
         RunPair { was, now, breaches }
     }
 }
 
-/// Returns the calls of a scenario with their replies on a list, or the exit status if it can't be run to its end. Expectations of
-/// the scenario are ignored.
-pub(crate) fn answers_on(
-    rt: &HostRuntime,
-    run: RunInput<'_>,
+/// Returns the calls of a scenario with their replies on a list that boots. If the scenario can't be run to its end, prints why and
+/// returns the exit status 1. Expectations of the scenario are ignored.
+pub(crate) fn answers_on<'a>(
+    rt: &'a HostRuntime,
+    run: RunInput<'a>,
     settings: Settings<'_>,
 ) -> Result<Vec<Exchange>, u8>
-    ensures { IfErr result HasStopped }
+    ensures answers { IfOk result (λ answered. answered.items ≡
+        answers_on settings.entry run.entry.file.list.now (whole_view run.entry.lines.now)) }
+    ensures failed { IfErr result (λ status. status ≡ 1) }
 {
+    let start = settings.start_or_status(rt, run.lines.marks())?;
     let input = ScenarioInput {
         list: run.file.list,
         scenario: settings.subject(run.path),
-        start: settings.start_or_status(rt, run.lines.marks())?,
+        start,
     };
-    let origin = Origin::Held(run.lines.bytes());
+    let origin: Origin<'_, File> = Origin::Held(run.lines.bytes());
     let mut reader = watched_reader(rt, origin, Printing::Afterwards);
     let mut nowhere = plain_writer(rt, OutputStream::Dropped);
     let mut complaints = plain_writer(rt, OutputStream::Dropped);
@@ -112,33 +125,25 @@ pub(crate) fn results_on<'a>(
     exchanges: &'a [Exchange],
     settings: Settings<'_>,
 ) -> Result<Vec<LineResult<'a>>, u8>
-    ensures { IfErr result HasStopped }
+    ensures results { IfOk result (λ results. map call_in results.items ≡
+        results_by settings.entry (whole_view run.entry.lines.now) exchanges.now) }
+    ensures failed { IfErr result (λ status. status ≡ 1) }
 {
     let start = settings.start_or_status(rt, run.lines.marks())?;
-    let lines = made_or_status(rt, split_lines(rt.alloc(), run.lines.bytes()))?;
-    made_or_status(
-        rt,
-        line_results(rt.alloc(), start, lines.as_slice(), exchanges),
-    )
+    let lines = made_or_status(rt, pieces(rt.alloc(), run.lines.bytes(), b'\n'))?;
+    let results = line_results(rt.alloc(), start, lines.as_slice(), exchanges);
+    made_or_status(rt, results)
 }
 
-// Returns the lines of a text, without their newlines. A text that ends with a newline has an empty line at its end.
-fn split_lines(alloc: Global, text: &[u8]) -> Result<Vec<&[u8]>, AllocError> {
-    let mut lines = Vec::new(alloc);
-    for line in text.split(|byte| *byte == b'\n') {
-        lines.push(line)?;
-    }
-    Ok(lines)
-}
-
-/// Returns the needs of a list's components for a scenario. If no machine boots or the host is out of memory, returns the exit
-/// status. The scenario itself states the donations of sessions, so they aren't computed.
+/// Returns the needs of the components of a list that boots for a scenario. If they can't be computed, prints why and returns the exit
+/// status 1. The scenario itself states the donations of sessions, so they aren't computed.
 pub(crate) fn needs<'a>(
     rt: &HostRuntime,
     run: RunInput<'a>,
     settings: Settings<'_>,
 ) -> Result<Vec<ComponentNeed<'a>>, u8>
-    ensures { IfErr result HasStopped }
+    ensures needs { IfOk result (λ needs. AreNeedsOn run.entry.file.list.now needs.items) }
+    ensures failed { IfErr result (λ status. status ≡ 1) }
 {
     let alloc = rt.alloc();
     let list = run.file.list;
@@ -160,41 +165,69 @@ fn component_needs<'a>(
     alloc: Global,
     report: &BudgetReport<'_>,
     list: &'a StartList,
-) -> Result<Vec<ComponentNeed<'a>>, AllocError> {
+) -> Result<Vec<ComponentNeed<'a>>, AllocError>
+    ensures { IfOk result
+        (λ needs. map need_at needs.items ≡ flat_map (needs_by list.now) (accounts_of report.now)) }
+{
     let mut needs = Vec::new(alloc);
-    for account in report.accounts() {
-        if let (None, Some(entry)) = (account.session(), list.entries().get(account.component())) {
-            needs.push(need_of(account, entry))?;
-        }
+    let accounts = report.accounts();
+    for account in accounts {
+        add_need(&mut needs, account, list)?;
     }
     Ok(needs)
 }
 
+// Adds the need of a component by its own account. Adds nothing if the account is that of a session.
+fn add_need<'a>(
+    needs: &mut Vec<ComponentNeed<'a>>,
+    account: &AccountBudgets,
+    list: &'a StartList,
+) -> Result<(), AllocError>
+    ensures { OnOk result
+        (map need_at needs.new.items ≡ map need_at needs.old.items ++ needs_by list.now account.now) }
+{
+    if let (None, Some(entry)) = (account.session(), list.entries().get(account.component())) {
+        needs.push(need_of(account, entry))?;
+    }
+    Ok(())
+}
+
 // Returns the budget and the need of a component's account.
-fn need_of<'a>(account: &AccountBudgets, entry: &'a ListEntry) -> ComponentNeed<'a> {
+fn need_of<'a>(account: &AccountBudgets, entry: &'a ListEntry) -> ComponentNeed<'a>
+    ensures { need_at result ≡ need_of account.now entry.now }
+{
     let given = account.given();
     ComponentNeed {
         name: entry.path(),
-        has: amounts_of(given.budget),
-        needs: account.least().map(amounts_of),
+        has: quota_of(given.budget),
+        needs: least_of(account),
         is_covered: given.refused.is_none(),
     }
 }
 
+// Returns the minimum budget of an account in the form of differences, if there is one.
+fn least_of(account: &AccountBudgets) -> Option<QuotaAmounts>
+    ensures { result ≡ option_map quota_of (lowest_of account.now.found.rows.items) }
+{
+    account.least().map(quota_of)
+}
+
 // Returns a budget in the form of differences.
-fn amounts_of(budget: Budget) -> QuotaAmounts {
+fn quota_of(budget: Budget) -> QuotaAmounts
+    ensures { result ≡ quota_of (amounts_of budget) }
+{
     QuotaAmounts {
         ram: budget.ram,
         caps: budget.caps,
     }
 }
 
-// Prints why a list boots no machine, and returns the exit status.
+// Prints why runs on a list that boots can't begin, and returns the exit status.
 fn report_unbooted(rt: &HostRuntime, form: DiagnosticForm, path: &str, fault: &BootFault) -> u8
-    ensures { result ≡ 2 }
+    ensures { result ≡ 1 }
 {
     report_error(rt, form, Spot::file(path), fault);
-    REFUSED
+    UNWRITTEN
 }
 
 // Prints the fault that stopped a run after so many lines, and returns the exit status.

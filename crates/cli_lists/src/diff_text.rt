@@ -1,14 +1,14 @@
 //! The differences of two start lists as text, and the exit status by them.
 ghost use Rattle.std.specs.Prelude.{◌≡◌, [], not, IfOk};
 ghost use Rattle.list_diff.specs.Differences.{nothing_differs};
-ghost use Rattle.cli_lists.specs.Comparison.{AreSoFar, Differ, EndsBy, EndsWith, IsSideOf, IsTextOf, diff_status};
+ghost use Rattle.cli_base.specs.Statuses.{EndsAs};
+ghost use Rattle.cli_lists.specs.Comparison.{AreSoFar, Differ, EndsChanged, EndsWith, IsSideOf, IsTextOf, diff_status};
 
-use crate::diff_files::ListPair;
+use crate::diff_files::JudgedPair;
 use cli_base::{made_or_status, status_of};
 use init_core::StartList;
 use list_diff::{
-    BreachChange, EntryChange, ListDifferences, NeedChange, ReachChange, ReachSide, ReplyChange,
-    changes, leads,
+    EntryChange, ListDifferences, NeedChange, ReachChange, ReachSide, ReplyChange, changes, leads,
 };
 use list_reach::ReachTable;
 use std::alloc::{AllocError, Global};
@@ -20,25 +20,24 @@ use view_differences::{difference_documents, difference_lines};
 /// The exit status if something is changed.
 const CHANGED: u8 = 4;
 
-/// Prints all differences of two lists, with these breaches, needs and replies. Returns the exit status: 4 if there is a difference,
+/// Prints all differences of two lists, with their breaches, these needs and replies. Returns the exit status: 4 if there is a difference,
 /// 0 if there is none, else that of a failed write, or 1 if the host is out of memory.
 pub(crate) fn print_differences<'a>(
     rt: &HostRuntime,
-    lists: ListPair<'a>,
-    breaches: &'a [BreachChange<'a>],
+    pair: JudgedPair<'a>,
     lacks: &'a [NeedChange<'a>],
     replies: &'a [ReplyChange<'a>],
     form: DiagnosticForm,
 ) -> u8
-    ensures { EndsBy (Differ lists.entry.before.list.now lists.entry.after.list.now breaches.now lacks.now
-        replies.now) result }
+    ensures { EndsAs ⊥ (EndsChanged (Differ pair.entry.lists.before.list.now pair.entry.lists.after.list.now
+        pair.entry.breaches.now lacks.now replies.now)) result }
 {
     let so_far = ListDifferences {
-        before: lists.before.list,
-        after: lists.after.list,
+        before: pair.lists.before.list,
+        after: pair.lists.after.list,
         changes: &[],
         leads: &[],
-        breaches,
+        breaches: pair.breaches,
         lacks,
         replies,
     };
@@ -75,7 +74,7 @@ impl DiffText {
 
     // Prints the text, and returns the exit status.
     fn print(&self, rt: &HostRuntime) -> u8
-        ensures { EndsBy (λ changed. changed ≡ self.now.is_changed) result }
+        ensures { EndsAs ⊥ (EndsChanged (λ changed. changed ≡ self.now.is_changed)) result }
     {
         let printed = io::writer(rt).write_all(self.text.as_slice());
         end_status(rt, printed, self.is_changed)

@@ -2,7 +2,7 @@
 //! printed.
 //!
 //! `nethrywel` calls a function for each command with its options, and exits with the status that the function returns. For
-//! example `show_tree(rt, asked, settings)` prints the components of a start list.
+//! example `show_tree(host, asked, settings)` prints the components of a start list.
 #![tactic(auto)]
 
 mod check;

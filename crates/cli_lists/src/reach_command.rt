@@ -1,112 +1,137 @@
 //! The command `reach`: the servers of a start list that each script reaches.
-ghost use Rattle.std.specs.Prelude.{IfOk};
+ghost use Rattle.std.specs.Prelude.{◌≡◌, ◌⊎◌, false, is_err, IfErr, OnOk, IfOk};
 ghost use Rattle.cli_base.specs.Statuses.{EndsAs, IsZero};
+ghost use Rattle.cli_lists.specs.ListStatus.{EndsNamed, NamesNone, ReachEnds, named_by, unnamed_status};
 ghost use Rattle.cli_lists.specs.ReachDocuments.{IsReachText};
 
 use crate::reach_documents::reach_text;
 use crate::review::review;
-use cli_base::{REFUSED, Settings, Spot, no_memory, print_documents, report_error, status_of};
-use cli_options::ReachOptions as AskedReach;
+use cli_base::{
+    Host, REFUSED, Settings, Spot, UNWRITTEN, made_or_status, print_documents, report_error,
+    status_of,
+};
+use cli_options::ReachOptions;
 use init_core::StartList;
-use list_reach::{ReachFilter, ReachPathList, ReachTable};
+use list_reach::{ReachFilter, ReachPathList, ReachTable, Unnamed};
 use std::alloc::{AllocError, Global};
 use view_diagnostics::DiagnosticForm;
 
-/// Prints which scripts reach which servers, as a table, CSV or documents of JSON. Returns the exit status.
-pub fn show_reach(rt: &HostRuntime, asked: &AskedReach<'_>, settings: Settings<'_>) -> u8
-    ensures { EndsAs IsZero result }
+/// Prints which scripts reach which servers, as a table, CSV or documents of JSON. Returns the exit status: 0, or 2 if the list or a
+/// path is refused.
+pub fn show_reach<H: Host>(host: &H, asked: &ReachOptions<'_>, settings: Settings<'_>) -> u8
+    ensures { ReachEnds (H.text_at host.now) asked.now settings.entry result }
 {
-    if asked.json {
-        reach_documents(rt, asked, settings)
-    } else {
-        reach(rt, asked, settings)
+    match review(host, asked.list, settings) {
+        Ok(review) => reach_in(host.rt(), settings.form, review.list(), asked),
+        Err(status) => status,
     }
 }
 
-// Prints which scripts of a start list reach which servers, as a table or CSV. A table is followed by each route path of scripts
-// and servers that are named. Returns the exit status.
-fn reach(rt: &HostRuntime, asked: &AskedReach<'_>, settings: Settings<'_>) -> u8
-    ensures { EndsAs IsZero result }
-{
-    let Some(review) = review(rt, asked.list, settings) else {
-        return REFUSED;
-    };
-    let list = review.list();
-    match chosen(rt, settings.form, list, asked) {
-        Some(chosen) => show_table(rt, asked.list, list, &chosen, asked.csv),
-        None => REFUSED,
-    }
-}
-
-// Returns the scripts and servers that the command line names. If a path is unknown, prints that and returns none.
-fn chosen(
+// Prints which scripts of a start list reach which servers, and returns the exit status.
+fn reach_in(
     rt: &HostRuntime,
     form: DiagnosticForm,
     list: &StartList,
-    asked: &AskedReach<'_>,
-) -> Option<ReachFilter> {
+    asked: &ReachOptions<'_>,
+) -> u8
+    ensures { EndsAs (NamesNone asked.now list.now) (EndsNamed asked.now list.now) result }
+{
+    match filter_of(rt, form, list, asked) {
+        Ok(filter) => print_reach(rt, list, &filter, asked),
+        Err(status) => status,
+    }
+}
+
+// Returns the filter that selects the scripts and servers that the command line names. If a path is unknown, prints that and
+// returns the exit status: 1 if the host is out of memory, else 2.
+fn filter_of(
+    rt: &HostRuntime,
+    form: DiagnosticForm,
+    list: &StartList,
+    asked: &ReachOptions<'_>,
+) -> Result<ReachFilter, u8>
+    ensures named { OnOk result (is_err (named_by asked.now list.now) ≡ false) }
+    ensures failed { IfErr result
+        (λ status. (status ≡ 1) ⊎ (status ≡ 2) × NamesNone asked.now list.now) }
+{
     let (from, to) = (asked.from.as_slice(), asked.to.as_slice());
     match ReachFilter::read(rt.alloc(), list, from, to) {
-        Ok(chosen) => Some(chosen),
+        Ok(filter) => Ok(filter),
         Err(fault) => {
             report_error(rt, form, Spot::file(asked.list), &fault);
-            None
+            Err(unnamed_status(&fault))
         }
     }
 }
 
-// Prints which of the chosen scripts reach which of the chosen servers, and returns the exit status.
-fn show_table(rt: &HostRuntime, path: &str, list: &StartList, chosen: &ReachFilter, csv: bool) -> u8
-    ensures { EndsAs IsZero result }
+// Returns the exit status of a path that denotes no component: 1 if the host is out of memory, else 2.
+fn unnamed_status(fault: &Unnamed<'_>) -> u8
+    ensures { result ≡ unnamed_status fault.now }
 {
-    match ReachTable::narrowed(rt.alloc(), list, chosen) {
+    match fault {
+        Unnamed::Nobody(_, _) | Unnamed::NoScript(_) | Unnamed::NoServer(_) => REFUSED,
+        Unnamed::NoMemory => UNWRITTEN,
+    }
+}
+
+// Prints which of the selected scripts reach which of the selected servers as the command line asks, and returns the exit status.
+fn print_reach(
+    rt: &HostRuntime,
+    list: &StartList,
+    filter: &ReachFilter,
+    asked: &ReachOptions<'_>,
+) -> u8
+    ensures { EndsAs ⊥ IsZero result }
+{
+    if asked.json {
+        return print_documents(rt, reach_documents(rt.alloc(), list, filter));
+    }
+    match made_or_status(rt, ReachTable::narrowed(rt.alloc(), list, filter)) {
         Ok(table) => {
-            if csv {
+            if asked.csv {
                 return print_documents(rt, table.to_csv(rt.alloc()));
             }
-            let status = status_of(rt, print!(rt; "{table}"));
-            if status == 0 && chosen.is_narrow() {
-                show_ways(rt, path, list, chosen)
-            } else {
-                status
-            }
+            print_table(rt, list, filter, &table)
         }
-        Err(_) => no_memory(rt),
+        Err(status) => status,
     }
 }
 
-// Prints each route path from the chosen scripts to the chosen servers, and returns the exit status.
-fn show_ways(rt: &HostRuntime, path: &str, list: &StartList, chosen: &ReachFilter) -> u8
-    ensures { EndsAs IsZero result }
+// Prints a table, and then each route path of scripts and servers that are named. Returns the exit status.
+fn print_table(
+    rt: &HostRuntime,
+    list: &StartList,
+    filter: &ReachFilter,
+    table: &ReachTable<'_>,
+) -> u8
+    ensures { EndsAs ⊥ IsZero result }
 {
-    match ReachPathList::of(rt.alloc(), list, chosen) {
-        Ok(ways) => status_of(rt, print!(rt; "{ways}")),
-        Err(_) => no_memory(rt),
+    let status = status_of(rt, print!(rt; "{table}"));
+    if status == 0 && filter.is_narrow() {
+        print_paths(rt, list, filter)
+    } else {
+        status
     }
 }
 
-// Prints a document for each cell of the table, and returns the exit status.
-fn reach_documents(rt: &HostRuntime, asked: &AskedReach<'_>, settings: Settings<'_>) -> u8
-    ensures { EndsAs IsZero result }
+// Prints each route path from the selected scripts to the selected servers, and returns the exit status.
+fn print_paths(rt: &HostRuntime, list: &StartList, filter: &ReachFilter) -> u8
+    ensures { EndsAs ⊥ IsZero result }
 {
-    let Some(review) = review(rt, asked.list, settings) else {
-        return REFUSED;
-    };
-    let list = review.list();
-    match chosen(rt, settings.form, list, asked) {
-        Some(chosen) => print_documents(rt, chosen_documents(rt.alloc(), list, &chosen)),
-        None => REFUSED,
+    match made_or_status(rt, ReachPathList::of(rt.alloc(), list, filter)) {
+        Ok(paths) => status_of(rt, print!(rt; "{paths}")),
+        Err(status) => status,
     }
 }
 
-// Returns a list with a document for each cell of the table of the chosen scripts and servers.
-fn chosen_documents(
+// Returns a list with a document for each cell of the table of the selected scripts and servers.
+fn reach_documents(
     alloc: Global,
     list: &StartList,
-    chosen: &ReachFilter,
+    filter: &ReachFilter,
 ) -> Result<Vec<u8>, AllocError>
-    ensures { IfOk result (λ text. IsReachText list.now chosen.now text.items) }
+    ensures { IfOk result (λ text. IsReachText list.now filter.now text.items) }
 {
-    let table = ReachTable::narrowed(alloc, list, chosen)?;
+    let table = ReachTable::narrowed(alloc, list, filter)?;
     reach_text(alloc, list, &table)
 }

@@ -1,58 +1,52 @@
 //! The command `tree`: the components of a start list.
 ghost use Rattle.cli_base.specs.Statuses.{EndsAs, IsZero};
+ghost use Rattle.cli_lists.specs.ListStatus.{TreeEnds};
 
 use crate::review::review;
-use cli_base::{REFUSED, Settings, no_memory, print_documents, status_of};
+use cli_base::{Host, Settings, made_or_status, print_documents, status_of};
 use cli_options::TreeOptions;
-use list_review::Review;
-use std::alloc::AllocError;
+use list_review::{ListTree, Review};
 
-/// Prints the components of a start list as text, as a graph or as JSON. Returns the exit status.
-pub fn show_tree(rt: &HostRuntime, asked: &TreeOptions<'_>, settings: Settings<'_>) -> u8
-    ensures { EndsAs IsZero result }
+/// Prints the components of a start list as text, as a graph or as JSON. Returns the exit status: 0, or 2 if the list is refused.
+pub fn show_tree<H: Host>(host: &H, asked: &TreeOptions<'_>, settings: Settings<'_>) -> u8
+    ensures { TreeEnds (H.text_at host.now) asked.now settings.entry result }
 {
-    if asked.json {
-        tree_document(rt, asked.list, settings)
-    } else {
-        tree(rt, asked.list, settings, asked.dot)
+    match review(host, asked.list, settings) {
+        Ok(review) => print_review(host.rt(), asked, &review),
+        Err(status) => status,
     }
 }
 
-// Prints the components of a start list as text or as a graph, and returns the exit status.
-fn tree(rt: &HostRuntime, path: &str, settings: Settings<'_>, dot: bool) -> u8
-    ensures { EndsAs IsZero result }
+// Prints the components of a start list as the command line asks, and returns the exit status.
+fn print_review(rt: &HostRuntime, asked: &TreeOptions<'_>, review: &Review) -> u8
+    ensures { EndsAs ⊥ IsZero result }
 {
-    let Some(review) = review(rt, path, settings) else {
-        return REFUSED;
-    };
-    if dot {
-        return show_graph(rt, path, &review);
+    if asked.dot && !asked.json {
+        return print_graph(rt, review);
     }
-    match review.tree(rt.alloc()) {
-        Ok(tree) => status_of(rt, print!(rt; "{tree}")),
-        Err(_) => no_memory(rt),
+    match made_or_status(rt, review.tree(rt.alloc())) {
+        Ok(tree) => print_tree(rt, &tree, asked.json),
+        Err(status) => status,
     }
 }
 
-// Prints the components of a start list as a graph, and returns the exit status.
-fn show_graph(rt: &HostRuntime, path: &str, review: &Review) -> u8
-    ensures { EndsAs IsZero result }
+// Prints a graph, and returns the exit status.
+fn print_graph(rt: &HostRuntime, review: &Review) -> u8
+    ensures { EndsAs ⊥ IsZero result }
 {
-    match review.graph(rt.alloc()) {
+    match made_or_status(rt, review.graph(rt.alloc())) {
         Ok(graph) => status_of(rt, print!(rt; "{graph}")),
-        Err(_) => no_memory(rt),
+        Err(status) => status,
     }
 }
 
-// Prints a document for each line of the tree, and returns the exit status.
-fn tree_document(rt: &HostRuntime, path: &str, settings: Settings<'_>) -> u8
-    ensures { EndsAs IsZero result }
+// Prints a tree as text, or as a document for each of its lines. Returns the exit status.
+fn print_tree(rt: &HostRuntime, tree: &ListTree<'_>, json: bool) -> u8
+    ensures { EndsAs ⊥ IsZero result }
 {
-    match review(rt, path, settings) {
-        Some(review) => match review.tree(rt.alloc()) {
-            Ok(tree) => print_documents(rt, tree.documents(rt.alloc())),
-            Err(AllocError) => no_memory(rt),
-        },
-        None => REFUSED,
+    if json {
+        print_documents(rt, tree.documents(rt.alloc()))
+    } else {
+        status_of(rt, print!(rt; "{tree}"))
     }
 }

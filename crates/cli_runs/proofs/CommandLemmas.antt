@@ -1,23 +1,32 @@
 -- The status of a command, by that of its run.
-use Rattle.std.proofs.Common.{◌≡◌, ℕ, Bool, false, List, length, Option, None, sym, subst, ap, ◌∙◌, inr}
-use Rattle.std.specs.Prelude.{IfOk, Result, Ok}
+use Rattle.std.proofs.Common.{◌≡◌, ℕ, Bool, true, false, List, length, Option, Some, None, refl, sym, subst, ap, ◌∙◌, inl, inr}
+use Rattle.std.specs.Prelude.{◌⊎◌, ◌≢◌, ◌==◌, if◌then◌else◌, is_some, IfOk, IfSome, Result, Ok}
 use Rattle.std.specs.Borrow.{Bor}
+use Rattle.std.specs.Option.{option_copied}
 use Rattle.std.proofs.lemmas.List.{length-map}
 use Rattle.own_model.specs.Listed.{Listed}
+use Rattle.list_parser.specs.Quota.{quota_fault}
+use Rattle.list_parser.specs.declared.fault.BootFault.{BootFault}
+use Rattle.list_parser.specs.declared.fault.BootFault.TheVariants.{NoMemory}
 use Rattle.line_names.specs.RoundMarks.{RoundMark}
 use Rattle.line_rounds.specs.Unfolding.{UnfoldedText}
 use Rattle.line_steps.specs.RunPosition.{RunPosition}
 use Rattle.line_steps.specs.declared.unread_line.UnreadLine.{UnreadLine}
 use Rattle.run_lines.specs.Machine.{world_of}
 use Rattle.run_record.specs.Unread.{line_by_reason, unread_lines, unread_view}
-use Rattle.cli_base.proofs.StatusLemmas.{ends_more, ends_warned}
-use Rattle.cli_base.specs.MachineChoice.{IsMachineFor}
-use Rattle.cli_base.specs.Statuses.{EndsAs, warned}
-use Rattle.cli_base.specs.Unfolding.{EndsUnfolded, rounds_of}
+use Rattle.cli_base.proofs.StatusLemmas.{ends_by, ends_warned, failed_by}
+use Rattle.cli_base.proofs.UnfoldingLemmas.{lacks_machine}
+use Rattle.cli_base.specs.Files.{IsTextAt}
+use Rattle.cli_base.specs.ListFailures.{boot_lacks_memory}
+use Rattle.cli_base.specs.MachineChoice.{IsChosen, IsMachineFor, LacksMachine, list_path}
+use Rattle.cli_base.specs.MachineTexts.{LacksList}
+use Rattle.cli_base.specs.Statuses.{EndsAs, HasNoResult, boot_status, warned}
+use Rattle.cli_base.specs.Unfolding.{EndsOnText, EndsUnfolded, HasRoundsFault, rounds_of}
 use Rattle.cli_base.specs.declared.machine.Machine.{Machine}
+use Rattle.cli_base.specs.declared.machine_choice.MachineChoice.{MachineChoice}
 use Rattle.cli_base.specs.declared.settings.Settings.{Settings}
-use Rattle.cli_runs.specs.CommandStatus.{EndsChosen, EndsNamed, EndsRecorded, EndsRun, IsListOf, IsRunOf, advice_of, unread_status}
-use Rattle.cli_runs.specs.RunStatus.{start_by}
+use Rattle.cli_runs.specs.CommandStatus.{EndsByLine, EndsChosen, EndsLines, EndsNamed, EndsOn, EndsRecorded, IsListOf, IsRunOf, IsUnbootable, LacksQuota, LacksScenario, RunRefused, advice_of, is_known, named_status, unread_status}
+use Rattle.cli_runs.specs.RunStatus.{IsUnbooted, start_by}
 use Rattle.cli_runs.specs.declared.run_request.RunRequest.{RunRequest}
 use Rattle.cli_runs.specs.declared.view.RunView.{RunView}
 
@@ -25,24 +34,97 @@ use Rattle.cli_runs.specs.declared.view.RunView.{RunView}
 pub of_made : {T E : Type 0} (P : T → Type 0) (made : Result T E) (value : T) → made ≡ Ok value → IfOk made P → P value
 of_made P made value is holds = subst (λ m. IfOk m P) is holds
 
+-- a file that can't be opened isn't known
+pub unopened : (known : Option (List ℕ)) → IfSome known (λ bytes. false ≡ true) → known ≡ None
+unopened None opens = refl
+unopened (Some bytes) opens = absurd (let works : false ≡ true = opens in cc)
+
+-- a list that doesn't boot is refused, unless the host is out of memory
+pub unbooted_ends : (list : Listed) (fault : BootFault) (status : ℕ) → IsUnbooted list fault → status ≡ boot_status fault
+    → HasNoResult (IsUnbootable list) status
+unbooted_ends list fault status unbooted is = by (boot_lacks_memory fault) refl
+  where
+    by : (lacks : Bool) → boot_lacks_memory fault ≡ lacks → HasNoResult (IsUnbootable list) status
+    by true lacks = inl (inl (is ∙ ap (λ b. if b then 1 else 2) lacks))
+    by false lacks =
+        let other : fault ≢ NoMemory = λ no. (let has : boot_lacks_memory fault ≡ true = ap boot_lacks_memory no in cc) in
+        inr (is ∙ ap (λ b. if b then 1 else 2) lacks, ap is_some (unbooted other))
+
+-- the same of the list of a machine
+pub machine_ends : (machine : Machine) (list : Listed) (status : ℕ) → IsListOf machine list → HasNoResult (IsUnbootable list) status
+    → HasNoResult (LacksQuota machine) status
+machine_ends machine list status reads (inl failed) = inl failed
+machine_ends machine list status reads (inr (two, refused)) = inr (two, (list, reads, refused))
+
+-- a list that is chosen isn't read
+pub list_unread : (texts : List ℕ → Option (List ℕ)) (settings : Settings) (named : Option (Bor (List ℕ))) (scenario : List ℕ)
+    (choice : MachineChoice) (path : Option (Bor (List ℕ))) (status : ℕ) → IsChosen texts named scenario choice
+    → option_copied path ≡ list_path choice → (status ≡ 1) ⊎ (status ≡ 2) × LacksList texts settings (option_copied path)
+    → (status ≡ 1) ⊎ (status ≡ 2) × LacksMachine texts settings named scenario
+list_unread texts settings named scenario choice path status chosen is (inl one) = inl one
+list_unread texts settings named scenario choice path status chosen is (inr (two, lacks)) =
+    inr (two, lacks_machine texts settings named scenario choice path chosen is lacks)
+
+-- the rounds of a text have a fault
+pub folded_text : (texts : List ℕ → Option (List ℕ)) (settings : Settings) (named : Option (Bor (List ℕ))) (scenario : List ℕ)
+    (Refuses : Machine → Type 0) (Ends : Machine → List ℕ → UnfoldedText → ℕ → Type 0) (text : List ℕ) (status : ℕ)
+    → IsTextAt texts scenario text → (status ≡ 1) ⊎ (status ≡ 3) → (status ≡ 3 → HasRoundsFault settings text)
+    → EndsOnText texts settings named scenario Refuses Ends status
+folded_text texts settings named scenario Refuses Ends text status at (inl one) fault = inl (inl (inl one))
+folded_text texts settings named scenario Refuses Ends text status at (inr three) fault = inr (text, at, inl (fault three, three))
+
 -- ---- a run
 
--- a run on the machine that is chosen
-pub chosen_ran : (named : Option (Bor (List ℕ))) (scene : RunRequest) (machine : Machine) (status : ℕ) → IsMachineFor named scene.scenario.now machine
-    → EndsAs (EndsNamed machine scene) status → EndsAs (EndsChosen named scene) status
-chosen_ran named scene machine status for =
-    ends_more (EndsNamed machine scene) (EndsChosen named scene) (λ ended ends. (machine, for, ends)) status
+-- the status of a fault is kept for a name that isn't known
+named_kept : (known : Bool) (status : ℕ) → (status == 0) ≡ false → named_status known status ≡ status
+named_kept true status is = refl
+named_kept false status is = ap (λ b. if b then 3 else status) is
 
--- a command's run
-pub command_ran : (named : Option (Bor (List ℕ))) (IsRun : RunRequest → Type 0) (scene : RunRequest) (status : ℕ) → IsRun scene
-    → EndsAs (EndsChosen named scene) status → EndsRun named IsRun status
-command_ran named IsRun scene status is =
-    ends_more (EndsChosen named scene) (λ ended. (scene : RunRequest) × IsRun scene × EndsChosen named scene ended) (λ ended ends. (scene, is, ends)) status
+module _ (texts : List ℕ → Option (List ℕ)) (machine : Machine) (request : RunRequest) where
+  -- a text that is read whole
+  pub whole_ran : (text : List ℕ) (status : ℕ) → IsTextAt texts request.scenario.now text
+      → EndsAs ⊥ (EndsUnfolded request.settings text (EndsLines machine request text)) status
+      → EndsAs (LacksScenario texts request) (EndsOn texts machine request) status
+  whole_ran text status at =
+      ends_by ⊥ (LacksScenario texts request) (EndsUnfolded request.settings text (EndsLines machine request text))
+      (EndsOn texts machine request) (λ never. absurd never) (λ ended ends. inl (text, at, ends)) status
+
+  -- a name is known, or not
+  pub named_ran : (known : Bool) (list : Listed) (ran status : ℕ) → IsListOf machine list → known ≡ is_known request.name list
+      → EndsAs (LacksScenario texts request) (EndsOn texts machine request) ran → status ≡ named_status known ran
+      → EndsAs (LacksScenario texts request) (EndsNamed texts machine request) status
+  named_ran known list ran status reads is (inl failed) by =
+      inl (failed_by (LacksScenario texts request) (named_status known) ran status (named_kept known 1 refl) (named_kept known 2 refl)
+      (named_kept known 141 refl) by failed)
+  named_ran known list ran status reads is (inr ends) by =
+      inr (list, reads, (ran, ends, by ∙ ap (λ (k : Bool). named_status k ran) is))
+
+  -- a file that is run line by line
+  pub long_ran : (status : ℕ) → EndsAs (LacksScenario texts request) (EndsByLine texts machine request) status
+      → EndsAs (LacksScenario texts request) (EndsOn texts machine request) status
+  long_ran status =
+      ends_by (LacksScenario texts request) (LacksScenario texts request) (EndsByLine texts machine request)
+      (EndsOn texts machine request) (λ why. why) (λ ended ends. inr ends) status
+
+module _ (texts : List ℕ → Option (List ℕ)) (named : Option (Bor (List ℕ))) (request : RunRequest) where
+  -- a run on the machine that is chosen
+  pub chosen_ran : (machine : Machine) (status : ℕ) → IsMachineFor texts request.settings named request.scenario.now machine
+      → EndsAs (LacksScenario texts request) (EndsNamed texts machine request) status
+      → EndsAs (RunRefused texts named request) (EndsChosen texts named request) status
+  chosen_ran machine status for =
+      ends_by (LacksScenario texts request) (RunRefused texts named request) (EndsNamed texts machine request)
+      (EndsChosen texts named request) (λ why. inr why) (λ ended ends. (machine, for, ends)) status
+
+  -- there is no machine
+  pub chosen_unread : (status : ℕ) → (status ≡ 1) ⊎ (status ≡ 2) × LacksMachine texts request.settings named request.scenario.now
+      → EndsAs (RunRefused texts named request) (EndsChosen texts named request) status
+  chosen_unread status (inl one) = inl (inl (inl one))
+  chosen_unread status (inr (two, lacks)) = inl (inr (two, inl lacks))
 
 -- of a view that is one of these
-pub whole_run : (scenario : List ℕ) (settings : Settings) (view : RunView) (IsView : RunView → Type 0) (scene : RunRequest) → IsView view
-    → IsRunOf scenario settings (λ v. v ≡ view) None false scene → IsRunOf scenario settings IsView None false scene
-whole_run scenario settings view IsView scene viewed is = (is.0, is.1, subst IsView (sym is.2) viewed, is.3, is.4)
+pub whole_run : (scenario : List ℕ) (settings : Settings) (view : RunView) (IsView : RunView → Type 0) (request : RunRequest) → IsView view
+    → IsRunOf scenario settings (λ v. v ≡ view) None false request → IsRunOf scenario settings IsView None false request
+whole_run scenario settings view IsView request viewed is = (is.0, is.1, subst IsView (sym is.2) viewed, is.3, is.4)
 
 -- ---- a recording
 
@@ -50,10 +132,12 @@ whole_run scenario settings view IsView scene viewed is = (is.0, is.1, subst IsV
 pub recorded : (settings : Settings) (strict : Bool) (machine : Machine) (list : Listed) (text : List ℕ) (lines : UnfoldedText) (first : RunPosition) (marks : List RoundMark)
     (bytes : List ℕ) (warnings : ℕ) (unread : List UnreadLine) (ran status : ℕ) → IsListOf machine list → rounds_of settings text ≡ Ok lines
     → first ≡ start_by settings marks → marks ≡ lines.marks → bytes ≡ lines.text → warnings ≡ length (advice_of None list text)
-    → unread_view unread ≡ unread_lines (world_of list) first bytes → EndsAs (λ s. s ≡ unread_status (length unread)) ran
-    → status ≡ warned strict warnings ran → EndsAs (EndsUnfolded settings text (EndsRecorded settings strict machine text)) status
+    → unread_view unread ≡ unread_lines (world_of list) first bytes → EndsAs ⊥ (λ s. s ≡ unread_status (length unread)) ran
+    → status ≡ warned strict warnings ran
+    → EndsAs (LacksQuota machine) (EndsUnfolded settings text (EndsRecorded settings strict machine text)) status
 recorded settings strict machine list text lines first marks bytes warnings unread ran status reads unfolds first_is marks_are bytes_are warnings_are are ends is =
-    ends_warned (λ s. s ≡ unread_status (length unread)) (EndsUnfolded settings text (EndsRecorded settings strict machine text)) strict warnings ran status
+    ends_warned ⊥ (LacksQuota machine) (λ s. s ≡ unread_status (length unread))
+    (EndsUnfolded settings text (EndsRecorded settings strict machine text)) strict warnings ran status (λ never. absurd never)
     (λ ended by. inr (
       lines,
       unfolds,

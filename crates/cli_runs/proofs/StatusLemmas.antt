@@ -1,5 +1,5 @@
 -- The status of a run, by what its view promises.
-use Rattle.std.proofs.Common.{◌≡◌, ℕ, List, ◌++◌, append-nil, Bool, false, true, Option, Some, None, IfNone, IfSome, refl, sym, ◌∙◌, ap, subst}
+use Rattle.std.proofs.Common.{◌≡◌, ℕ, List, ◌++◌, append-nil, Bool, false, true, Option, Some, None, IfNone, IfSome, refl, sym, ◌∙◌, ap, subst, inl, inr}
 use Rattle.std.specs.Prelude.{◌==◌, ◌||◌, is_some, length, nat_lt, if◌then◌else◌, IfOk, Result, Ok, Err}
 use Rattle.list_parser.specs.declared.fault.BootFault.{BootFault}
 use Rattle.run_lines.specs.LineRuns.{EndsFor}
@@ -10,11 +10,13 @@ use Rattle.run_scenario.specs.LineSteps.{LineStep}
 use Rattle.run_scenario.specs.RunCalls.{calls_answered}
 use Rattle.run_scenario.specs.ScenarioEnd.{status_of}
 use Rattle.run_scenario.specs.ScenarioRuns.{most_lines}
-use Rattle.run_scenario.specs.Writes.{AreAll, IsRunFrom, RunStart, steps_from}
+use Rattle.run_scenario.specs.Writes.{AreAll, IsRunFrom, RunStart, start_on, steps_from}
 use Rattle.run_scenario.specs.declared.scenario_end.ScenarioEnd.{ScenarioEnd}
 use Rattle.view_runs.specs.Alone.{CountsAlone}
 use Rattle.view_runs.specs.declared.alone_run.AloneComparison.{AloneComparison}
-use Rattle.cli_runs.specs.RunStatus.{HasStatus, has_no_line, have_errors}
+use Rattle.line_steps.specs.RunPosition.{RunPosition}
+use Rattle.cli_base.specs.declared.machine.Machine.{Machine}
+use Rattle.cli_runs.specs.RunStatus.{EndsFrom, HasStatus, has_no_line, have_errors, only_of}
 use Rattle.cli_runs.specs.declared.view.RunView.{RunView}
 
 -- all lines ran
@@ -27,15 +29,49 @@ status_is : (ending : ScenarioEnd) (errors : Bool) → ending.fault ≡ None →
 status_is ending errors none are =
     ap (λ (f : Option LineRunFault). if is_some f then 1 else (if nat_lt 0 ending.complaints then 3 else 0)) none ∙ ap (λ b. if b then 3 else 0) are
 
+-- without a fault this is known of an end
+abbrev KnownEnd : RunView → RunStart → Option (List ℕ) → ScenarioEnd → Option LineRunFault → Type 0
+KnownEnd view start input ending fault =
+    IfNone fault ((lines : List (List ℕ)) × IfSome input (AreAll lines)
+    × (status_of (Ok ending) ≡ (if have_errors view start lines then 3 else 0)))
+
+-- of an input that isn't known less is known
+without_input : (view : RunView) (start : RunStart) (input : Option (List ℕ)) (ending : ScenarioEnd) (fault : Option LineRunFault)
+    → KnownEnd view start input ending fault → KnownEnd view start None ending fault
+without_input view start input ending None (lines, all, is) = (lines, tt, is)
+without_input view start input ending (Some fault) known = tt
+
+unknown_input : (view : RunView) (start : RunStart) (input : Option (List ℕ)) (ended : Result ScenarioEnd BootFault)
+    → IfOk ended (HasStatus view start input) → IfOk ended (HasStatus view start None)
+unknown_input view start input (Ok ending) has = without_input view start input ending ending.fault has
+unknown_input view start input (Err fault) has = tt
+
+-- a run of all that a file has left is one of the file's bytes, if these are known
+pub ends_by_file : (machine : Machine) (view : RunView) (first : RunPosition) (bytes input : Option (List ℕ)) (status : ℕ)
+    → IfSome bytes (λ text. input ≡ Some text) → EndsFrom machine view first input status → EndsFrom machine view first bytes status
+ends_by_file machine view first None input status is (list, reads, inl one) = (list, reads, inl one)
+ends_by_file machine view first None input status is (list, reads, inr ran) = (
+  list,
+  reads,
+  inr (record {
+    ended = ran.ended;
+    unread = ran.unread;
+    ends = unknown_input view (start_on (only_of view) first list) input ran.ended ran.ends;
+    unbooted = ran.unbooted;
+    status_is = ran.status_is;
+  }),
+)
+ends_by_file machine view first (Some text) input status is ends = subst (λ i. EndsFrom machine view first i status) is ends
+
 -- nothing more
 or_none : (b : Bool) → (b || false) ≡ b
 or_none true = refl
 or_none false = refl
 
 module _ (view : RunView) (start : RunStart) (input : Option (List ℕ)) where
-  -- without a fault this is known of an end
+  -- the same of this run
   abbrev Known : ScenarioEnd → Option LineRunFault → Type 0
-  Known ending f = IfNone f ((lines : List (List ℕ)) × IfSome input (AreAll lines) × (status_of (Ok ending) ≡ (if have_errors view start lines then 3 else 0)))
+  Known ending f = KnownEnd view start input ending f
 
   -- a run of all lines
   status_of_run : {told behind : List LineStep → List ℕ} {calls : Bool} {reports : List (List ℕ) → Type 0} {ending : ScenarioEnd} {rest w w' : Option (List ℕ)} {failed : Bool} → ((steps : List LineStep) → has_no_line view steps ≡ false) →
@@ -103,8 +139,3 @@ module _ (view : RunView) (start : RunStart) (input : Option (List ℕ)) where
       by : (f : Option LineRunFault) → ending.fault ≡ f → IfNone f (ending ≡ played) → HasStatus view start input ending
       by None is same = subst (λ e. HasStatus view start input e) (sym same) has
       by (Some fault) is same = has_fault ending fault is
-
-  -- of a run whose rows are printed after it
-  pub status_of_printed : (r : Result ScenarioEnd BootFault) (played : ScenarioEnd) → IfOk r (λ ending. IfNone ending.fault (ending ≡ played)) → HasStatus view start input played → IfOk r (HasStatus view start input)
-  status_of_printed (Ok ending) played same has = has_status_after played ending same has
-  status_of_printed (Err fault) played same has = tt

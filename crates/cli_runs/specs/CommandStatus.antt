@@ -1,5 +1,5 @@
 -- The exit status of each command that runs a scenario.
-use Rattle.std.specs.Prelude.{◌≡◌, ◌⊎◌, ℕ, ◌==◌, ◌||◌, Bool, true, false, List, [], is_some, length, nat_lt, if◌then◌else◌, position, Option, Some, None, ⊤, Ok}
+use Rattle.std.specs.Prelude.{◌≡◌, ◌⊎◌, ℕ, ◌==◌, ◌&&◌, ◌||◌, Bool, true, false, List, [], codes, is_some, length, nat_lt, if◌then◌else◌, position, Option, Some, None, MatchBool, ⊤, Ok}
 use Rattle.std.specs.Borrow.{Bor}
 use Rattle.std.specs.List.{list_any, slice_split}
 use Rattle.std.specs.Option.{option_copied}
@@ -7,6 +7,7 @@ use Rattle.std.specs.Str.{bytes_eq}
 use Rattle.own_model.specs.Listed.{Listed, ListedEntry}
 use Rattle.own_model.specs.Text.{lines_of}
 use Rattle.list_parser.specs.Depth.{runs_script}
+use Rattle.list_parser.specs.Quota.{quota_fault}
 use Rattle.list_parser.specs.StartText.{list_in}
 use Rattle.line_advice.specs.Advice.{Advice, is_newline, scenario_advice}
 use Rattle.line_advice.specs.Services.{kinds_of, services_of}
@@ -21,13 +22,14 @@ use Rattle.cli_options.specs.declared.command_options.AloneOptions.{AloneOptions
 use Rattle.cli_options.specs.declared.command_options.RecordOptions.{RecordOptions}
 use Rattle.cli_options.specs.declared.command_options.RunOptions.{RunOptions}
 use Rattle.cli_options.specs.declared.command_options.TraceOptions.{TraceOptions}
-use Rattle.cli_base.specs.MachineChoice.{IsMachineFor}
+use Rattle.cli_base.specs.Files.{IsTextAt, IsTooLong, IsUnknown}
+use Rattle.cli_base.specs.MachineChoice.{IsMachineFor, LacksMachine}
 use Rattle.cli_base.specs.Statuses.{EndsAs, warned}
 use Rattle.cli_base.specs.Texts.{bytes_of}
 use Rattle.cli_base.specs.Unfolding.{EndsOnText, EndsUnfolded}
 use Rattle.cli_base.specs.declared.machine.Machine.{Machine}
 use Rattle.cli_base.specs.declared.settings.Settings.{Settings}
-use Rattle.cli_runs.specs.RunStatus.{EndsPlay, start_by}
+use Rattle.cli_runs.specs.RunStatus.{EndsFrom, start_by}
 use Rattle.cli_runs.specs.declared.run_request.RunRequest.{RunRequest}
 use Rattle.cli_runs.specs.declared.view.RunView.{RunView}
 use Rattle.cli_runs.specs.declared.view.RunView.TheVariants.{Run, Trace, Accounts, Alone}
@@ -50,16 +52,32 @@ warnings_of (Alone name) list text = 0
 
 -- the lines of a text ran, and the status is theirs, or that of a warning
 abbrev pub EndsLines : Machine → RunRequest → List ℕ → UnfoldedText → ℕ → Type 0
-EndsLines machine scene text lines status =
+EndsLines machine request text lines status =
     (list : Listed) × IsListOf machine list
-    × ((ran : ℕ) × EndsPlay machine scene.viewing (start_by scene.settings lines.marks) (Some lines.text) ran
-    × (status ≡ warned scene.strict (warnings_of scene.viewing list text) ran))
+    × ((ran : ℕ) × EndsFrom machine request.viewing (start_by request.settings lines.marks) (Some lines.text) ran
+    × (status ≡ warned request.strict (warnings_of request.viewing list text) ran))
 
--- a scenario ran on a machine: a file's text with its rounds unfolded; or line by line what isn't read whole, which isn't strict
-abbrev pub EndsOn : Machine → RunRequest → ℕ → Type 0
-EndsOn machine scene status =
-    ((text : List ℕ) × EndsUnfolded scene.settings text (EndsLines machine scene text) status)
-    ⊎ ((scene.strict ≡ false) × EndsPlay machine scene.viewing (start_by scene.settings []) None status)
+-- a text is read whole, and its rounds are unfolded
+abbrev pub EndsWhole : (List ℕ → Option (List ℕ)) → Machine → RunRequest → ℕ → Type 0
+EndsWhole texts machine request status =
+    (text : List ℕ) × IsTextAt texts request.scenario.now text
+    × EndsUnfolded request.settings text (EndsLines machine request text) status
+
+-- a path is that of standard input
+abbrev pub is_input : List ℕ → Bool
+is_input path = bytes_eq path (codes "-")
+
+-- a scenario isn't strict and isn't read whole, and its lines are run one by one: those of standard input, or of a file that is too
+-- long, as far as it is known
+abbrev pub EndsByLine : (List ℕ → Option (List ℕ)) → Machine → RunRequest → ℕ → Type 0
+EndsByLine texts machine request status =
+    let path = request.scenario.now in
+    let Ends = λ (input : Option (List ℕ)). EndsFrom machine request.viewing (start_by request.settings []) input status in
+    (request.strict ≡ false) × (((is_input path ≡ true) × Ends None) ⊎ (IsTooLong texts path × Ends (texts path)))
+
+-- a scenario ran on a machine
+abbrev pub EndsOn : (List ℕ → Option (List ℕ)) → Machine → RunRequest → ℕ → Type 0
+EndsOn texts machine request status = EndsWhole texts machine request status ⊎ EndsByLine texts machine request status
 
 -- a component has a name, if one is asked for
 abbrev pub is_known : Option (Bor (List ℕ)) → Listed → Bool
@@ -70,24 +88,52 @@ is_known (Some name) list = is_some (position (λ entry. bytes_eq entry.path nam
 abbrev pub named_status : Bool → ℕ → ℕ
 named_status known status = if known then status else (if status == 0 then 3 else status)
 
-abbrev pub EndsNamed : Machine → RunRequest → ℕ → Type 0
-EndsNamed machine scene status =
-    (list : Listed) × IsListOf machine list × ((ran : ℕ) × EndsOn machine scene ran × (status ≡ named_status (is_known scene.name list) ran))
+abbrev pub EndsNamed : (List ℕ → Option (List ℕ)) → Machine → RunRequest → ℕ → Type 0
+EndsNamed texts machine request status =
+    (list : Listed) × IsListOf machine list
+    × ((ran : ℕ) × EndsOn texts machine request ran × (status ≡ named_status (is_known request.name list) ran))
 
 -- on the machine of the list that is chosen
-abbrev pub EndsChosen : Option (Bor (List ℕ)) → RunRequest → ℕ → Type 0
-EndsChosen named scene status = (machine : Machine) × IsMachineFor named scene.scenario.now machine × EndsNamed machine scene status
+abbrev pub EndsChosen : (List ℕ → Option (List ℕ)) → Option (Bor (List ℕ)) → RunRequest → ℕ → Type 0
+EndsChosen texts named request status =
+    (machine : Machine) × IsMachineFor texts request.settings named request.scenario.now machine × EndsNamed texts machine request status
+
+-- ---- refusals
+
+-- with `--strict` a scenario has no warnings: it isn't read whole
+abbrev pub LacksWarnings : (List ℕ → Option (List ℕ)) → RunRequest → Type 0
+LacksWarnings texts request =
+    let path = request.scenario.now in
+    (request.strict ≡ true) × ((is_input path ≡ true) ⊎ IsTooLong texts path)
+
+-- no scenario is run: its text isn't known, or with `--strict` it has no warnings
+abbrev pub LacksScenario : (List ℕ → Option (List ℕ)) → RunRequest → Type 0
+LacksScenario texts request = LacksWarnings texts request ⊎ IsUnknown texts request.scenario.now
+
+-- there is no machine or no scenario
+abbrev pub RunRefused : (List ℕ → Option (List ℕ)) → Option (Bor (List ℕ)) → RunRequest → Type 0
+RunRefused texts named request =
+    LacksMachine texts request.settings named request.scenario.now ⊎ LacksScenario texts request
+
+-- a list doesn't boot, or that of a machine
+abbrev pub IsUnbootable : Listed → Type 0
+IsUnbootable list = is_some (quota_fault list) ≡ true
+
+abbrev pub LacksQuota : Machine → Type 0
+LacksQuota machine = (list : Listed) × IsListOf machine list × IsUnbootable list
 
 -- ---- commands
 
 -- a run is of a scenario with these settings, of such a view, of a name if one is given, and strict or not
 abbrev pub IsRunOf : List ℕ → Settings → (RunView → Type 0) → Option (List ℕ) → Bool → RunRequest → Type 0
-IsRunOf scenario settings IsView name strict scene =
-    (scene.scenario.now ≡ scenario) × (scene.settings ≡ settings) × IsView scene.viewing × (option_copied scene.name ≡ name) × (scene.strict ≡ strict)
+IsRunOf scenario settings IsView name strict request =
+    (request.scenario.now ≡ scenario) × (request.settings ≡ settings) × IsView request.viewing × (option_copied request.name ≡ name)
+    × (request.strict ≡ strict)
 
--- a command ends with the status of such a run
-abbrev pub EndsRun : Option (Bor (List ℕ)) → (RunRequest → Type 0) → ℕ → Type 0
-EndsRun named IsRun status = EndsAs (λ ended. (scene : RunRequest) × IsRun scene × EndsChosen named scene ended) status
+-- a command ends with the status of such a run, or refuses it
+abbrev pub EndsRun : (List ℕ → Option (List ℕ)) → Option (Bor (List ℕ)) → (RunRequest → Type 0) → ℕ → Type 0
+EndsRun texts named IsRun status =
+    (request : RunRequest) × IsRun request × EndsAs (RunRefused texts named request) (EndsChosen texts named request) status
 
 -- the views of the commands
 abbrev pub IsTranscript : Option (List ℕ) → RunView → Type 0
@@ -114,27 +160,29 @@ IsAloneView named (Trace json) = ⊥
 IsAloneView named (Accounts form) = ⊥
 IsAloneView named (Alone name) = name.now ≡ named
 
-abbrev pub RunEnds : RunOptions → Settings → ℕ → Type 0
-RunEnds asked settings status =
+abbrev pub RunEnds : (List ℕ → Option (List ℕ)) → RunOptions → Settings → ℕ → Type 0
+RunEnds texts asked settings status =
     let only = option_copied asked.only in
-    EndsRun asked.machine (IsRunOf asked.scenario.now settings (IsTranscript only) only asked.strict) status
+    EndsRun texts asked.machine (IsRunOf asked.scenario.now settings (IsTranscript only) only asked.strict) status
 
-abbrev pub TraceEnds : TraceOptions → Settings → ℕ → Type 0
-TraceEnds asked settings status = EndsRun asked.machine (IsRunOf asked.scenario.now settings IsTrace None false) status
+abbrev pub TraceEnds : (List ℕ → Option (List ℕ)) → TraceOptions → Settings → ℕ → Type 0
+TraceEnds texts asked settings status =
+    EndsRun texts asked.machine (IsRunOf asked.scenario.now settings IsTrace None false) status
 
-abbrev pub AccountsEnd : AccountsOptions → Settings → ℕ → Type 0
-AccountsEnd asked settings status = EndsRun asked.machine (IsRunOf asked.scenario.now settings IsAccountView None false) status
+abbrev pub AccountsEnd : (List ℕ → Option (List ℕ)) → AccountsOptions → Settings → ℕ → Type 0
+AccountsEnd texts asked settings status =
+    EndsRun texts asked.machine (IsRunOf asked.scenario.now settings IsAccountView None false) status
 
-abbrev pub AloneEnds : AloneOptions → List ℕ → Settings → ℕ → Type 0
-AloneEnds asked scenario settings status =
+abbrev pub AloneEnds : (List ℕ → Option (List ℕ)) → AloneOptions → List ℕ → Settings → ℕ → Type 0
+AloneEnds texts asked scenario settings status =
     let name = asked.name.now in
-    EndsRun asked.machine (IsRunOf scenario settings (IsAloneView name) (Some name) false) status
+    EndsRun texts asked.machine (IsRunOf scenario settings (IsAloneView name) (Some name) false) status
 
 -- ---- all scripts alone
 
 -- a line of a text has an error in a run from there on
-abbrev pub has_error : RunStart → List ℕ → Bool
-has_error start text = nat_lt 0 (errors_of start.only start.world start.awaited (steps_from start (lines_of text)))
+abbrev pub text_has_error : RunStart → List ℕ → Bool
+text_has_error start text = nat_lt 0 (errors_of start.only start.world start.awaited (steps_from start (lines_of text)))
 
 -- the status of a comparison: 1 for a fault of the run, 3 if a line has an error or the script has another reply alone
 abbrev pub comparison_status : AloneComparison → ℕ
@@ -144,7 +192,7 @@ comparison_status compared =
 
 -- without a fault: 3 exactly if a line has an error, since no script has another reply alone
 abbrev pub lines_status : Listed → Settings → UnfoldedText → ℕ
-lines_status list settings lines = if has_error (start_on None (start_by settings lines.marks) list) lines.text then 3 else 0
+lines_status list settings lines = if text_has_error (start_on None (start_by settings lines.marks) list) lines.text then 3 else 0
 
 -- a machine without scripts has nothing to compare
 abbrev pub compared_status : List ListedEntry → ℕ → ℕ
@@ -154,9 +202,10 @@ abbrev pub EndsCompared : Settings → Machine → UnfoldedText → ℕ → Type
 EndsCompared settings machine lines status =
     (list : Listed) × IsListOf machine list × (status ≡ compared_status list.entries (lines_status list settings lines))
 
-abbrev pub AllAloneEnd : AloneOptions → Settings → ℕ → Type 0
-AllAloneEnd asked settings status =
-    EndsOnText asked.machine asked.name.now settings (λ machine text lines ended. EndsCompared settings machine lines ended) status
+abbrev pub AllAloneEnd : (List ℕ → Option (List ℕ)) → AloneOptions → Settings → ℕ → Type 0
+AllAloneEnd texts asked settings status =
+    EndsOnText texts settings asked.machine asked.name.now LacksQuota
+    (λ machine text lines ended. EndsCompared settings machine lines ended) status
 
 -- ---- a recording
 
@@ -174,5 +223,8 @@ abbrev pub EndsRecorded : Settings → Bool → Machine → List ℕ → Unfolde
 EndsRecorded settings strict machine text lines status =
     (list : Listed) × IsListOf machine list × (status ≡ recorded_status list settings strict text lines)
 
-abbrev pub RecordEnds : RecordOptions → Settings → ℕ → Type 0
-RecordEnds asked settings status = EndsOnText asked.machine asked.scenario.now settings (EndsRecorded settings asked.strict) status
+-- standard input isn't written
+abbrev pub RecordEnds : (List ℕ → Option (List ℕ)) → RecordOptions → Settings → ℕ → Type 0
+RecordEnds texts asked settings status =
+    MatchBool (asked.write && is_input asked.scenario.now) (status ≡ 2)
+    (EndsOnText texts settings asked.machine asked.scenario.now LacksQuota (EndsRecorded settings asked.strict) status)

@@ -1,3 +1,4 @@
 pub mod CommandStatus
 pub mod RunEnd
 pub mod RunStatus
+pub mod UnreadReports

@@ -1,9 +1,11 @@
 -- The errors that the exit status of a run comes from.
-use Rattle.std.specs.Prelude.{◌≡◌, ◌⊎◌, ℕ, ◌==◌, ◌||◌, Bool, false, List, length, nat_lt, if◌then◌else◌, Option, Some, None, IfNone, IfSome, IfOk, Result, Ok}
+use Rattle.std.specs.Prelude.{◌≡◌, ◌≢◌, ◌⊎◌, ℕ, ◌==◌, ◌||◌, Bool, false, List, length, nat_lt, if◌then◌else◌, Option, Some, None, IfErr, IfNone, IfSome, IfOk, Result, Ok}
 use Rattle.std.specs.Option.{option_copied}
 use Rattle.line_names.specs.RoundMarks.{RoundMark}
 use Rattle.line_steps.specs.RunPosition.{RunPosition, first_position}
+use Rattle.list_parser.specs.Quota.{quota_fault}
 use Rattle.list_parser.specs.declared.fault.BootFault.{BootFault}
+use Rattle.list_parser.specs.declared.fault.BootFault.TheVariants.{NoMemory}
 use Rattle.run_scenario.specs.Judging.{errors_of}
 use Rattle.run_scenario.specs.LineSteps.{LineStep}
 use Rattle.run_scenario.specs.RunCalls.{calls_answered}
@@ -14,7 +16,7 @@ use Rattle.run_scenario.specs.declared.scenario_input.ScenarioInput.{ScenarioInp
 use Rattle.own_model.specs.Listed.{Listed}
 use Rattle.list_parser.specs.StartText.{list_in}
 use Rattle.cli_base.specs.Texts.{bytes_of}
-use Rattle.cli_base.specs.Unfolding.{names_of}
+use Rattle.cli_base.specs.Given.{names_of}
 use Rattle.cli_base.specs.declared.machine.Machine.{Machine}
 use Rattle.cli_base.specs.declared.settings.Settings.{Settings}
 use Rattle.cli_runs.specs.RunEnd.{end_status}
@@ -51,18 +53,22 @@ HasStatus view start input ending =
     IfNone ending.fault ((lines : List (List ℕ)) × IfSome input (AreAll lines)
     × (status_of (Ok ending) ≡ (if have_errors view start lines then 3 else 0)))
 
--- a run ended so, and this is its status, unless nobody reads what is written
-pub record HasPlayed (view : RunView) (start : RunStart) (input : Option (List ℕ)) (status : ℕ) : Type 0 where
+-- a run didn't begin: the host is out of memory, or the list doesn't boot
+abbrev pub IsUnbooted : Listed → BootFault → Type 0
+IsUnbooted list fault = fault ≢ NoMemory → quota_fault list ≡ Some fault
+
+-- a run of a list's machine from a position on ended so, and this is its status, unless nobody reads what is written
+pub record HasRun (list : Listed) (view : RunView) (first : RunPosition) (input : Option (List ℕ)) (status : ℕ) : Type 0 where
   pub ended : Result ScenarioEnd BootFault
   pub unread : Bool
-  pub ends : IfOk ended (HasStatus view start input)
+  pub ends : IfOk ended (HasStatus view (start_on (only_of view) first list) input)
+  pub unbooted : IfErr ended (IsUnbooted list)
   pub status_is : status ≡ end_status ended unread
 
--- a run on a machine ended so from this position on, or the host was out of memory before its first line
-abbrev pub EndsPlay : Machine → RunView → RunPosition → Option (List ℕ) → ℕ → Type 0
-EndsPlay machine view first input status =
-    (list : Listed) × (list_in (bytes_of machine.text) ≡ Ok list)
-    × ((status ≡ 1) ⊎ HasPlayed view (start_on (only_of view) first list) input status)
+-- a run on a machine ended so, or the host was out of memory before its first line
+abbrev pub EndsFrom : Machine → RunView → RunPosition → Option (List ℕ) → ℕ → Type 0
+EndsFrom machine view first input status =
+    (list : Listed) × (list_in (bytes_of machine.text) ≡ Ok list) × ((status ≡ 1) ⊎ HasRun list view first input status)
 
 -- the position before the first line of a scenario with these round marks
 abbrev pub start_by : Settings → List RoundMark → RunPosition

@@ -1,33 +1,33 @@
 //! The command `accounts`: the accounts after a scenario.
-ghost use Rattle.std.specs.Prelude.{◌≡◌, IfNone, IfOk};
+ghost use Rattle.std.specs.Prelude.{◌≡◌, IfErr, IfNone, IfOk};
 ghost use Rattle.cli_runs.specs.CommandStatus.{AccountsEnd};
-ghost use Rattle.cli_runs.specs.RunStatus.{HasStatus, start_of};
+ghost use Rattle.cli_runs.specs.RunStatus.{HasStatus, IsUnbooted, start_of};
 ghost use Rattle.cli_runs.specs.declared.view.AccountsForm.{AccountsForm as AccountsForms};
 ghost use Rattle.cli_runs.specs.declared.view.RunView.TheVariants.{Accounts};
 
 use crate::run_end::RunEnd;
-use crate::run_request::{RunRequest, play};
+use crate::run_request::{RunRequest, run_chosen};
 use crate::view::{AccountsForm, RowsForm, RunView};
-use cli_base::{OutputStream, Reader, Settings, Writer, plain_writer};
+use cli_base::{Host, OutputStream, Reader, Settings, Writer, plain_writer};
 use cli_options::AccountsOptions;
 use run_lines::{LineRunFault, Source};
-use run_scenario::ScenarioInput;
+use run_scenario::{ScenarioEnd, ScenarioInput};
 use std::alloc::AllocError;
 use std::io;
-use std::io::{ErrorKind, Write};
+use std::io::{ErrorKind, Read, Write};
 use view_accounts::{AccountList, AccountRows, accounts};
 
 /// Runs a scenario, and prints all accounts at its end. Returns the exit status.
-pub fn list_accounts<'a>(
-    rt: &HostRuntime,
+pub fn list_accounts<'a, H: Host>(
+    host: &H,
     asked: &'a AccountsOptions<'a>,
     settings: Settings<'a>,
 ) -> u8
-    ensures { AccountsEnd asked.now settings.entry result }
+    ensures { AccountsEnd (H.text_at host.now) asked.now settings.entry result }
 {
     let viewing = RunView::Accounts(form_asked(asked));
-    play(
-        rt,
+    run_chosen(
+        host,
         asked.machine,
         RunRequest::whole(asked.scenario, settings, viewing),
     )
@@ -45,19 +45,26 @@ fn form_asked(asked: &AccountsOptions<'_>) -> AccountsForm {
 }
 
 /// Runs a scenario, and prints the rows of its accounts in a form if no fault stops the run.
-pub(crate) fn print_accounts<'r>(
+pub(crate) fn print_accounts<'r, F: Read>(
     rt: &HostRuntime,
-    play: ScenarioInput<'_>,
+    input: ScenarioInput<'_>,
     form: RowsForm,
-    reader: &mut Reader<'r>,
+    reader: &mut Reader<'r, F>,
     complaints: &mut Writer<'_>,
 ) -> RunEnd
     ensures status { (view : AccountsForms) → IfOk result.ended (HasStatus (Accounts view)
-        (start_of (Accounts view) play.entry) (⟦<Reader<'r> as Source>⟧.remaining reader.old)) }
+        (start_of (Accounts view) input.entry) (⟦<Reader<'r, F> as Source>⟧.remaining reader.old)) }
+    ensures unbooted { IfErr result.ended (IsUnbooted input.entry.list.now) }
 {
     let mut nowhere = plain_writer(rt, OutputStream::Dropped);
-    match accounts(rt.alloc(), play, reader, &mut nowhere, complaints) {
-        Ok(list) => print_list(rt, list, form),
+    match accounts(rt.alloc(), input, reader, &mut nowhere, complaints) {
+        Ok(list) => {
+            let (ending, unread) = print_list(rt, list, form);
+            RunEnd {
+                ended: Ok(ending),
+                unread,
+            }
+        }
         Err(fault) => RunEnd {
             ended: Err(fault),
             unread: false,
@@ -65,9 +72,9 @@ pub(crate) fn print_accounts<'r>(
     }
 }
 
-// Prints an account list, unless a fault stopped the run.
-fn print_list(rt: &HostRuntime, list: AccountList, form: RowsForm) -> RunEnd
-    ensures { IfOk result.ended (λ ending. IfNone ending.fault (ending ≡ list.ending)) }
+// Prints an account list, unless a fault stopped the run. Returns how the run ended, and whether nobody reads what is written.
+fn print_list(rt: &HostRuntime, list: AccountList, form: RowsForm) -> (ScenarioEnd, bool)
+    ensures { IfNone result.0.fault (result.0 ≡ list.ending) }
 {
     let AccountList { mut ending, rows } = list;
     let mut unread = false;
@@ -77,10 +84,7 @@ fn print_list(rt: &HostRuntime, list: AccountList, form: RowsForm) -> RunEnd
             ending.fault = Some(fault_of(&error));
         }
     }
-    RunEnd {
-        ended: Ok(ending),
-        unread,
-    }
+    (ending, unread)
 }
 
 // Returns the fault of a run whose rows can't be printed: out of memory, or a failed write.

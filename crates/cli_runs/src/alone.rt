@@ -1,16 +1,16 @@
 //! The command `alone`: replies to a script in the whole run and alone, for one script or for each.
 ghost use Rattle.std.specs.Prelude.{◌≡◌, ◌==◌, ◌||◌, if◌then◌else◌, false, Some, IfErr, IfOk};
 ghost use Rattle.line_rounds.specs.Views.{whole_view};
-ghost use Rattle.cli_base.specs.Statuses.{EndsAs, HasFailed};
-ghost use Rattle.cli_runs.specs.CommandStatus.{AllAloneEnd, AloneEnds, EndsCompared, IsAloneView, IsRunOf, compared_status, comparison_status, lines_status};
+ghost use Rattle.cli_base.specs.Statuses.{EndsAs, HasNoResult};
+ghost use Rattle.cli_runs.specs.CommandStatus.{AllAloneEnd, AloneEnds, EndsCompared, IsAloneView, IsRunOf, IsUnbootable, LacksQuota, compared_status, comparison_status, lines_status};
 
 use crate::run_end::RunEnd;
-use crate::run_request::{NONE_EARLIER, RunRequest, play};
+use crate::run_request::{NONE_EARLIER, RunRequest, run_chosen};
 use crate::view::RunView;
 use cli_base::{
-    Machine, MachineChoice, Origin, OutputStream, Printing, REFUSED, Settings, UNWRITTEN, Writer,
-    no_memory, plain_writer, report_boot_fault, scenario_text, status_after, status_of, text_of,
-    unfolded, watched_reader,
+    Host, Machine, MachineChoice, Origin, OutputStream, Printing, Settings, UNWRITTEN, Writer,
+    boot_status, no_memory, plain_writer, report_boot_fault, scenario_text, status_after,
+    status_of, text_of, unfolded, watched_reader,
 };
 use cli_options::AloneOptions;
 use init_core::StartList;
@@ -25,15 +25,19 @@ use view_runs::{AloneComparison, alone};
 const DIFFERENT: u8 = 3;
 
 /// Prints the replies to a component in the whole run of a scenario and alone. Returns the exit status.
-pub fn show_alone<'a>(
-    rt: &HostRuntime,
+pub fn show_alone<'a, H: Host>(
+    host: &H,
     asked: &'a AloneOptions<'a>,
     scenario: &'a str,
     settings: Settings<'a>,
 ) -> u8
-    ensures { AloneEnds asked.now scenario.now settings.entry result }
+    ensures { AloneEnds (H.text_at host.now) asked.now scenario.now settings.entry result }
 {
-    play(rt, asked.machine, alone_of(asked.name, scenario, settings))
+    run_chosen(
+        host,
+        asked.machine,
+        alone_of(asked.name, scenario, settings),
+    )
 }
 
 // Returns the run whose replies to the component of a name are shown.
@@ -52,39 +56,40 @@ fn alone_of<'a>(name: &'a str, scenario: &'a str, settings: Settings<'a>) -> Run
 
 /// Runs a scenario once for each script of the machine, and prints what `show_alone` prints. Diagnostics are printed once.
 /// Returns the exit status: 3 also if a script has other replies alone.
-pub fn show_all_alone<'a>(
-    rt: &HostRuntime,
+pub fn show_all_alone<'a, H: Host>(
+    host: &H,
     asked: &'a AloneOptions<'a>,
     settings: Settings<'a>,
 ) -> u8
-    ensures { AllAloneEnd asked.now settings.entry result }
+    ensures { AllAloneEnd (H.text_at host.now) asked.now settings.entry result }
 {
-    let scenario = match scenario_text(rt, settings.form, asked.name) {
+    let scenario = match scenario_text(host, settings.form, asked.name) {
         Ok(scenario) => scenario,
         Err(status) => return status,
     };
+    let rt = host.rt();
     let lines = match unfolded(rt, asked.name, &scenario, settings) {
         Ok(lines) => lines,
         Err(status) => return status,
     };
-    let list = match MachineChoice::of(rt, settings.form, asked.machine, asked.name) {
+    let list = match MachineChoice::of(host, settings.form, asked.machine, asked.name) {
         Ok(list) => list,
         Err(status) => return status,
     };
-    let all = All {
+    let options = ComparisonOptions {
         scenario: asked.name,
         summary: asked.summary,
         settings,
     };
-    match Machine::read(rt, list.path(), settings) {
-        Ok(machine) => tell_each(rt, &machine, &lines, all),
+    match Machine::read(host, list.path(), settings) {
+        Ok(machine) => compare_scripts(host, &machine, &lines, options),
         Err(status) => status,
     }
 }
 
 // The options of a comparison of all scripts.
 #[derive(Clone, Copy)]
-struct All<'a> {
+struct ComparisonOptions<'a> {
     // The path of the scenario.
     scenario: &'a str,
     // Whether only the last line is printed of each script.
@@ -94,57 +99,58 @@ struct All<'a> {
 }
 
 // Compares the runs of each script of a machine, one after another. Returns the exit status.
-fn tell_each<'a>(
-    rt: &HostRuntime,
+fn compare_scripts<'a, H: Host>(
+    host: &'a H,
     machine: &'a Machine<'a>,
     lines: &'a UnfoldedText<'a>,
-    all: All<'a>,
+    options: ComparisonOptions<'a>,
 ) -> u8
-    ensures { EndsAs (EndsCompared all.entry.settings machine.now (whole_view lines.now)) result }
+    ensures { EndsAs (LacksQuota machine.now)
+        (EndsCompared options.entry.settings machine.now (whole_view lines.now)) result }
 {
     let list = machine.list();
-    match tell_scripts(rt, machine, list, lines, all) {
+    match compare_listed(host, machine, list, lines, options) {
         Ok(status) | Err(status) => status,
     }
 }
 
 // Compares the runs of each script of a machine's list, and returns the exit status. The error is that of a run without a result.
-fn tell_scripts<'a>(
-    rt: &HostRuntime,
+fn compare_listed<'a, H: Host>(
+    host: &'a H,
     machine: &'a Machine<'a>,
     list: &'a StartList,
     lines: &'a UnfoldedText<'a>,
-    all: All<'a>,
+    options: ComparisonOptions<'a>,
 ) -> Result<u8, u8>
     ensures ended { IfOk result (λ status. status ≡ compared_status list.now.entries
-        (lines_status list.now all.entry.settings (whole_view lines.now))) }
-    ensures failed { IfErr result HasFailed }
+        (lines_status list.now options.entry.settings (whole_view lines.now))) }
+    ensures failed { IfErr result (HasNoResult (IsUnbootable list.now)) }
 {
     let mut status = 0;
-    let mut complained = false;
+    let mut silent = false;
     for entry in list.entries() {
         if !entry.is_script() {
             continue;
         }
-        let one = One {
+        let script = ScriptComparison {
             machine,
             list,
             name: entry.path(),
             lines,
-            silent: complained,
+            silent,
         };
-        let told = one.compare(rt, all)?;
-        status = worse(status, told);
-        complained = true;
+        let compared = script.compare(host, options)?;
+        status = status_with(status, compared);
+        silent = true;
     }
     Ok(status)
 }
 
 // Returns the status of two comparisons: that of the second one, unless this has no fault.
-fn worse(status: u8, told: u8) -> u8
-    ensures { result ≡ (if told == 0 then status else told) }
+fn status_with(status: u8, second: u8) -> u8
+    ensures { result ≡ (if second == 0 then status else second) }
 {
-    if told == 0 { status } else { told }
+    if second == 0 { status } else { second }
 }
 
 // Returns the exit status of a comparison: 1 for a fault of the run, 3 if a reply isn't as expected or differs, else 0.
@@ -179,9 +185,9 @@ fn writer_unless<'a>(rt: &HostRuntime, is_dropped: bool, place: OutputStream<'a>
     )
 }
 
-// The run of a script.
+// The comparison of a script's replies.
 #[derive(Clone, Copy)]
-struct One<'a> {
+struct ScriptComparison<'a> {
     machine: &'a Machine<'a>,
     // The machine's list.
     list: &'a StartList,
@@ -191,19 +197,19 @@ struct One<'a> {
     silent: bool,
 }
 
-impl<'a> One<'a> {
+impl<'a> ScriptComparison<'a> {
     ghost use Rattle.std.specs.Prelude.{◌≡◌, IfErr, IfOk};
     ghost use Rattle.line_rounds.specs.Views.{whole_view};
-    ghost use Rattle.cli_base.specs.Statuses.{EndsAs, HasFailed};
-    ghost use Rattle.cli_runs.specs.CommandStatus.{comparison_status, lines_status};
+    ghost use Rattle.cli_base.specs.Statuses.{EndsAs, HasNoResult};
+    ghost use Rattle.cli_runs.specs.CommandStatus.{IsUnbootable, comparison_status, lines_status};
 
-    // Compares as `tell` does, and returns 0 or 3. The error is the status of a run without a result.
-    fn compare(self, rt: &HostRuntime, all: All<'a>) -> Result<u8, u8>
+    // Compares as `run` does, and returns 0 or 3. The error is the status of a run without a result.
+    fn compare<H: Host>(self, host: &'a H, options: ComparisonOptions<'a>) -> Result<u8, u8>
         ensures ended { IfOk result (λ status. status
-            ≡ lines_status self.entry.list.now all.entry.settings (whole_view self.entry.lines.now)) }
-        ensures failed { IfErr result HasFailed }
+            ≡ lines_status self.entry.list.now options.entry.settings (whole_view self.entry.lines.now)) }
+        ensures failed { IfErr result (HasNoResult (IsUnbootable self.entry.list.now)) }
     {
-        let status = self.tell(rt, all);
+        let status = self.run(host, options);
         if is_compared(status) {
             Ok(status)
         } else {
@@ -212,63 +218,64 @@ impl<'a> One<'a> {
     }
 
     // Runs the scenario, prints the comparison of the script's replies, and returns the exit status.
-    fn tell(self, rt: &HostRuntime, all: All<'a>) -> u8
-        ensures { EndsAs (λ status. status
-            ≡ lines_status self.entry.list.now all.entry.settings (whole_view self.entry.lines.now)) result }
+    fn run<H: Host>(self, host: &'a H, options: ComparisonOptions<'a>) -> u8
+        ensures { EndsAs (IsUnbootable self.entry.list.now) (λ status. status
+            ≡ lines_status self.entry.list.now options.entry.settings (whole_view self.entry.lines.now)) result }
     {
-        let start = match all.settings.start_or_status(rt, self.lines.marks()) {
+        let (rt, settings) = (host.rt(), options.settings);
+        let start = match settings.start_or_status(rt, self.lines.marks()) {
             Ok(start) => start,
             Err(status) => return status,
         };
-        let play = ScenarioInput {
+        let input = ScenarioInput {
             list: self.list,
-            scenario: all.settings.subject(all.scenario),
+            scenario: settings.subject(options.scenario),
             start,
         };
-        let origin = Origin::Held(self.lines.bytes());
+        let origin: Origin<'_, H::File> = Origin::Held(self.lines.bytes());
         let mut reader = watched_reader(rt, origin, Printing::Afterwards);
-        let mut writer = writer_unless(rt, all.summary, OutputStream::text(rt));
-        let complained = OutputStream::Complained(rt.stderr());
-        let mut complaints = writer_unless(rt, self.silent, complained);
+        let mut writer = writer_unless(rt, options.summary, OutputStream::text(rt));
+        let stderr = OutputStream::Complained(rt.stderr());
+        let mut complaints = writer_unless(rt, self.silent, stderr);
         let compared = alone(
             rt.alloc(),
-            play,
+            input,
             self.name,
             &mut reader,
             &mut writer,
             &mut complaints,
         );
         match compared {
-            Ok(compared) => self.tell_compared(rt, all, compared, writer),
+            Ok(compared) => self.print(rt, options, compared, writer),
             Err(fault) => {
                 if !self.silent {
-                    report_boot_fault(rt, all.settings.form, self.machine, &fault);
+                    report_boot_fault(rt, settings.form, self.machine, &fault);
                 }
-                REFUSED
+                boot_status(&fault)
             }
         }
     }
 
     // Prints a comparison, or only its last line, and returns the exit status.
-    fn tell_compared(
+    fn print(
         self,
         rt: &HostRuntime,
-        all: All<'a>,
+        options: ComparisonOptions<'a>,
         compared: AloneComparison,
         written: Writer<'_>,
     ) -> u8
-        ensures { EndsAs (λ status. status ≡ comparison_status compared) result }
+        ensures { EndsAs ⊥ (λ status. status ≡ comparison_status compared) result }
     {
-        let Ok(told) = self.text(rt, all, compared, written) else {
+        let Ok(text) = self.text(rt, options, compared, written) else {
             return no_memory(rt);
         };
-        let printed = status_of(rt, io::writer(rt).write_all(told.as_slice()));
+        let printed = status_of(rt, io::writer(rt).write_all(text.as_slice()));
         if printed == 0 {
-            let played = RunEnd {
+            let end = RunEnd {
                 ended: Ok(compared.ending),
                 unread: false,
             };
-            let _ = played.tell_fault(rt, all.settings.form, all.scenario);
+            let _ = end.report_fault(rt, options.settings.form, options.scenario);
         }
         status_after(printed, comparison_status(compared))
     }
@@ -277,11 +284,11 @@ impl<'a> One<'a> {
     fn text(
         self,
         rt: &HostRuntime,
-        all: All<'a>,
+        options: ComparisonOptions<'a>,
         compared: AloneComparison,
         written: Writer<'_>,
     ) -> Result<Vec<u8>, AllocError> {
-        if !all.summary {
+        if !options.summary {
             return Ok(text_of(rt, written));
         }
         let mut writer = plain_writer(rt, OutputStream::text(rt));

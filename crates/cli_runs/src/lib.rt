@@ -1,8 +1,8 @@
 //! The commands `run`, `trace`, `accounts`, `alone` and `record` of `nethrywel`: a scenario is read, run on a machine, and what
 //! is asked for is printed.
 //!
-//! `nethrywel` calls a function for each command with its options, and exits with the status that the function returns. For
-//! example `trace_scenario(rt, asked, settings)` prints the table of a scenario's lines.
+//! `nethrywel` calls a function for each command with its host and options, and exits with the status that the function returns. For
+//! example `trace_scenario(host, asked, settings)` prints the table of a scenario's lines.
 #![tactic(auto)]
 
 mod accounts;
@@ -12,6 +12,7 @@ mod run;
 mod run_end;
 mod run_request;
 mod trace;
+mod unread_report;
 mod view;
 
 pub use accounts::list_accounts;

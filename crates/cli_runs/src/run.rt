@@ -3,22 +3,26 @@ ghost use Rattle.std.specs.Prelude.{◌≡◌};
 ghost use Rattle.std.specs.Option.{option_copied};
 ghost use Rattle.cli_runs.specs.CommandStatus.{IsRunOf, IsTranscript, RunEnds};
 
-use crate::run_request::{NONE_EARLIER, RunRequest, play};
+use crate::run_request::{NONE_EARLIER, RunRequest, run_chosen};
 use crate::view::RunView;
-use cli_base::{Coloring, Settings};
+use cli_base::{Coloring, Host, Settings};
 use cli_options::RunOptions;
 use view_runs::TranscriptOptions;
 
 /// Runs a scenario, and prints its transcript. Returns the exit status.
-pub fn run_scenario<'a>(
-    rt: &HostRuntime,
+pub fn run_scenario<'a, H: Host>(
+    host: &H,
     asked: &'a RunOptions<'a>,
     settings: Settings<'a>,
     coloring: Coloring,
 ) -> u8
-    ensures { RunEnds asked.now settings.entry result }
+    ensures { RunEnds (H.text_at host.now) asked.now settings.entry result }
 {
-    play(rt, asked.machine, transcript_of(asked, settings, coloring))
+    run_chosen(
+        host,
+        asked.machine,
+        transcript_of(asked, settings, coloring),
+    )
 }
 
 // Returns the run that the options ask for.

@@ -1,6 +1,6 @@
 //! How a run over files and the standard streams ended.
 
-use cli_base::{StopMessage, UNREAD, report_error, spot_of, summarize};
+use cli_base::{StopMessage, UNREAD, boot_status, report_error, spot_of, summarize};
 use init_core::BootFault;
 use run_lines::LineRunFault;
 use run_scenario::{ScenarioEnd, exit_status};
@@ -17,11 +17,11 @@ pub(crate) struct RunEnd {
 
 impl RunEnd {
     ghost use Rattle.std.specs.Prelude.{◌≡◌, ◌&&◌};
-    ghost use Rattle.cli_runs.specs.RunEnd.{end_status, write_failed};
+    ghost use Rattle.cli_runs.specs.RunEnd.{end_status, run_status, write_failed};
 
     /// Prints the fault of a scenario of this path, if there is one. Prints the numbers of errors and warnings too: `earlier` ones,
     /// the fault and the scenario's own. Returns the exit status.
-    pub(crate) fn tell(
+    pub(crate) fn report(
         &self,
         rt: &HostRuntime,
         form: DiagnosticForm,
@@ -30,7 +30,7 @@ impl RunEnd {
     ) -> u8
         ensures { result ≡ end_status self.now.ended self.now.unread }
     {
-        let status = self.tell_fault(rt, form, scenario);
+        let status = self.report_fault(rt, form, scenario);
         if let Ok(ending) = &self.ended {
             if status != UNREAD {
                 let stopped = u64::from(ending.fault.is_some());
@@ -46,7 +46,7 @@ impl RunEnd {
     }
 
     /// Prints the fault of a scenario of this path, if there is one. Returns the exit status.
-    pub(crate) fn tell_fault(&self, rt: &HostRuntime, form: DiagnosticForm, scenario: &str) -> u8
+    pub(crate) fn report_fault(&self, rt: &HostRuntime, form: DiagnosticForm, scenario: &str) -> u8
         ensures { result ≡ end_status self.now.ended self.now.unread }
     {
         if self.is_unread() {
@@ -58,7 +58,17 @@ impl RunEnd {
                 report_error(rt, form, spot, &StopMessage(fault));
             }
         }
-        exit_status(&self.ended)
+        self.run_status()
+    }
+
+    // Returns the exit status of the run: for a list that doesn't boot 1 if the host is out of memory, else 2.
+    fn run_status(&self) -> u8
+        ensures { result ≡ run_status self.now.ended }
+    {
+        match &self.ended {
+            Ok(_) => exit_status(&self.ended),
+            Err(fault) => boot_status(fault),
+        }
     }
 
     // Returns whether a write failed because nobody reads what is written.

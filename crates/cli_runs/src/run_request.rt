@@ -1,26 +1,27 @@
 //! A scenario's run on a machine, over files and the standard streams.
-ghost use Rattle.std.specs.Prelude.{◌≡◌, false, is_some, position, IfOk};
+ghost use Rattle.std.specs.Prelude.{◌≡◌, false, is_some, position, None, Some, IfErr, IfOk, IfSome};
 ghost use Rattle.std.specs.Str.{bytes_eq};
+ghost use Rattle.cli_base.specs.Files.{IsTooLong, IsUnknown};
 ghost use Rattle.cli_base.specs.Origins.{origin_bytes};
 ghost use Rattle.cli_base.specs.Statuses.{EndsAs};
 ghost use Rattle.cli_base.specs.Unfolding.{EndsUnfolded};
-ghost use Rattle.cli_runs.specs.CommandStatus.{EndsChosen, EndsLines, EndsNamed, EndsOn, IsRunOf, is_known, named_status, warnings_of};
-ghost use Rattle.cli_runs.specs.RunStatus.{EndsPlay, HasStatus, start_by, start_of};
+ghost use Rattle.cli_runs.specs.CommandStatus.{EndsByLine, EndsChosen, EndsLines, EndsNamed, EndsOn, IsRunOf, LacksScenario, RunRefused, is_known, named_status, warnings_of};
+ghost use Rattle.cli_runs.specs.RunStatus.{EndsFrom, HasStatus, IsUnbooted, start_by, start_of};
 
 use crate::accounts::print_accounts;
 use crate::run_end::RunEnd;
 use crate::view::{AccountsForm, RunView, view};
 use cli_base::{
-    Machine, MachineChoice, Origin, OutputStream, REFUSED, ReadFailure, STANDARD_INPUT, Settings,
-    Spot, Warnings, made_or_status, read_whole, report_boot_fault, report_error, unfolded,
-    warned_status, watched_reader, writer,
+    Host, Machine, MachineChoice, Origin, OutputStream, REFUSED, ReadFailure, STANDARD_INPUT,
+    Settings, Spot, Warnings, made_or_status, no_memory, read_whole, report_boot_fault,
+    report_error, unfolded, warned_status, watched_reader, writer,
 };
 use init_core::StartList;
 use line_names::RoundMark;
 use run_scenario::{ScenarioInput, near_component};
 use std::alloc::AllocError;
-use std::fs::File;
-use std::{fs, io};
+use std::io;
+use std::io::Read;
 use view_colors::Lines;
 use view_diagnostics::{Counts, DiagnosticForm};
 
@@ -71,88 +72,116 @@ impl<'a> RunRequest<'a> {
 }
 
 /// Runs a scenario on the machine of the start list that the command line names, of the list next to the scenario, or on the built-in
-/// machine. Returns the exit status. If warnings are faults, a
-/// scenario that isn't read whole before its first line is refused, since it has none.
-pub(crate) fn play(rt: &HostRuntime, machine: Option<&str>, scene: RunRequest<'_>) -> u8
-    ensures { EndsAs (EndsChosen machine.entry scene.entry) result }
+/// machine. Returns the exit status. If warnings are faults, refuses a scenario that isn't read whole before its first line, since it
+/// has none.
+pub(crate) fn run_chosen<H: Host>(host: &H, named: Option<&str>, request: RunRequest<'_>) -> u8
+    ensures { EndsAs (RunRefused (H.text_at host.now) named.entry request.entry)
+        (EndsChosen (H.text_at host.now) named.entry request.entry) result }
 {
-    if scene.strict && scene.scenario == STANDARD_INPUT {
-        return refuse_strict(rt, scene, "expected the path of a file, found `-`");
+    if request.strict && request.scenario == STANDARD_INPUT {
+        return refuse_strict(host.rt(), request, "expected the path of a file, found `-`");
     }
-    let list = match MachineChoice::of(rt, scene.settings.form, machine, scene.scenario) {
+    let form = request.settings.form;
+    let list = match MachineChoice::of(host, form, named, request.scenario) {
         Ok(list) => list,
         Err(status) => return status,
     };
-    match Machine::read(rt, list.path(), scene.settings) {
-        Ok(machine) => play_named(rt, &machine, scene),
+    match Machine::read(host, list.path(), request.settings) {
+        Ok(machine) => run_named(host, &machine, request),
         Err(status) => status,
     }
 }
 
 // Runs a scenario on a machine. Before the run prints an error if no component has the name that is asked for.
-fn play_named(rt: &HostRuntime, machine: &Machine<'_>, scene: RunRequest<'_>) -> u8
-    ensures { EndsAs (EndsNamed machine.now scene.entry) result }
+fn run_named<H: Host>(host: &H, machine: &Machine<'_>, request: RunRequest<'_>) -> u8
+    ensures { EndsAs (LacksScenario (H.text_at host.now) request.entry)
+        (EndsNamed (H.text_at host.now) machine.now request.entry) result }
 {
-    if is_known(rt, scene.settings.form, machine.list(), scene.name) {
-        return play_on(rt, machine, scene);
-    }
+    let form = request.settings.form;
+    let known = is_known(host.rt(), form, machine.list(), request.name);
     let earlier = Counts {
-        errors: 1,
+        errors: u64::from(!known),
         warnings: 0,
     };
-    nobody_status(play_on(rt, machine, RunRequest { earlier, ..scene }))
+    let status = run_on(host, machine, RunRequest { earlier, ..request });
+    named_status(known, status)
 }
 
-// Returns the exit status of a run in which no component has the name that is asked for: 3, unless a fault comes first.
-fn nobody_status(status: u8) -> u8
-    ensures { result ≡ named_status false status }
+// Returns the exit status of a run: 3 if no component has the name that is asked for, unless a fault comes first.
+fn named_status(known: bool, status: u8) -> u8
+    ensures { result ≡ named_status known status }
 {
-    if status == 0 { NOBODY } else { status }
+    if !known && status == 0 {
+        NOBODY
+    } else {
+        status
+    }
 }
 
-// Runs a scenario of a path on a machine. A strict run isn't of standard input: `play` refuses that.
-fn play_on(rt: &HostRuntime, machine: &Machine<'_>, scene: RunRequest<'_>) -> u8
-    ensures { EndsAs (EndsOn machine.now scene.entry) result }
+// Runs a scenario of a path on a machine. A strict run isn't of standard input: `run_chosen` refuses that.
+fn run_on<H: Host>(host: &H, machine: &Machine<'_>, request: RunRequest<'_>) -> u8
+    ensures { EndsAs (LacksScenario (H.text_at host.now) request.entry)
+        (EndsOn (H.text_at host.now) machine.now request.entry) result }
 {
-    if !scene.strict && scene.scenario == STANDARD_INPUT {
-        return play_from(rt, machine, scene, Origin::Typed(rt.reader()), &[]);
+    let rt = host.rt();
+    if !request.strict && request.scenario == STANDARD_INPUT {
+        let origin: Origin<'_, H::File> = Origin::Typed(rt.reader());
+        return run_source(rt, machine, request, origin, &[]);
     }
-    if let Some(whole) = read_whole(rt, scene.scenario) {
-        return play_whole(rt, machine, scene, &whole);
+    match read_whole(host, request.scenario) {
+        Ok(Some(text)) => run_text(host, machine, request, &text),
+        Ok(None) => run_long(host, machine, request),
+        Err(AllocError) => no_memory(rt),
     }
-    match fs::open(rt, scene.scenario) {
-        Ok(file) => play_file(rt, machine, scene, file),
+}
+
+// Runs the lines of a file that isn't read whole. Refuses a file that can't be opened, and a strict run.
+fn run_long<H: Host>(host: &H, machine: &Machine<'_>, request: RunRequest<'_>) -> u8
+    requires { IsTooLong (H.text_at host.now) request.scenario.now }
+    ensures { EndsAs (LacksScenario (H.text_at host.now) request.entry)
+        (EndsByLine (H.text_at host.now) machine.now request.entry) result }
+{
+    let rt = host.rt();
+    let file = match open_or_status(host, request) {
+        Ok(file) => file,
+        Err(status) => return status,
+    };
+    if request.strict {
+        let why = "expected a file that is read to its end within 64M bytes";
+        return refuse_strict(rt, request, why);
+    }
+    run_source(rt, machine, request, Origin::File(file), &[])
+}
+
+// Opens the file of a scenario. If that fails, prints why and returns the exit status 2.
+fn open_or_status<H: Host>(host: &H, request: RunRequest<'_>) -> Result<H::File, u8>
+    ensures bytes { IfOk result (λ file. IfSome (H.text_at host.now request.entry.scenario.now)
+        (λ bytes. H.File.remaining file ≡ Some bytes)) }
+    ensures failed { IfErr result (λ status. (status ≡ 2)
+        × IsUnknown (H.text_at host.now) request.entry.scenario.now) }
+{
+    match host.open(request.scenario) {
+        Ok(file) => Ok(file),
         Err(error) => {
             let unread = ReadFailure::Closed(error);
             report_error(
-                rt,
-                scene.settings.form,
+                host.rt(),
+                request.settings.form,
                 Spot::nowhere(),
-                &unread.about(scene.scenario),
+                &unread.about(request.scenario),
             );
-            REFUSED
+            Err(REFUSED)
         }
     }
 }
 
-// Runs the lines of a file that isn't read whole. A strict run is refused.
-fn play_file(rt: &HostRuntime, machine: &Machine<'_>, scene: RunRequest<'_>, file: File) -> u8
-    ensures { EndsAs (EndsOn machine.now scene.entry) result }
-{
-    if scene.strict {
-        let why = "expected a file that is read to its end within 64M bytes";
-        return refuse_strict(rt, scene, why);
-    }
-    play_from(rt, machine, scene, Origin::File(file), &[])
-}
-
 // Prints why a scenario has no warnings that could be faults, and returns the exit status 2.
-fn refuse_strict(rt: &HostRuntime, scene: RunRequest<'_>, why: &str) -> u8
+fn refuse_strict(rt: &HostRuntime, request: RunRequest<'_>, why: &str) -> u8
     ensures { result ≡ 2 }
 {
     report_error(
         rt,
-        scene.settings.form,
+        request.settings.form,
         Spot::nowhere(),
         &format_args!("--strict: {why}"),
     );
@@ -160,27 +189,28 @@ fn refuse_strict(rt: &HostRuntime, scene: RunRequest<'_>, why: &str) -> u8
 }
 
 // Runs a scenario of a text, with its rounds unfolded. Before the run of a transcript prints the warnings about its lines.
-fn play_whole(rt: &HostRuntime, machine: &Machine<'_>, scene: RunRequest<'_>, text: &[u8]) -> u8
-    ensures { EndsAs (EndsUnfolded scene.entry.settings text.now (EndsLines machine.now scene.entry text.now))
-        result }
+fn run_text<H: Host>(host: &H, machine: &Machine<'_>, request: RunRequest<'_>, text: &[u8]) -> u8
+    ensures { EndsAs ⊥ (EndsUnfolded request.entry.settings text.now
+        (EndsLines machine.now request.entry text.now)) result }
 {
-    let lines = match unfolded(rt, scene.scenario, text, scene.settings) {
+    let rt = host.rt();
+    let lines = match unfolded(rt, request.scenario, text, request.settings) {
         Ok(lines) => lines,
         Err(status) => return status,
     };
-    let warned = warn(rt, machine.list(), scene, text);
+    let warned = warn(rt, machine.list(), request, text);
     let warnings = match made_or_status(rt, warned) {
         Ok(warnings) => warnings,
         Err(status) => return status,
     };
     let earlier = Counts {
         warnings: warnings as u64,
-        ..scene.earlier
+        ..request.earlier
     };
-    let origin = Origin::Held(lines.bytes());
-    let scene = RunRequest { earlier, ..scene };
-    let status = play_from(rt, machine, scene, origin, lines.marks());
-    warned_status(scene.strict, warnings, status)
+    let origin: Origin<'_, H::File> = Origin::Held(lines.bytes());
+    let request = RunRequest { earlier, ..request };
+    let status = run_source(rt, machine, request, origin, lines.marks());
+    warned_status(request.strict, warnings, status)
 }
 
 // Prints the warnings about the lines of a scenario that are run for a transcript, and returns how many there are. The error is out
@@ -188,73 +218,74 @@ fn play_whole(rt: &HostRuntime, machine: &Machine<'_>, scene: RunRequest<'_>, te
 fn warn(
     rt: &HostRuntime,
     list: &StartList,
-    scene: RunRequest<'_>,
+    request: RunRequest<'_>,
     text: &[u8],
 ) -> Result<usize, AllocError>
-    ensures { IfOk result (λ count. count ≡ warnings_of scene.entry.viewing list.now text.now) }
+    ensures { IfOk result (λ count. count ≡ warnings_of request.entry.viewing list.now text.now) }
 {
-    let RunView::Run(options, coloring) = scene.viewing else {
+    let RunView::Run(options, coloring) = request.viewing else {
         return Ok(0);
     };
-    let warnings = Warnings::of(rt, list, options.only, scene.scenario, text)?;
-    warnings.report(rt, scene.settings.form, coloring.err)?;
+    let warnings = Warnings::of(rt, list, options.only, request.scenario, text)?;
+    warnings.report(rt, request.settings.form, coloring.err)?;
     Ok(warnings.count())
 }
 
 // Runs the lines of a source with these round marks, and prints the fault that stops the run, if one does.
-fn play_from(
+fn run_source<F: Read + Drop>(
     rt: &HostRuntime,
     machine: &Machine<'_>,
-    scene: RunRequest<'_>,
-    origin: Origin<'_>,
+    request: RunRequest<'_>,
+    origin: Origin<'_, F>,
     marks: &[RoundMark],
 ) -> u8
-    ensures { EndsPlay machine.now scene.entry.viewing
-        (start_by scene.entry.settings marks.now) (origin_bytes origin.entry) result }
+    ensures { EndsFrom machine.now request.entry.viewing
+        (start_by request.entry.settings marks.now) (origin_bytes F.remaining origin.entry) result }
 {
     let list = machine.list();
-    let start = match scene.settings.start_or_status(rt, marks) {
+    let start = match request.settings.start_or_status(rt, marks) {
         Ok(start) => start,
         Err(status) => return status,
     };
-    let play = ScenarioInput {
+    let input = ScenarioInput {
         list,
-        scenario: scene.settings.subject(scene.scenario),
+        scenario: request.settings.subject(request.scenario),
         start,
     };
-    let played = played(rt, play, scene.viewing, origin);
-    if let Err(fault) = &played.ended {
-        report_boot_fault(rt, scene.settings.form, machine, fault);
+    let end = run_over_streams(rt, input, request.viewing, origin);
+    let form = request.settings.form;
+    if let Err(fault) = &end.ended {
+        report_boot_fault(rt, form, machine, fault);
     }
-    let form = scene.settings.form;
-    if let RunView::Alone(_) = scene.viewing {
-        return played.tell_fault(rt, form, scene.scenario);
+    if let RunView::Alone(_) = request.viewing {
+        return end.report_fault(rt, form, request.scenario);
     }
-    played.tell(rt, form, scene.scenario, scene.earlier)
+    end.report(rt, form, request.scenario, request.earlier)
 }
 
 // Runs the lines of a source over the standard streams.
-fn played(
+fn run_over_streams<F: Read + Drop>(
     rt: &HostRuntime,
-    play: ScenarioInput<'_>,
+    input: ScenarioInput<'_>,
     viewing: RunView<'_>,
-    origin: Origin<'_>,
+    origin: Origin<'_, F>,
 ) -> RunEnd
-    ensures status { IfOk result.ended
-        (HasStatus viewing.entry (start_of viewing.entry play.entry) (origin_bytes origin.entry)) }
+    ensures status { IfOk result.ended (HasStatus viewing.entry
+        (start_of viewing.entry input.entry) (origin_bytes F.remaining origin.entry)) }
+    ensures unbooted { IfErr result.ended (IsUnbooted input.entry.list.now) }
 {
     let coloring = viewing.coloring();
     let mut reader = watched_reader(rt, origin, viewing.printing());
     let stderr = OutputStream::Complained(rt.stderr());
     let mut complaints = writer(rt, stderr, Lines::Complaints, coloring.err);
     if let RunView::Accounts(AccountsForm::Rows(form)) = viewing {
-        return print_accounts(rt, play, form, &mut reader, &mut complaints);
+        return print_accounts(rt, input, form, &mut reader, &mut complaints);
     }
     let stdout = OutputStream::Printed(io::writer(rt));
     let mut replies = writer(rt, stdout, Lines::Replies, coloring.out);
     let ended = view(
         rt.alloc(),
-        play,
+        input,
         viewing,
         &mut reader,
         &mut replies,

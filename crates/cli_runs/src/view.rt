@@ -1,6 +1,6 @@
 //! The part of a run that a command prints.
-ghost use Rattle.std.specs.Prelude.{◌≡◌, ◌==◌, ◌||◌, is_some, nat_lt, IfOk};
-ghost use Rattle.cli_runs.specs.RunStatus.{HasStatus, start_of};
+ghost use Rattle.std.specs.Prelude.{◌≡◌, ◌==◌, ◌||◌, is_some, nat_lt, IfErr, IfOk};
+ghost use Rattle.cli_runs.specs.RunStatus.{HasStatus, IsUnbooted, start_of};
 
 use cli_base::{Coloring, Printing};
 use init_core::BootFault;
@@ -67,27 +67,28 @@ impl<'a> RunView<'a> {
 /// The error is the fault of the boot.
 pub(crate) fn view<S: Source, K: Sink, E: Sink>(
     alloc: Global,
-    play: ScenarioInput<'_>,
+    input: ScenarioInput<'_>,
     viewing: RunView<'_>,
     reader: &mut S,
     writer: &mut K,
     complaints: &mut E,
 ) -> Result<ScenarioEnd, BootFault>
     ensures status { IfOk result (λ ending. HasStatus viewing.entry
-        (start_of viewing.entry play.entry) (S.remaining reader.old) ending) }
+        (start_of viewing.entry input.entry) (S.remaining reader.old) ending) }
+    ensures unbooted { IfErr result (IsUnbooted input.entry.list.now) }
 {
     match viewing {
-        RunView::Run(showing, _) => run(alloc, play, showing, reader, writer, complaints),
+        RunView::Run(showing, _) => run(alloc, input, showing, reader, writer, complaints),
         RunView::Trace { json: false } => {
-            trace(alloc, play, CsvRows, reader, writer, complaints)
+            trace(alloc, input, CsvRows, reader, writer, complaints)
         }
         RunView::Trace { json: true } => {
             let format = JsonRows { alloc };
-            trace(alloc, play, format, reader, writer, complaints)
+            trace(alloc, input, format, reader, writer, complaints)
         }
-        RunView::Accounts(_) => { Ok(accounts(alloc, play, reader, writer, complaints)?.ending) }
+        RunView::Accounts(_) => { Ok(accounts(alloc, input, reader, writer, complaints)?.ending) }
         RunView::Alone(name) => {
-            Ok(comparison_end(alone(alloc, play, name, reader, writer, complaints)?))
+            Ok(comparison_end(alone(alloc, input, name, reader, writer, complaints)?))
         }
     }
 }

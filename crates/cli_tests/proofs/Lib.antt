@@ -1,2 +1,4 @@
 mod PlanLemmas
+mod ResultLemmas
 mod RunLemmas
+mod StatusLemmas

@@ -1,2 +1,4 @@
-pub mod Plan
 pub mod Outcome
+pub mod Plan
+pub mod PolicyTest
+pub mod ScenarioTest

@@ -1,5 +1,6 @@
 //! The coverage of the scenarios that are run as tests.
-use cli_base::{Machine, Spot, report_error};
+use crate::scenario_run::TestCase;
+use cli_base::{Spot, report_error};
 use cli_options::TestOptions;
 use run_exchanges::Exchange;
 use std::alloc::AllocError;
@@ -14,8 +15,9 @@ const BUILT_IN: &str = "built-in machine";
 /// The coverage of all scenarios, and the form in which it is printed.
 #[derive(Drop)]
 pub(crate) struct CoveragePrinter {
-    // None if coverage isn't asked for.
-    report: Option<CoverageReport>,
+    report: CoverageReport,
+    // Whether coverage is asked for. Else no scenario is added.
+    asked: bool,
     json: bool,
 }
 
@@ -25,54 +27,46 @@ impl CoveragePrinter {
 
     /// Returns the coverage of no scenario yet. If the options don't ask for coverage, none is added later.
     pub(crate) fn new(rt: &HostRuntime, asked: &TestOptions<'_>) -> CoveragePrinter
-        ensures { is_some result.report
+        ensures { result.asked
             ≡ ((asked.now.coverage || asked.now.coverage_calls) || is_some asked.now.threshold) }
     {
-        if asked.coverage || asked.coverage_calls || asked.threshold.is_some() {
-            return CoveragePrinter {
-                report: Some(CoverageReport::new(rt.alloc(), asked.coverage_calls)),
-                json: asked.json,
-            };
-        }
         CoveragePrinter {
-            report: None,
+            report: CoverageReport::new(rt.alloc(), asked.coverage_calls),
+            asked: asked.coverage || asked.coverage_calls || asked.threshold.is_some(),
             json: asked.json,
         }
     }
 
     /// Returns whether the command line asks for coverage, as text or as a document.
-    pub(crate) fn are_wanted(&self) -> bool {
-        self.report.is_some()
+    pub(crate) fn are_asked(&self) -> bool {
+        self.asked
     }
 
     /// Returns whether the coverage is printed as a document in place of all lines.
     pub(crate) fn is_document(&self) -> bool {
-        self.json && self.report.is_some()
+        self.json && self.asked
     }
 
-    /// Adds the coverage of a scenario on a machine, by its calls with their replies. A scenario whose machine doesn't boot has
+    /// Adds the coverage of a scenario on its machine, by its calls with their replies. A scenario whose machine doesn't boot has
     /// no coverage: it fails as a test. The error is out of memory.
     pub(crate) fn add(
         &mut self,
         rt: &HostRuntime,
-        machine: &Machine<'_>,
-        scenario: &str,
+        case: TestCase<'_>,
         exchanges: &[Exchange],
     ) -> Result<(), AllocError> {
-        let Some(report) = &mut self.report else {
-            return Ok(());
-        };
-        let coverage = cover(rt.alloc(), machine.list(), exchanges)?;
-        let name = machine.path().unwrap_or(BUILT_IN);
-        report.add(machine.list(), name, scenario, coverage)
+        let coverage = cover(rt.alloc(), case.list, exchanges)?;
+        let name = case.machine.path().unwrap_or(BUILT_IN);
+        self.report.add(case.list, name, case.scenario, coverage)
     }
 
-    /// Prints the coverage as lines of comments, or as a document. Returns the error of a write that fails.
-    pub(crate) fn tell(&self, rt: &HostRuntime) -> io::Result<()> {
+    /// Prints the coverage as lines of comments, or as a document, if it is asked for. Returns the error of a write that fails.
+    pub(crate) fn print(&self, rt: &HostRuntime) -> io::Result<()> {
         let alloc = rt.alloc();
-        let Some(report) = &self.report else {
+        let report = &self.report;
+        if !self.asked {
             return Ok(());
-        };
+        }
         if self.json {
             return io::writer(rt).write_all(report.document(alloc)?.as_slice());
         }
@@ -89,13 +83,10 @@ impl CoveragePrinter {
     ) -> bool
         ensures { result ≡ is_short_by self.now.report threshold }
     {
-        let Some(report) = &self.report else {
-            return false;
-        };
         let Some(percent) = threshold else {
             return false;
         };
-        let count = report.count();
+        let count = self.report.count();
         if !count.falls_short(percent) {
             return false;
         }

@@ -1,5 +1,10 @@
 //! The files of paths: a file itself, and all scenarios and policies of a folder and the folders below it.
-use cli_base::{REFUSED, ReadFailure, Spot, is_policy, is_scenario, no_memory, report_error};
+ghost use Rattle.std.specs.Prelude.{◌≡◌, ◌++◌, false, IfErr, IfOk, IfSome, OnOk};
+ghost use Rattle.cli_base.specs.Files.{IsUnknown};
+ghost use Rattle.cli_tests.specs.Outcome.{LacksPath, search_lacks_memory};
+ghost use Rattle.cli_tests.specs.Plan.{AreFiles, AreFilesAt};
+
+use cli_base::{Host, REFUSED, ReadFailure, Spot, is_policy, is_scenario, no_memory, report_error};
 use std::alloc::{AllocError, AllocFailed};
 use std::fs::DirEntry;
 use std::io::ErrorKind;
@@ -23,23 +28,34 @@ pub(crate) enum SearchFailure<'a> {
 }
 
 impl<'a> From<AllocError> for SearchFailure<'a> {
-    fn from(_want: AllocError) -> SearchFailure<'a> {
+    ghost use Rattle.std.specs.Prelude.{◌≡◌};
+    ghost use Rattle.cli_tests.specs.declared.file_search.SearchFailure.TheVariants.{NoMemory};
+
+    ghost from_gives = { λ _ failure. failure ≡ NoMemory };
+
+    fn from(_fault: AllocError) -> SearchFailure<'a> {
         SearchFailure::NoMemory
     }
 }
 
 impl<'a, T: Drop> From<AllocFailed<T>> for SearchFailure<'a> {
-    fn from(_want: AllocFailed<T>) -> SearchFailure<'a> {
+    ghost use Rattle.std.specs.Prelude.{◌≡◌};
+    ghost use Rattle.cli_tests.specs.declared.file_search.SearchFailure.TheVariants.{NoMemory};
+
+    ghost from_gives = { λ _ failure. failure ≡ NoMemory };
+
+    fn from(_fault: AllocFailed<T>) -> SearchFailure<'a> {
         SearchFailure::NoMemory
     }
 }
 
 impl SearchFailure<'_> {
-    ghost use Rattle.std.specs.Prelude.{◌≡◌, ◌⊎◌};
+    ghost use Rattle.std.specs.Prelude.{◌≡◌, if◌then◌else◌};
+    ghost use Rattle.cli_tests.specs.Outcome.{search_lacks_memory};
 
     /// Prints the reason, and returns the exit status: 2, or 1 if the host is out of memory.
-    pub(crate) fn tell(self, rt: &HostRuntime, form: DiagnosticForm) -> u8
-        ensures { (result ≡ 1) ⊎ (result ≡ 2) }
+    pub(crate) fn report(self, rt: &HostRuntime, form: DiagnosticForm) -> u8
+        ensures { result ≡ (if search_lacks_memory self.entry then 1 else 2) }
     {
         match self {
             SearchFailure::Unreadable(path, error) => {
@@ -79,51 +95,58 @@ impl fmt::Display for UnselectedMessage<'_> {
 
 /// Returns the scenarios and policies of paths in their order, those of a folder sorted by bytes. Errors: a path can't be read, a
 /// folder has none of them, the host is out of memory.
-pub(crate) fn files_at<'a>(
-    rt: &HostRuntime,
+pub(crate) fn files_at<'a, H: Host>(
+    host: &H,
     paths: &[&'a str],
-) -> Result<Vec<String>, SearchFailure<'a>> {
-    let mut all = Vec::new(rt.alloc());
+) -> Result<Vec<String>, SearchFailure<'a>>
+    ensures found { IfOk result (λ files. AreFiles (H.text_at host.now) paths.now files.items) }
+    ensures failed { IfErr result (λ failure. search_lacks_memory failure ≡ false
+        → LacksPath (H.text_at host.now) paths.now) }
+{
+    let mut all = Vec::new(host.rt().alloc());
     for path in paths {
-        add_files(rt, path, &mut all)?;
+        let mut found = files_of(host, path)?;
+        all.append(&mut found)?;
     }
     Ok(all)
 }
 
-// Adds the files of a path.
-fn add_files<'a>(
-    rt: &HostRuntime,
-    path: &'a str,
-    all: &mut Vec<String>,
-) -> Result<(), SearchFailure<'a>> {
-    let mut found = at(rt, path)?;
-    found.sort()?;
-    for file in found {
-        all.push(file)?;
-    }
-    Ok(())
-}
-
 // Returns the files of a path.
-fn at<'a>(rt: &HostRuntime, path: &'a str) -> Result<Vec<String>, SearchFailure<'a>> {
-    match fs::metadata(rt, path) {
-        Ok(of) if of.is_dir() => in_folder(rt, path),
-        Ok(_) => Ok(vec![in rt.alloc(); String::from_str(rt.alloc(), path)?]?),
-        Err(error) => Err(SearchFailure::Unreadable(path, error)),
+fn files_of<'a, H: Host>(host: &H, path: &'a str) -> Result<Vec<String>, SearchFailure<'a>>
+    ensures found { IfOk result (λ files. AreFilesAt (H.text_at host.now) path.now files.items) }
+    ensures failed { IfErr result (λ failure. search_lacks_memory failure ≡ false
+        → IsUnknown (H.text_at host.now) path.now) }
+{
+    let rt = host.rt();
+    match host.is_folder(path) {
+        Ok(true) => files_in(rt, path),
+        Ok(false) => Ok(vec![in rt.alloc(); String::from_str(rt.alloc(), path)?]?),
+        Err(error) => Err(failure_of(path, error)),
     }
 }
 
-// Returns the scenarios and policies of a folder, at least one.
-fn in_folder<'a>(rt: &HostRuntime, path: &'a str) -> Result<Vec<String>, SearchFailure<'a>> {
-    match below(rt, path) {
+// Returns the failure of a path with the operating system's error.
+fn failure_of(path: &str, error: io::Error) -> SearchFailure<'_> {
+    match error.kind() {
+        ErrorKind::OutOfMemory => SearchFailure::NoMemory,
+        _ => SearchFailure::Unreadable(path, error),
+    }
+}
+
+// Returns the scenarios and policies of a folder, sorted by bytes, at least one.
+fn files_in<'a>(rt: &HostRuntime, path: &'a str) -> Result<Vec<String>, SearchFailure<'a>> {
+    match files_below(rt, path) {
         Ok(found) if found.is_empty() => Err(SearchFailure::Nothing(path)),
-        Ok(found) => Ok(found),
-        Err(error) => Err(SearchFailure::Unreadable(path, error)),
+        Ok(mut found) => {
+            found.sort()?;
+            Ok(found)
+        }
+        Err(error) => Err(failure_of(path, error)),
     }
 }
 
 // Returns the scenarios and policies of a folder and of the folders below it.
-fn below(rt: &HostRuntime, folder: &str) -> io::Result<Vec<String>> {
+fn files_below(rt: &HostRuntime, folder: &str) -> io::Result<Vec<String>> {
     let alloc = rt.alloc();
     let mut found = Vec::new(alloc);
     let mut folders = vec![in alloc; String::from_str(alloc, folder)?]?;
@@ -131,7 +154,7 @@ fn below(rt: &HostRuntime, folder: &str) -> io::Result<Vec<String>> {
         let Some(folder) = folders.pop() else {
             break;
         };
-        look_through(rt, folder.as_str(), &mut folders, &mut found)?;
+        add_entries(rt, folder.as_str(), &mut folders, &mut found)?;
     }
     if folders.is_empty() {
         Ok(found)
@@ -141,20 +164,20 @@ fn below(rt: &HostRuntime, folder: &str) -> io::Result<Vec<String>> {
 }
 
 // Adds the folders, scenarios and policies in a folder, except those whose names begin with a point.
-fn look_through(
+fn add_entries(
     rt: &HostRuntime,
     folder: &str,
     folders: &mut Vec<String>,
     found: &mut Vec<String>,
 ) -> io::Result<()> {
     for entry in fs::read_dir(rt, folder)? {
-        look_at(rt, &entry?, folders, found)?;
+        add_entry(rt, &entry?, folders, found)?;
     }
     Ok(())
 }
 
 // Adds an entry of a folder if it is a folder, a scenario or a policy.
-fn look_at(
+fn add_entry(
     rt: &HostRuntime,
     entry: &DirEntry<HostRuntime>,
     folders: &mut Vec<String>,

@@ -1,15 +1,14 @@
 //! The tests of a run: scenarios, and start lists with the policies next to them.
-ghost use Rattle.std.specs.Prelude.{◌≡◌, ℕ, List, filter, is_some, map, string_bytes, OnOk};
+ghost use Rattle.std.specs.Prelude.{◌≡◌, ℕ, List, filter, is_some, map, string_bytes, IfOk, OnOk};
 ghost use Rattle.std.specs.Borrow.{Bor};
 ghost use Rattle.std.specs.List.{list_any};
-ghost use Rattle.std.specs.Option.{option_map};
 ghost use Rattle.cli_tests.specs.declared.planned_test.PlannedTest.TheVariants.{Policy, Scenario};
-ghost use Rattle.cli_tests.specs.Plan.{has_text, holds_policy, is_selected, path_of, with_beside, with_file, with_policy};
+ghost use Rattle.cli_tests.specs.Plan.{ArePlanned, IsPolicyBeside, has_text, holds_policy, is_selected, path_of, with_file, with_policy, with_policy_beside};
 
-use cli_base::{is_policy, policy_path};
+use crate::file_presence::may_exist;
+use cli_base::{Host, is_policy, policy_path};
 use memchr::memmem;
 use std::alloc::{AllocError, AllocFailed};
-use std::fs;
 
 /// A test, by the path of its file.
 #[derive(Drop)]
@@ -22,21 +21,29 @@ pub(crate) enum PlannedTest {
 
 /// Returns the tests of files, which are scenarios and policies, in the order of the files. The policy next to a scenario is held
 /// before the scenario, and each policy once. Fails if the host is out of memory.
-pub(crate) fn planned_tests(
-    rt: &HostRuntime,
+pub(crate) fn planned_tests<H: Host>(
+    host: &H,
     files: Vec<String>,
-) -> Result<Vec<PlannedTest>, AllocError> {
-    let alloc = rt.alloc();
-    let mut tests = Vec::new(alloc);
+) -> Result<Vec<PlannedTest>, AllocError>
+    ensures { IfOk result (λ tests. ArePlanned (H.text_at host.now) files.items tests.items) }
+{
+    let mut tests = Vec::new(host.rt().alloc());
     for file in files {
-        let policy = policy_path(alloc, file.as_str())?;
-        let beside = match fs::exists(rt, policy.as_str()) {
-            Ok(false) => None,
-            _ => Some(policy),
-        };
-        add_file(&mut tests, file, beside)?;
+        let policy = policy_next_to(host, file.as_str())?;
+        add_file(&mut tests, file, policy)?;
     }
     Ok(tests)
+}
+
+// Returns the path of the policy next to a scenario, or none if there is no such file. The error is out of memory.
+fn policy_next_to<H: Host>(host: &H, scenario: &str) -> Result<Option<String>, AllocError>
+    ensures { IfOk result (IsPolicyBeside (H.text_at host.now) scenario.now) }
+{
+    let policy = policy_path(host.rt().alloc(), scenario)?;
+    if !may_exist(host, policy.as_str()) {
+        return Ok(None);
+    }
+    Ok(Some(policy))
 }
 
 /// Removes the tests whose paths have none of these texts. Without a text all tests remain.
@@ -86,26 +93,24 @@ impl PlannedTest {
 // Adds the tests of a file, and of the policy next to it, if there is one.
 fn add_file(
     tests: &mut Vec<PlannedTest>,
-    path: String,
-    beside: Option<String>,
+    file: String,
+    policy: Option<String>,
 ) -> Result<(), AllocError>
-    ensures { OnOk result (tests.new.items ≡ with_file tests.old.items (string_bytes path)
-        (Policy path) (Scenario path) (option_map (λ policy. Policy policy) beside)) }
+    ensures { OnOk result (tests.new.items ≡ with_file tests.old.items file policy) }
 {
-    if is_policy(path.as_str()) {
-        return add_policy(tests, path);
+    if is_policy(file.as_str()) {
+        return add_policy(tests, file);
     }
-    add_beside(tests, beside)?;
-    tests.push(PlannedTest::Scenario(path))?;
+    add_policy_if_any(tests, policy)?;
+    tests.push(PlannedTest::Scenario(file))?;
     Ok(())
 }
 
 // Adds the test of a policy, if there is one.
-fn add_beside(tests: &mut Vec<PlannedTest>, beside: Option<String>) -> Result<(), AllocError>
-    ensures { OnOk result (tests.new.items ≡ with_beside tests.old.items
-        (option_map (λ policy. Policy policy) beside)) }
+fn add_policy_if_any(tests: &mut Vec<PlannedTest>, policy: Option<String>) -> Result<(), AllocError>
+    ensures { OnOk result (tests.new.items ≡ with_policy_beside tests.old.items policy) }
 {
-    match beside {
+    match policy {
         Some(policy) => add_policy(tests, policy),
         None => Ok(()),
     }

@@ -1,80 +1,132 @@
 //! Start lists that are checked against the policies next to them as tests.
-ghost use Rattle.std.specs.Prelude.{false, ◌≡◌};
-ghost use Rattle.cli_tests.specs.Outcome.{is_kept};
+ghost use Rattle.std.specs.Prelude.{false, ◌≡◌, IfOk};
+ghost use Rattle.cli_base.specs.ListFailures.{boot_lacks_memory, lacks_memory};
+ghost use Rattle.cli_base.specs.Texts.{bytes_of};
+ghost use Rattle.cli_tests.specs.PolicyTest.{IsKeptBy, IsListResult, IsPolicyResult, is_kept};
 
+use crate::file_presence::may_exist;
+use crate::scenario_test::lacks_memory;
 use cli_base::{
-    ListFaultMessage, Machine, PolicyDiagnostic, PolicyVerdict, Settings, Spot, check_policy,
-    error_line, fault_spot, machine_path,
+    Host, ListFaultMessage, Machine, PolicyDiagnostic, PolicyVerdict, Settings, Spot,
+    StartListFailure, check_policy, error_line, fault_spot, machine_path,
 };
-use list_review::Review;
+use init_core::BootFault;
+use list_review::{ListFault, Review};
 use std::alloc::AllocError;
 use std::fmt::Display;
-use std::fs;
 use view_test_report::TestResult;
 
 /// Checks the start list next to a policy against it: `NAME.json` for `NAME.policy`. The test fails if there is no such list, the
 /// list doesn't boot, the policy has a fault or isn't read, or the list breaks a line. The error is out of memory.
-pub(crate) fn test_policy(
-    rt: &HostRuntime,
+pub(crate) fn test_policy<H: Host>(
+    host: &H,
     policy: &str,
     settings: Settings<'_>,
-) -> Result<TestResult, AllocError> {
+) -> Result<TestResult, AllocError>
+    ensures { IfOk result (λ test.
+        IsPolicyResult (H.text_at host.now) settings.entry policy.now test.passed) }
+{
+    let rt = host.rt();
     let list = machine_path(rt.alloc(), policy)?;
     let name = format!(in rt.alloc(); "{list} keeps {policy}")?;
-    if let Ok(false) = fs::exists(rt, list.as_str()) {
+    if !may_exist(host, list.as_str()) {
         let message = format_args!(
             "expected the start list `{list}` next to the policy, found none"
         );
-        let told = error_line(rt, Spot::file(policy), &message)?;
-        return Ok(unchecked(name, told));
+        let report = error_line(rt, Spot::file(policy), &message)?;
+        return Ok(unchecked(name, report));
     }
-    match Machine::find(rt, Some(list.as_str()), settings) {
-        Ok(machine) => match Review::read(rt.alloc(), machine.text()) {
-            Ok(review) => checked(rt, name, policy, &review),
-            Err(fault) => {
-                let spot = fault_spot(list.as_str(), &fault);
-                let told = error_line(rt, spot, &ListFaultMessage(&fault))?;
-                Ok(unchecked(name, told))
-            }
-        },
-        Err(fault) => {
-            let told = error_line(rt, fault.spot(), &fault)?;
-            Ok(unchecked(name, told))
-        }
+    match Machine::find(host, Some(list.as_str()), settings) {
+        Ok(machine) => test_list(host, name, policy, &machine),
+        Err(failure) => without_list(rt, name, &failure),
     }
 }
 
+// Returns the result of a test whose list isn't read. Fails if the host was out of memory for the list.
+fn without_list(
+    rt: &HostRuntime,
+    name: String,
+    failure: &StartListFailure<'_>,
+) -> Result<TestResult, AllocError>
+    ensures memory { IfOk result (λ test. lacks_memory failure.now ≡ false) }
+    ensures failed { IfOk result (λ test. test.passed ≡ false) }
+{
+    if lacks_memory(failure) {
+        return Err(AllocError);
+    }
+    let report = error_line(rt, failure.spot(), failure)?;
+    Ok(unchecked(name, report))
+}
+
+// Checks the list of a machine against a policy, if the list boots.
+fn test_list<H: Host>(
+    host: &H,
+    name: String,
+    policy: &str,
+    machine: &Machine<'_>,
+) -> Result<TestResult, AllocError>
+    ensures { IfOk result (λ test.
+        IsListResult (H.text_at host.now) policy.now (bytes_of machine.now.text) test.passed) }
+{
+    let rt = host.rt();
+    match Review::read(rt.alloc(), machine.text()) {
+        Ok(review) => checked(host, name, policy, &review),
+        Err(fault) => unbooted(rt, name, machine, &fault),
+    }
+}
+
+// Returns the result of a test whose list doesn't boot. Fails if the host was out of memory for the boot.
+fn unbooted(
+    rt: &HostRuntime,
+    name: String,
+    machine: &Machine<'_>,
+    fault: &ListFault,
+) -> Result<TestResult, AllocError>
+    ensures memory { IfOk result (λ test. boot_lacks_memory fault.now.fault ≡ false) }
+    ensures failed { IfOk result (λ test. test.passed ≡ false) }
+{
+    if matches!(&fault.fault, BootFault::NoMemory) {
+        return Err(AllocError);
+    }
+    let spot = fault_spot(machine.path().unwrap_or(""), fault);
+    let report = error_line(rt, spot, &ListFaultMessage(fault))?;
+    Ok(unchecked(name, report))
+}
+
 // Returns the result of a test whose list isn't checked.
-fn unchecked(name: String, told: Vec<u8>) -> TestResult
+fn unchecked(name: String, report: Vec<u8>) -> TestResult
     ensures { result.passed ≡ false }
 {
     TestResult {
         name,
         passed: false,
-        told,
+        told: report,
     }
 }
 
 // Checks a list that boots against a policy.
-fn checked(
-    rt: &HostRuntime,
+fn checked<H: Host>(
+    host: &H,
     name: String,
     policy: &str,
     review: &Review,
-) -> Result<TestResult, AllocError> {
-    let verdict = check_policy(rt, review.list(), policy)?;
-    let told = verdict_lines(rt, policy, &verdict)?;
-    Ok(result_of(name, &verdict, told))
+) -> Result<TestResult, AllocError>
+    ensures { IfOk result (λ test.
+        IsKeptBy (H.text_at host.now) policy.now review.now.list test.passed) }
+{
+    let verdict = check_policy(host, review.list(), policy)?;
+    let report = verdict_lines(host.rt(), policy, &verdict)?;
+    Ok(result_of(name, &verdict, report))
 }
 
 // Returns the result of a check, with its report.
-fn result_of(name: String, verdict: &PolicyVerdict, told: Vec<u8>) -> TestResult
+fn result_of(name: String, verdict: &PolicyVerdict, report: Vec<u8>) -> TestResult
     ensures { result.passed ≡ is_kept verdict.now }
 {
     TestResult {
         name,
         passed: verdict.exit_status() == 0,
-        told,
+        told: report,
     }
 }
 
@@ -84,16 +136,16 @@ fn verdict_lines(
     policy: &str,
     verdict: &PolicyVerdict,
 ) -> Result<Vec<u8>, AllocError> {
-    let mut told = Vec::new(rt.alloc());
+    let mut report = Vec::new(rt.alloc());
     match verdict {
         PolicyVerdict::Held(notes) | PolicyVerdict::Faulty(notes) => {
             for noted in notes.as_slice() {
-                add_note(rt, policy, noted, &mut told)?;
+                add_note(rt, policy, noted, &mut report)?;
             }
         }
-        PolicyVerdict::ReadFailure(why) => add_error(rt, &mut told, Spot::nowhere(), why)?,
+        PolicyVerdict::ReadFailure(why) => add_error(rt, &mut report, Spot::nowhere(), why)?,
     }
-    Ok(told)
+    Ok(report)
 }
 
 // Adds the diagnostic of a policy's line.
@@ -101,17 +153,17 @@ fn add_note(
     rt: &HostRuntime,
     policy: &str,
     noted: &PolicyDiagnostic,
-    told: &mut Vec<u8>,
+    report: &mut Vec<u8>,
 ) -> Result<(), AllocError> {
-    add_error(rt, told, noted.spot(policy), &noted.text)
+    add_error(rt, report, noted.spot(policy), &noted.text)
 }
 
 /// Adds an error to the report of a test. The error is out of memory.
 pub(crate) fn add_error<D: Display>(
     rt: &HostRuntime,
-    told: &mut Vec<u8>,
+    report: &mut Vec<u8>,
     spot: Spot<'_>,
     message: &D,
 ) -> Result<(), AllocError> {
-    told.extend_from_slice(error_line(rt, spot, message)?.as_slice())
+    report.extend_from_slice(error_line(rt, spot, message)?.as_slice())
 }

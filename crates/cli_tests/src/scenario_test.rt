@@ -1,31 +1,21 @@
 //! Scenarios that are run as tests, each on its machine.
-ghost use Rattle.std.specs.Prelude.{◌≡◌, ◌&&◌, not, length, nat_lt, IfOk};
-ghost use Rattle.cli_tests.specs.Outcome.{HasEnded, PassesBy};
+ghost use Rattle.std.specs.Prelude.{◌≡◌, ◌&&◌, false, not, IfOk};
+ghost use Rattle.std.specs.Option.{option_copied};
+ghost use Rattle.line_rounds.specs.Views.{whole_view};
+ghost use Rattle.cli_base.specs.ListFailures.{lacks_memory};
+ghost use Rattle.cli_tests.specs.ScenarioTest.{IsFileResult, IsFound, IsMachineResult, IsScenarioResult, IsTextResult, IsUnfoldedResult, IsUnreadResult, is_warned};
 
 use crate::coverage_printer::CoveragePrinter;
-use crate::policy_test::add_error;
+use crate::file_presence::may_exist;
+use crate::scenario_run::{TestCase, failed, test_lines};
 use cli_base::{
-    ListFaultMessage, Machine, Origin, OutputStream, ReadFailure, Settings, Spot, StartListFailure,
-    StopMessage, Warnings, error_line, fault_spot, machine_path, plain_writer, read_whole,
-    rounds_spot, rounds_token, silent_reader, spot_of, text_of,
+    Host, Machine, Origin, ReadFailure, Settings, Spot, StartListFailure, UNWRITTEN, Warnings,
+    error_line, machine_path, read_whole, rounds_spot, rounds_token,
 };
-use init_core::BootFault;
-use line_names::RoundMark;
-use line_rounds::{UnfoldError, unfold};
-use list_review::Review;
-use run_scenario::{ScenarioEnd, ScenarioInput, exit_status};
+use cli_options::TestOptions;
+use line_rounds::{UnfoldError, UnfoldedText, unfold};
 use std::alloc::AllocError;
-use std::fs;
-use view_diagnostics::DiagnosticForm;
-use view_runs::{TranscriptOptions, answers, run};
 use view_test_report::TestResult;
-
-/// The view of a run that a test takes: all replies, without accounts and line numbers.
-const REPLIES: TranscriptOptions<'static> = TranscriptOptions {
-    only: None,
-    accounts: false,
-    numbers: false,
-};
 
 /// The error of a scenario that has no warnings since it isn't read whole, where a warning is a fault.
 const UNWARNED: &str = "--strict: expected a file that is read to its end within 64M bytes";
@@ -33,106 +23,160 @@ const UNWARNED: &str = "--strict: expected a file that is read to its end within
 /// What all tests have in common.
 #[derive(Clone, Copy)]
 pub(crate) struct TestConditions<'a> {
+    /// The arguments of the command line.
+    pub(crate) asked: &'a TestOptions<'a>,
     /// The settings of the command line.
     pub(crate) settings: Settings<'a>,
-    /// Whether a warning fails the test of a scenario.
-    pub(crate) strict: bool,
     /// The machine of scenarios without a start list of their own.
     pub(crate) other: &'a Result<Machine<'a>, StartListFailure<'a>>,
 }
 
-// A scenario, on a machine.
-#[derive(Clone, Copy)]
-struct TestCase<'a> {
-    scenario: &'a str,
-    machine: &'a Machine<'a>,
-    settings: Settings<'a>,
-    // Whether a warning fails the test.
-    strict: bool,
-}
-
 /// Runs a scenario on its machine: the one of the start list next to it if there is one, else the other one. Adds its coverage if
 /// that is asked for. The error is out of memory.
-pub(crate) fn test_scenario(
-    rt: &HostRuntime,
+pub(crate) fn test_scenario<H: Host>(
+    host: &H,
     scenario: &str,
     conditions: TestConditions<'_>,
     coverings: &mut CoveragePrinter,
-) -> Result<TestResult, AllocError> {
-    let beside = machine_path(rt.alloc(), scenario)?;
-    if let Ok(false) = fs::exists(rt, beside.as_str()) {
-        return run_listed(rt, scenario, conditions.other, conditions, coverings);
+) -> Result<TestResult, AllocError>
+    requires { IsFound (H.text_at host.now) conditions.settings
+        (option_copied conditions.asked.now.machine) conditions.other.now }
+    ensures { IfOk result (λ test. IsScenarioResult (H.text_at host.now) conditions.entry.asked.now.strict
+        conditions.entry.settings (option_copied conditions.entry.asked.now.machine) scenario.now test.passed) }
+{
+    let list = machine_path(host.rt().alloc(), scenario)?;
+    if !may_exist(host, list.as_str()) {
+        return test_on(host, scenario, conditions.other, conditions, coverings);
     }
-    let machine = Machine::find(rt, Some(beside.as_str()), conditions.settings);
-    run_listed(rt, scenario, &machine, conditions, coverings)
+    let machine = Machine::find(host, Some(list.as_str()), conditions.settings);
+    test_on(host, scenario, &machine, conditions, coverings)
 }
 
 // Runs a scenario on a machine. The test fails if the machine's start list has a fault.
-fn run_listed(
-    rt: &HostRuntime,
+fn test_on<H: Host>(
+    host: &H,
     scenario: &str,
     machine: &Result<Machine<'_>, StartListFailure<'_>>,
     conditions: TestConditions<'_>,
     coverings: &mut CoveragePrinter,
-) -> Result<TestResult, AllocError> {
+) -> Result<TestResult, AllocError>
+    ensures { IfOk result (λ test. IsMachineResult (H.text_at host.now) conditions.entry.asked.now.strict
+        conditions.entry.settings machine.now scenario.now test.passed) }
+{
     match machine {
         Ok(machine) => {
             let case = TestCase {
                 scenario,
                 machine,
+                list: machine.list(),
                 settings: conditions.settings,
-                strict: conditions.strict,
+                strict: conditions.asked.strict,
             };
-            run_on(rt, case, coverings)
+            test_file(host, case, coverings)
         }
-        Err(fault) => failed(rt, scenario, error_line(rt, fault.spot(), fault)?),
+        Err(failure) => without_machine(host.rt(), scenario, failure),
     }
 }
 
-// Runs a scenario of a path.
-fn run_on(
+// Returns the result of a scenario whose machine's start list has a fault. Fails if the host was out of memory for the list.
+fn without_machine(
     rt: &HostRuntime,
+    scenario: &str,
+    failure: &StartListFailure<'_>,
+) -> Result<TestResult, AllocError>
+    ensures { IfOk result (λ test. (lacks_memory failure.now ≡ false) × (test.passed ≡ false)) }
+{
+    if lacks_memory(failure) {
+        return Err(AllocError);
+    }
+    failed(rt, scenario, error_line(rt, failure.spot(), failure)?)
+}
+
+/// Returns whether the host was out of memory for a start list.
+pub(crate) fn lacks_memory(failure: &StartListFailure<'_>) -> bool
+    ensures { result ≡ lacks_memory failure.now }
+{
+    failure.exit_status() == UNWRITTEN
+}
+
+// Runs the scenario of a file.
+fn test_file<H: Host>(
+    host: &H,
     case: TestCase<'_>,
     coverings: &mut CoveragePrinter,
-) -> Result<TestResult, AllocError> {
-    let scenario = case.scenario;
-    if let Some(whole) = read_whole(rt, scenario) {
-        return run_text(rt, case, &whole, coverings);
+) -> Result<TestResult, AllocError>
+    ensures { IfOk result (λ test. IsFileResult (H.text_at host.now) case.entry.strict case.entry.settings
+        case.entry.list.now case.entry.scenario.now test.passed) }
+{
+    match read_whole(host, case.scenario)? {
+        Some(text) => test_text(host, case, &text, coverings),
+        None => test_unread(host, case, coverings),
     }
-    match fs::open(rt, scenario) {
+}
+
+// Runs the lines of a file that isn't read whole, without its rounds unfolded. The test fails if its warnings are asked for.
+fn test_unread<H: Host>(
+    host: &H,
+    case: TestCase<'_>,
+    coverings: &mut CoveragePrinter,
+) -> Result<TestResult, AllocError>
+    ensures { IfOk result (λ test. IsUnreadResult (H.text_at host.now) case.entry.strict case.entry.settings
+        case.entry.list.now case.entry.scenario.now test.passed) }
+{
+    let rt = host.rt();
+    let scenario = case.scenario;
+    match host.open(scenario) {
         Ok(_) if case.strict => failed(rt, scenario, error_line(rt, Spot::nowhere(), &UNWARNED)?),
-        Ok(file) => run_from(rt, case, Origin::File(file), &[], coverings),
+        Ok(file) => test_lines(rt, case, Origin::File(file), &[], coverings),
         Err(error) => {
             let unread = ReadFailure::Closed(error);
-            let told = error_line(rt, Spot::nowhere(), &unread.about(scenario))?;
-            failed(rt, scenario, told)
+            let report = error_line(rt, Spot::nowhere(), &unread.about(scenario))?;
+            failed(rt, scenario, report)
         }
     }
 }
 
 // Runs a scenario of a text, with its rounds unfolded.
-fn run_text(
-    rt: &HostRuntime,
+#[tactic(auto, unfolding(cli_base::specs::Unfolding::rounds_of))]
+fn test_text<H: Host>(
+    host: &H,
     case: TestCase<'_>,
     text: &[u8],
     coverings: &mut CoveragePrinter,
-) -> Result<TestResult, AllocError> {
+) -> Result<TestResult, AllocError>
+    ensures { IfOk result (λ test. IsTextResult case.entry.strict case.entry.settings case.entry.list.now
+        text.now test.passed) }
+{
+    let rt = host.rt();
     let scenario = case.scenario;
     match unfold(rt.alloc(), text, case.settings.known(rt.alloc())?) {
-        Ok(lines) => {
-            let warnings = Warnings::of(rt, case.machine.list(), None, scenario, text)?;
-            let origin = Origin::Held(lines.bytes());
-            let trial = run_from(rt, case, origin, lines.marks(), coverings)?;
-            warned(rt, &warnings, case.strict, trial)
-        }
+        Ok(lines) => test_unfolded(host, case, text, &lines, coverings),
         Err(UnfoldError::Fault(fault)) => {
             let token = rounds_token(rt, text, fault)?;
             let message = fault.reason.about(token.as_str());
-            let told = error_line(rt, rounds_spot(scenario, fault), &message)?;
-            failed(rt, scenario, told)
+            let report = error_line(rt, rounds_spot(scenario, fault), &message)?;
+            failed(rt, scenario, report)
         }
         Err(UnfoldError::NoMemory) => Err(AllocError),
     }
+}
+
+// Runs the unfolded lines of a scenario's text, after its warnings.
+fn test_unfolded<'a, H: Host>(
+    host: &H,
+    case: TestCase<'a>,
+    text: &'a [u8],
+    lines: &UnfoldedText<'_>,
+    coverings: &mut CoveragePrinter,
+) -> Result<TestResult, AllocError>
+    ensures { IfOk result (λ test. IsUnfoldedResult case.entry.strict case.entry.settings case.entry.list.now
+        text.now (whole_view lines.now) test.passed) }
+{
+    let rt = host.rt();
+    let warnings = Warnings::of(rt, case.list, None, case.scenario, text)?;
+    let origin: Origin<'_, H::File> = Origin::Held(lines.bytes());
+    let result = test_lines(rt, case, origin, lines.marks(), coverings)?;
+    warned(rt, &warnings, case.strict, result)
 }
 
 // Returns a result with warnings before its diagnostics. With `strict` the test fails by them.
@@ -142,153 +186,13 @@ fn warned(
     strict: bool,
     trial: TestResult,
 ) -> Result<TestResult, AllocError>
-    ensures { IfOk result (λ test. test.passed
-        ≡ (trial.passed && not (strict && nat_lt 0 (length warnings.now)))) }
+    ensures { IfOk result (λ test. test.passed ≡ (trial.passed && not (is_warned strict warnings.now))) }
 {
-    let mut told = warnings.lines(rt)?;
-    told.extend_from_slice(trial.told.as_slice())?;
+    let mut report = warnings.lines(rt)?;
+    report.extend_from_slice(trial.told.as_slice())?;
     Ok(TestResult {
         name: trial.name,
         passed: trial.passed && !(strict && warnings.count() > 0),
-        told,
-    })
-}
-
-// Runs the lines of a source with these round marks.
-fn run_from(
-    rt: &HostRuntime,
-    case: TestCase<'_>,
-    origin: Origin<'_>,
-    marks: &[RoundMark],
-    coverings: &mut CoveragePrinter,
-) -> Result<TestResult, AllocError>
-    ensures { IfOk result (λ test.
-        PassesBy case.entry.machine.now case.entry.settings marks.now test.passed) }
-{
-    let mut kept = played(rt, case, origin, marks, coverings)?;
-    add_end(rt, case, &kept.ended, &mut kept.text)?;
-    let name = String::from_str(rt.alloc(), case.scenario)?;
-    Ok(kept.into_result(name))
-}
-
-// A run whose diagnostics are kept.
-#[derive(Drop)]
-struct TestRun {
-    // The ending of the run.
-    ended: Result<ScenarioEnd, BootFault>,
-    // The diagnostics of the run.
-    text: Vec<u8>,
-}
-
-impl TestRun {
-    ghost use Rattle.std.specs.Prelude.{◌≡◌};
-    ghost use Rattle.cli_tests.specs.Outcome.{is_answered};
-
-    // Returns the result of the test of this name.
-    fn into_result(self, name: String) -> TestResult
-        ensures { result.passed ≡ is_answered self.ended }
-    {
-        TestResult {
-            name,
-            passed: exit_status(&self.ended) == 0,
-            told: self.text,
-        }
-    }
-}
-
-// Runs the lines of a source, and keeps its diagnostics. Adds the coverage if that is asked for.
-fn played(
-    rt: &HostRuntime,
-    case: TestCase<'_>,
-    origin: Origin<'_>,
-    marks: &[RoundMark],
-    coverings: &mut CoveragePrinter,
-) -> Result<TestRun, AllocError>
-    ensures { IfOk result (λ kept.
-        HasEnded case.entry.machine.now case.entry.settings marks.now kept.ended) }
-{
-    let play = ScenarioInput {
-        list: case.machine.list(),
-        scenario: Settings::without_values(DiagnosticForm::Text).subject(case.scenario),
-        start: case.settings.start(rt.alloc(), marks)?,
-    };
-    let mut reader = silent_reader(origin);
-    let mut complaints = plain_writer(rt, OutputStream::text(rt));
-    let mut nowhere = plain_writer(rt, OutputStream::Dropped);
-    if !coverings.are_wanted() {
-        let ended = run(
-            rt.alloc(),
-            play,
-            REPLIES,
-            &mut reader,
-            &mut nowhere,
-            &mut complaints,
-        );
-        return Ok(TestRun {
-            ended,
-            text: text_of(rt, complaints),
-        });
-    }
-    match answers(rt.alloc(), play, &mut reader, &mut nowhere, &mut complaints) {
-        Ok(answered) => {
-            let exchanges = answered.exchanges.as_slice();
-            coverings.add(rt, case.machine, case.scenario, exchanges)?;
-            Ok(TestRun {
-                ended: Ok(answered.ending),
-                text: text_of(rt, complaints),
-            })
-        }
-        Err(fault) => Ok(TestRun {
-            ended: Err(fault),
-            text: text_of(rt, complaints),
-        }),
-    }
-}
-
-// Adds the fault of a run that didn't begin or was stopped.
-fn add_end(
-    rt: &HostRuntime,
-    case: TestCase<'_>,
-    ended: &Result<ScenarioEnd, BootFault>,
-    told: &mut Vec<u8>,
-) -> Result<(), AllocError> {
-    match ended {
-        Ok(ending) => match ending.fault {
-            Some(fault) => {
-                let spot = spot_of(case.scenario, ending.lines, fault);
-                add_error(rt, told, spot, &StopMessage(fault))
-            }
-            None => Ok(()),
-        },
-        Err(fault) => add_unbooted(rt, case.machine, fault, told),
-    }
-}
-
-// Adds why no machine was booted, with the place in its start list if that is a file's.
-fn add_unbooted(
-    rt: &HostRuntime,
-    machine: &Machine<'_>,
-    fault: &BootFault,
-    told: &mut Vec<u8>,
-) -> Result<(), AllocError> {
-    if let Some(path) = machine.path() {
-        if let Err(fault) = Review::read(rt.alloc(), machine.text()) {
-            return add_error(
-                rt,
-                told,
-                fault_spot(path, &fault),
-                &ListFaultMessage(&fault),
-            );
-        }
-    }
-    add_error(rt, told, Spot::nowhere(), &format_args!("boot: {fault}"))
-}
-
-// Returns the result of a scenario that failed before its first line.
-fn failed(rt: &HostRuntime, scenario: &str, told: Vec<u8>) -> Result<TestResult, AllocError> {
-    Ok(TestResult {
-        name: String::from_str(rt.alloc(), scenario)?,
-        passed: false,
-        told,
+        told: report,
     })
 }

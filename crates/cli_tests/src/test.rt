@@ -1,7 +1,10 @@
 //! The command `test`: scenarios are run and policies are checked as tests, and their results are printed.
-ghost use Rattle.std.specs.Prelude.{◌≡◌, ◌≢◌, ◌+◌, length, map, IfErr, IfNone, IfOk, IfSome, OnOk};
-ghost use Rattle.cli_tests.specs.Outcome.{AsksFor, HasResults, IsPercentage, IsShortBy, TestsEnd, outcome_status};
+ghost use Rattle.std.specs.Prelude.{◌≡◌, ◌⊎◌, ◌<◌, false, length, IfErr, IfNone, IfOk, IfSome, IsSomeAnd, OnErr, OnOk};
+ghost use Rattle.std.specs.Option.{option_copied};
+ghost use Rattle.cli_base.specs.Statuses.{EndsAs};
+ghost use Rattle.cli_tests.specs.Outcome.{AreResults, AsksFor, HasResults, IsNoPercentage, IsPercentage, IsResultOf, IsShortBy, LacksTests, TestsEnd, outcome_status, search_lacks_memory};
 ghost use Rattle.cli_tests.specs.Plan.{AreSelected};
+ghost use Rattle.cli_tests.specs.ScenarioTest.{IsFound};
 
 use crate::coverage_printer::CoveragePrinter;
 use crate::file_search::{SearchFailure, files_at};
@@ -9,10 +12,11 @@ use crate::planned_test::{PlannedTest, planned_tests, select_tests};
 use crate::policy_test::test_policy;
 use crate::scenario_test::{TestConditions, test_scenario};
 use cli_base::{
-    Machine, REFUSED, Settings, Spot, UNWRITTEN, report_error, report_write_failure, status_of,
-    write_file,
+    Host, Machine, REFUSED, Settings, Spot, UNWRITTEN, report_error, report_write_failure,
+    status_of, write_file,
 };
 use cli_options::TestOptions;
+use std::alloc::AllocError;
 use std::io;
 use std::io::{IsTerminal, Write};
 use std::time::{Duration, Instant};
@@ -62,40 +66,48 @@ impl TestOutcome {
 /// Runs the scenarios of all paths, each on the start list next to it or on that of `--machine`, and checks each policy against the
 /// start list next to it. With filters only the tests are run whose paths have one of their texts. Prints a line for each test, and
 /// writes a JUnit document if one is asked for. Returns the exit status: 0, 3 if a test failed or less is covered than asked for, 2 if
-/// no test is found or the options are refused.
-pub fn run_tests<'a>(
-    rt: &HostRuntime,
+/// no test is found or the threshold is refused, 1 if the host is out of memory or a result can't be written, 141 if nobody reads the
+/// results.
+pub fn run_tests<'a, H: Host>(
+    host: &H,
     asked: &'a TestOptions<'a>,
     settings: Settings<'a>,
     colored: bool,
 ) -> u8
-    ensures { TestsEnd asked.now result }
+    ensures { TestsEnd (H.text_at host.now) asked.now settings.entry result }
 {
+    let rt = host.rt();
     let threshold = match threshold_in(rt, settings.form, asked.threshold) {
         Ok(threshold) => threshold,
         Err(status) => return status,
     };
-    match tests_at(rt, asked) {
+    match tests_at(host, asked) {
         Ok(tests) => {
-            let wanted = TestSettings {
+            let options = TestSettings {
                 asked,
                 settings,
                 colored,
                 threshold,
             };
-            run_selected(rt, tests.as_slice(), wanted)
+            run_selected(host, tests.as_slice(), options)
         }
-        Err(unfound) => unfound.tell(rt, settings.form),
+        Err(failure) => failure.report(rt, settings.form),
     }
 }
 
 // Runs tests, and returns the exit status.
-fn run_selected(rt: &HostRuntime, tests: &[PlannedTest], wanted: TestSettings<'_>) -> u8
-    ensures { result ≢ 1 → result ≢ 141 → HasResults wanted.entry.threshold tests.now result }
+fn run_selected<H: Host>(host: &H, tests: &[PlannedTest], options: TestSettings<'_>) -> u8
+    ensures { EndsAs ⊥ (HasResults (H.text_at host.now) options.entry.asked.now options.entry.settings
+        options.entry.threshold tests.now) result }
 {
-    match run_all(rt, tests, wanted) {
-        Ok(outcome) => end(rt, wanted.settings.form, &outcome, wanted.asked.junit),
-        Err(error) => status_of(rt, Err(error)),
+    match run_all(host, tests, options) {
+        Ok(outcome) => end(
+            host.rt(),
+            options.settings.form,
+            &outcome,
+            options.asked.junit,
+        ),
+        Err(error) => status_of(host.rt(), Err(error)),
     }
 }
 
@@ -108,6 +120,7 @@ fn threshold_in(
 ) -> Result<Option<u8>, u8>
     ensures ok { IfOk result (AsksFor text.entry) }
     ensures err { IfErr result (λ status. status ≡ 2) }
+    ensures refused { OnErr result (IsSomeAnd text.entry (λ given. IsNoPercentage given.now)) }
 {
     let Some(text) = text else {
         return Ok(None);
@@ -120,11 +133,12 @@ fn threshold_in(
 
 // Returns the percentage that a text denotes: a number from 0 to 100.
 fn percent_of(text: &str) -> Option<u8>
-    ensures { IfSome result (IsPercentage text.now) }
+    ensures some { IfSome result (IsPercentage text.now) }
+    ensures none { IfNone result (IsNoPercentage text.now) }
 {
     match text.parse::<u8>() {
-        Ok(percent) if percent <= 100 => Some(percent),
-        _ => None,
+        Ok(percent) => { if percent <= 100 { Some(percent) } else { None } }
+        Err(_) => None,
     }
 }
 
@@ -138,15 +152,18 @@ fn refuse_threshold(rt: &HostRuntime, form: DiagnosticForm, text: &str) -> u8
 }
 
 // Returns the tests of the paths that the filters select. Errors: those of the search, the filters select none.
-fn tests_at<'a>(
-    rt: &HostRuntime,
+fn tests_at<'a, H: Host>(
+    host: &H,
     asked: &'a TestOptions<'a>,
 ) -> Result<Vec<PlannedTest>, SearchFailure<'a>>
-    ensures { IfOk result (λ tests.
-        AreSelected (map (λ text. text.now) asked.now.filters.items) tests.items) }
+    ensures selected { IfOk result (λ tests. AreSelected (H.text_at host.now) asked.now.paths.items
+        asked.now.filters.items tests.items) }
+    ensures some { IfOk result (λ tests. 0 < length tests.items) }
+    ensures failed { IfErr result (λ failure. search_lacks_memory failure ≡ false
+        → LacksTests (H.text_at host.now) asked.now) }
 {
-    let files = files_at(rt, asked.paths.as_slice())?;
-    let mut tests = planned_tests(rt, files)?;
+    let files = files_at(host, asked.paths.as_slice())?;
+    let mut tests = planned_tests(host, files)?;
     select_tests(&mut tests, asked.filters.as_slice());
     if tests.is_empty() {
         return Err(SearchFailure::Unselected(asked.filters.as_slice()));
@@ -156,7 +173,7 @@ fn tests_at<'a>(
 
 // Writes the JUnit document if one is asked for, and returns the exit status.
 fn end(rt: &HostRuntime, form: DiagnosticForm, outcome: &TestOutcome, junit: Option<&str>) -> u8
-    ensures written { result ≢ 1 → result ≡ outcome_status outcome.now }
+    ensures written { (result ≡ 1) ⊎ (result ≡ outcome_status outcome.now) }
     ensures plain { IfNone junit.entry (result ≡ outcome_status outcome.now) }
 {
     let trials = outcome.trials.as_slice();
@@ -176,26 +193,28 @@ fn write_document(rt: &HostRuntime, path: &str, trials: &[TimedResult]) -> io::R
 }
 
 // Runs tests, and prints a line for each. After the lines prints the coverage if it is asked for.
-fn run_all(
-    rt: &HostRuntime,
+fn run_all<H: Host>(
+    host: &H,
     tests: &[PlannedTest],
-    wanted: TestSettings<'_>,
+    options: TestSettings<'_>,
 ) -> io::Result<TestOutcome>
-    ensures each { IfOk result (λ outcome. length outcome.trials.items ≡ length tests.now) }
-    ensures short { IfOk result (λ outcome. IsShortBy wanted.entry.threshold outcome.falls_short) }
+    ensures each { IfOk result (λ outcome. AreResults (H.text_at host.now) options.entry.asked.now
+        options.entry.settings tests.now outcome.trials.items) }
+    ensures short { IfOk result (λ outcome. IsShortBy options.entry.threshold outcome.falls_short) }
 {
-    let mut coverings = CoveragePrinter::new(rt, wanted.asked);
-    let teller = TestPrinter::new(rt, wanted.colored, coverings.is_document(), tests.len());
-    teller.plan(rt)?;
-    let other = Machine::find(rt, wanted.asked.machine, wanted.settings);
+    let rt = host.rt();
+    let mut coverings = CoveragePrinter::new(rt, options.asked);
+    let printer = TestPrinter::new(rt, options.colored, coverings.is_document(), tests.len());
+    printer.plan(rt)?;
+    let other = Machine::find(host, options.asked.machine, options.settings);
     let conditions = TestConditions {
-        settings: wanted.settings,
-        strict: wanted.asked.strict,
+        asked: options.asked,
+        settings: options.settings,
         other: &other,
     };
-    let trials = run_each(rt, tests, conditions, teller, &mut coverings)?;
-    coverings.tell(rt)?;
-    let falls_short = coverings.falls_short(rt, wanted.settings.form, wanted.threshold);
+    let trials = run_each(host, tests, conditions, printer, &mut coverings)?;
+    coverings.print(rt)?;
+    let falls_short = coverings.falls_short(rt, options.settings.form, options.threshold);
     Ok(TestOutcome {
         trials,
         falls_short,
@@ -203,53 +222,65 @@ fn run_all(
 }
 
 // Runs all tests, and returns the result of each.
-fn run_each(
-    rt: &HostRuntime,
+fn run_each<H: Host>(
+    host: &H,
     tests: &[PlannedTest],
     conditions: TestConditions<'_>,
-    teller: TestPrinter,
+    printer: TestPrinter,
     coverings: &mut CoveragePrinter,
 ) -> io::Result<Vec<TimedResult>>
-    ensures { IfOk result (λ trials. length trials.items ≡ length tests.now) }
+    requires { IsFound (H.text_at host.now) conditions.settings
+        (option_copied conditions.asked.now.machine) conditions.other.now }
+    ensures { IfOk result (λ trials. AreResults (H.text_at host.now) conditions.entry.asked.now
+        conditions.entry.settings tests.now trials.items) }
 {
-    let mut trials = Vec::new(rt.alloc());
+    let mut trials = Vec::new(host.rt().alloc());
     for place in 0..tests.len() {
-        run_next(
-            rt,
-            &tests[place],
-            conditions,
-            teller,
-            coverings,
-            &mut trials,
-        )?;
+        let trial = run_timed(host, &tests[place], conditions, coverings)?;
+        printer.point(host.rt(), place.saturating_add(1), &trial.result)?;
+        trials.push(trial)?;
+        printer.progress(host.rt(), trials.len());
     }
     Ok(trials)
 }
 
-// Runs the next test, and prints its line.
-fn run_next(
-    rt: &HostRuntime,
+// Runs a test, and returns its result with its time.
+fn run_timed<H: Host>(
+    host: &H,
     test: &PlannedTest,
     conditions: TestConditions<'_>,
-    teller: TestPrinter,
     coverings: &mut CoveragePrinter,
-    trials: &mut Vec<TimedResult>,
-) -> io::Result<()>
-    ensures { OnOk result (length trials.new.items ≡ length trials.old.items + 1) }
+) -> io::Result<TimedResult>
+    requires { IsFound (H.text_at host.now) conditions.settings
+        (option_copied conditions.asked.now.machine) conditions.other.now }
+    ensures { IfOk result (λ trial. IsResultOf (H.text_at host.now) conditions.entry.asked.now
+        conditions.entry.settings test.now trial.result.passed) }
 {
+    let rt = host.rt();
     let start = Instant::now(rt)?;
-    let result = match test {
-        PlannedTest::Scenario(path) => test_scenario(rt, path.as_str(), conditions, coverings)?,
-        PlannedTest::Policy(path) => test_policy(rt, path.as_str(), conditions.settings)?,
-    };
-    let milliseconds = milliseconds_of(start.elapsed(rt)?);
-    teller.point(rt, trials.len().saturating_add(1), &result)?;
-    trials.push(TimedResult {
+    let result = run_test(host, test, conditions, coverings)?;
+    Ok(TimedResult {
         result,
-        milliseconds,
-    })?;
-    teller.progress(rt, trials.len());
-    Ok(())
+        milliseconds: milliseconds_of(start.elapsed(rt)?),
+    })
+}
+
+// Runs a test. The error is out of memory.
+fn run_test<H: Host>(
+    host: &H,
+    test: &PlannedTest,
+    conditions: TestConditions<'_>,
+    coverings: &mut CoveragePrinter,
+) -> Result<TestResult, AllocError>
+    requires { IsFound (H.text_at host.now) conditions.settings
+        (option_copied conditions.asked.now.machine) conditions.other.now }
+    ensures { IfOk result (λ trial. IsResultOf (H.text_at host.now) conditions.entry.asked.now
+        conditions.entry.settings test.now trial.passed) }
+{
+    match test {
+        PlannedTest::Scenario(path) => test_scenario(host, path.as_str(), conditions, coverings),
+        PlannedTest::Policy(path) => test_policy(host, path.as_str(), conditions.settings),
+    }
 }
 
 // Returns the milliseconds of a time, at most the largest number of 64 bits.
@@ -280,16 +311,16 @@ impl TestPrinter {
 
     // Prints how many tests are run.
     fn plan(self, rt: &HostRuntime) -> io::Result<()> {
-        self.tell(rt, tap_plan(rt.alloc(), self.all)?.as_bytes())
+        self.print(rt, tap_plan(rt.alloc(), self.all)?.as_bytes())
     }
 
     // Prints the result of the test with this number.
     fn point(self, rt: &HostRuntime, number: usize, trial: &TestResult) -> io::Result<()> {
-        self.tell(rt, tap_point(rt.alloc(), number, trial)?.as_slice())
+        self.print(rt, tap_point(rt.alloc(), number, trial)?.as_slice())
     }
 
     // Prints lines, unless a document takes their place.
-    fn tell(self, rt: &HostRuntime, lines: &[u8]) -> io::Result<()> {
+    fn print(self, rt: &HostRuntime, lines: &[u8]) -> io::Result<()> {
         if self.silent {
             return Ok(());
         }

@@ -6,12 +6,12 @@ ghost use Rattle.std.specs.Prelude.{◌≡◌, ◌≢◌, ◌⊎◌, ◌&&◌, �
 ghost use Rattle.std.specs.Process.{exit_status};
 ghost use Rattle.clap.specs.Words.{kind_of};
 ghost use Rattle.cli_base.specs.Statuses.{EndsAs, IsZero};
-ghost use Rattle.nethrywel.specs.CommandStatus.{AloneAnswers, AnswersBy, AnswersRequest, AnswersWords, DiffAnswers, RefusesBy, lacks_scenario};
+ghost use Rattle.nethrywel.specs.CommandStatus.{AloneAnswers, AnswersBy, AnswersRequest, AnswersWords, DiffAnswers, HelpEnds, Helps, RefusesBy, lacks_scenario};
 ghost use Rattle.cli_runs.specs.CommandStatus.{RunEnds};
 ghost use Rattle.cli_tests.specs.Outcome.{TestsEnd};
 
 use clap::Error;
-use cli_base::{Coloring, REFUSED, Settings, Spot, names_given, report_error, status_of};
+use cli_base::{Coloring, Host, REFUSED, Settings, Spot, names_given, report_error, status_of};
 use cli_budgets::print_minimum_budgets;
 use cli_lists::{check_list, compare_lists, show_reach, show_route, show_tree};
 use cli_options::{
@@ -30,21 +30,24 @@ fn main(rt: HostRuntime) -> ExitCode {
 }
 
 // Runs the command that the host's arguments ask for, and returns the exit status. Arguments that aren't UTF-8 are refused.
-fn answer_host(rt: &HostRuntime) -> ExitCode
-    ensures { (exit_status result ≡ 2) ⊎ ((words : List (List ℕ)) × AnswersWords words (exit_status result)) }
+fn answer_host<H: Host>(host: &H) -> ExitCode
+    ensures { (exit_status result ≡ 2)
+        ⊎ ((words : List (List ℕ)) × AnswersWords (H.text_at host.now) words (exit_status result)) }
 {
+    let rt = host.rt();
     match words_given(rt) {
-        Ok(words) => ExitCode::from(answer_words(rt, words.as_slice())),
+        Ok(words) => ExitCode::from(answer_words(host, words.as_slice())),
         Err(error) => ExitCode::from(refuse_words(rt, Err(error))),
     }
 }
 
 // Runs the command that the arguments ask for, and returns the exit status.
-fn answer_words(rt: &HostRuntime, words: &[String]) -> u8
-    ensures { AnswersWords (map string_bytes words.now) result }
+fn answer_words<H: Host>(host: &H, words: &[String]) -> u8
+    ensures { AnswersWords (H.text_at host.now) (map string_bytes words.now) result }
 {
+    let rt = host.rt();
     match CommandLine::read(rt.alloc(), words) {
-        Ok(Some(request)) => answer_request(rt, &request),
+        Ok(Some(request)) => answer_request(host, &request),
         Ok(None) => refuse_words(rt, missing_command_error(rt.alloc())),
         Err(error) => refuse(rt, &error),
     }
@@ -74,9 +77,10 @@ fn refuse_words(rt: &HostRuntime, told: Result<Error, Error>) -> u8
 }
 
 // Runs the command of a request with the settings of the command line, and returns the exit status.
-fn answer_request(rt: &HostRuntime, request: &CommandLine<'_>) -> u8
-    ensures { AnswersRequest request.now result }
+fn answer_request<H: Host>(host: &H, request: &CommandLine<'_>) -> u8
+    ensures { AnswersRequest (H.text_at host.now) request.now result }
 {
+    let rt = host.rt();
     let form = if request.command.is_json() {
         DiagnosticForm::Json
     } else {
@@ -88,35 +92,35 @@ fn answer_request(rt: &HostRuntime, request: &CommandLine<'_>) -> u8
         return REFUSED;
     }
     match names_given(rt, request.given.as_slice(), form) {
-        Ok(known) => answer(rt, &request.command, Settings::new(&known, form)),
+        Ok(known) => answer(host, &request.command, Settings::new(&known, form)),
         Err(status) => status,
     }
 }
 
 // Runs a command, and returns the exit status.
-fn answer<'a>(rt: &HostRuntime, command: &'a Command<'a>, settings: Settings<'a>) -> u8
-    ensures { AnswersBy command.now settings.entry result }
+fn answer<'a, H: Host>(host: &H, command: &'a Command<'a>, settings: Settings<'a>) -> u8
+    ensures { AnswersBy (H.text_at host.now) command.now settings.entry result }
 {
     match command {
-        Command::Run(asked) => answer_run(rt, asked, settings),
-        Command::Record(asked) => record_scenario(rt, asked, settings),
-        Command::Check(asked) => check_list(rt, asked, settings),
-        Command::Tree(asked) => show_tree(rt, asked, settings),
-        Command::Reach(asked) => show_reach(rt, asked, settings),
-        Command::Route(asked) => show_route(rt, asked, settings),
-        Command::Trace(asked) => trace_scenario(rt, asked, settings),
-        Command::Accounts(asked) => list_accounts(rt, asked, settings),
-        Command::Least(asked) => print_minimum_budgets(rt, asked, settings),
-        Command::Alone(asked) => answer_alone(rt, asked, settings),
-        Command::Diff(asked) => answer_diff(rt, asked, settings),
-        Command::Test(asked) => answer_test(rt, asked, settings),
-        Command::Help(topic) => print_help(rt, *topic),
+        Command::Run(asked) => answer_run(host, asked, settings),
+        Command::Record(asked) => record_scenario(host, asked, settings),
+        Command::Check(asked) => check_list(host, asked, settings),
+        Command::Tree(asked) => show_tree(host, asked, settings),
+        Command::Reach(asked) => show_reach(host, asked, settings),
+        Command::Route(asked) => show_route(host, asked, settings),
+        Command::Trace(asked) => trace_scenario(host, asked, settings),
+        Command::Accounts(asked) => list_accounts(host, asked, settings),
+        Command::Least(asked) => print_minimum_budgets(host, asked, settings),
+        Command::Alone(asked) => answer_alone(host, asked, settings),
+        Command::Diff(asked) => answer_diff(host, asked, settings),
+        Command::Test(asked) => answer_test(host, asked, settings),
+        Command::Help(topic) => print_help(host.rt(), *topic),
     }
 }
 
 // Prints a page of help, and returns the exit status: on calls, else what `--help` prints of the program or of a command.
 fn print_help(rt: &HostRuntime, topic: Option<&str>) -> u8
-    ensures { EndsAs IsZero result }
+    ensures { HelpEnds topic.entry result }
 {
     match topic {
         Some("calls") => status_of(rt, print!(rt; "{CALLS}")),
@@ -127,7 +131,7 @@ fn print_help(rt: &HostRuntime, topic: Option<&str>) -> u8
 
 // Prints the help that these arguments ask for, or why they are refused, and returns the exit status.
 fn print_help_of(rt: &HostRuntime, arguments: &[&str]) -> u8
-    ensures { EndsAs IsZero result }
+    ensures { Helps (map (λ word. word.now) arguments.now) result }
 {
     match CommandLine::read(rt.alloc(), arguments) {
         Ok(_) => 0,
@@ -136,29 +140,31 @@ fn print_help_of(rt: &HostRuntime, arguments: &[&str]) -> u8
 }
 
 // Runs a scenario, and returns the exit status.
-fn answer_run<'a>(rt: &HostRuntime, asked: &'a RunOptions<'a>, settings: Settings<'a>) -> u8
-    ensures { RunEnds asked.now settings.entry result }
+fn answer_run<'a, H: Host>(host: &H, asked: &'a RunOptions<'a>, settings: Settings<'a>) -> u8
+    ensures { RunEnds (H.text_at host.now) asked.now settings.entry result }
 {
+    let rt = host.rt();
     match Coloring::asked(rt, asked.color) {
-        Some(coloring) => run_scenario(rt, asked, settings, coloring),
+        Some(coloring) => run_scenario(host, asked, settings, coloring),
         None => refuse_words(rt, color_value_error(rt.alloc())),
     }
 }
 
 // Prints the replies to a component, or to each script, in the whole run and alone. Returns the exit status.
-fn answer_alone<'a>(rt: &HostRuntime, asked: &'a AloneOptions<'a>, settings: Settings<'a>) -> u8
-    ensures { AloneAnswers asked.now settings.entry asked.now.scenario result }
+fn answer_alone<'a, H: Host>(host: &H, asked: &'a AloneOptions<'a>, settings: Settings<'a>) -> u8
+    ensures { AloneAnswers (H.text_at host.now) asked.now settings.entry asked.now.scenario result }
 {
+    let rt = host.rt();
     match asked.scenario {
         Some(scenario) => {
             if asked.all || asked.summary {
                 return refuse_words(rt, alone_usage_error(rt.alloc()));
             }
-            show_alone(rt, asked, scenario, settings)
+            show_alone(host, asked, scenario, settings)
         }
         None => {
             if asked.all {
-                return show_all_alone(rt, asked, settings);
+                return show_all_alone(host, asked, settings);
             }
             refuse_words(rt, alone_usage_error(rt.alloc()))
         }
@@ -166,13 +172,14 @@ fn answer_alone<'a>(rt: &HostRuntime, asked: &'a AloneOptions<'a>, settings: Set
 }
 
 // Prints the differences between two start lists, and returns the exit status.
-fn answer_diff<'a>(rt: &HostRuntime, asked: &'a DiffOptions<'a>, settings: Settings<'a>) -> u8
-    ensures { DiffAnswers asked.now result }
+fn answer_diff<'a, H: Host>(host: &H, asked: &'a DiffOptions<'a>, settings: Settings<'a>) -> u8
+    ensures { DiffAnswers (H.text_at host.now) asked.now settings.entry result }
 {
     if lacks_scenario(asked) {
+        let rt = host.rt();
         return refuse_words(rt, diff_usage_error(rt.alloc()));
     }
-    compare_lists(rt, asked, settings)
+    compare_lists(host, asked, settings)
 }
 
 // Returns whether a scenario is given for the list after alone.
@@ -183,11 +190,12 @@ fn lacks_scenario(asked: &DiffOptions<'_>) -> bool
 }
 
 // Runs scenarios as tests, and returns the exit status.
-fn answer_test<'a>(rt: &HostRuntime, asked: &'a TestOptions<'a>, settings: Settings<'a>) -> u8
-    ensures { TestsEnd asked.now result }
+fn answer_test<'a, H: Host>(host: &H, asked: &'a TestOptions<'a>, settings: Settings<'a>) -> u8
+    ensures { TestsEnd (H.text_at host.now) asked.now settings.entry result }
 {
+    let rt = host.rt();
     match Coloring::asked(rt, asked.color) {
-        Some(coloring) => run_tests(rt, asked, settings, coloring.out),
+        Some(coloring) => run_tests(host, asked, settings, coloring.out),
         None => refuse_words(rt, color_value_error(rt.alloc())),
     }
 }

@@ -1,17 +1,17 @@
--- With a policy, and without one.
-use Rattle.cli_base.specs.Statuses.{IsZero}
-use Rattle.cli_base.proofs.StatusLemmas.{ends_more}
-use Rattle.cli_lists.specs.ListStatus.{EndsPolicy, EndsReviewed, EndsVerdict}
+-- By the review of the list.
+use Rattle.cli_lists.specs.ListStatus.{EndsKept, HasRefused}
+use Rattle.cli_lists.proofs.ReviewLemmas.{on_review, unreviewed}
 use Rattle.cli_lists.proofs.check.check_list.Goals as goal
 
-pub returns-in-Some : goal.returns-in-Some
-returns-in-Some c =
+pub returns-in-Ok : goal.returns-in-Ok
+returns-in-Ok g c =
+    let texts = g.H.Host.text_at c.args.host.now in
     let asked = c.args.asked.now in
-    ends_more (EndsReviewed asked.strict EndsVerdict) (EndsReviewed asked.strict (EndsPolicy asked.policy))
-    (λ ended reviewed. (reviewed.0, reviewed.1, reviewed.2, rw c.in-Some.is reviewed.3)) c.hold.result c.hold.ensures
+    on_review texts c.args.settings asked.list.now (HasRefused asked) (EndsKept texts asked) c.in-Ok.review c.check_review.result
+    c.in-Ok.ensures.reviewed c.check_review.ensures
 
-pub returns-in-None : goal.returns-in-None
-returns-in-None c =
+pub returns-in-Err : goal.returns-in-Err
+returns-in-Err g c =
+    let texts = g.H.Host.text_at c.args.host.now in
     let asked = c.args.asked.now in
-    ends_more (EndsReviewed asked.strict (λ list. IsZero)) (EndsReviewed asked.strict (EndsPolicy asked.policy))
-    (λ ended reviewed. (reviewed.0, reviewed.1, reviewed.2, rw c.in-None.is reviewed.3)) c.check.result c.check.ensures
+    unreviewed texts c.args.settings asked.list.now (HasRefused asked) (EndsKept texts asked) c.in-Err.status c.in-Err.ensures.failed

@@ -4,10 +4,10 @@ use Rattle.cli_lists.specs.CheckDocuments.{verdict_objects}
 use Rattle.cli_lists.proofs.check_documents.add_policy.Goals as goal
 
 pub returns-clause-status : goal.returns-clause-status
-returns-clause-status c = rw c.in-Some.is (c.in_ok-verdict.verdict, c.in_ok-verdict.ensures, c.exit_status.ensures)
+returns-clause-status g c = rw c.in-Some.is (c.in_ok-verdict.verdict, c.in_ok-verdict.ensures, c.exit_status.ensures)
 
 pub returns-clause-listed : goal.returns-clause-listed
-returns-clause-listed c =
+returns-clause-listed g c =
     let verdict = c.in_ok-verdict.verdict in
     rw c.in-Some.is
     (verdict_objects c.in-Some.path.now verdict, (verdict, c.in_ok-verdict.ensures, refl), c.in_ok-add_verdict.ensures)

@@ -1,11 +1,25 @@
 -- The policy was read for the list after, and has no fault.
-use Rattle.std.proofs.Common.{◌∙◌, sym}
+use Rattle.std.proofs.Common.{◌∙◌, ap, inr, map, refl, sym}
+use Rattle.list_policy.specs.Components.{fault_at}
 use Rattle.list_policy.specs.Reading.{Reads}
+use Rattle.list_policy.specs.declared.fault.PolicyFault.{PolicyFault}
 use Rattle.list_policy.specs.declared.policy_text.Policy.{Policy}
-use Rattle.cli_lists.specs.Comparison.{AreBreachesOf}
+use Rattle.std.specs.Prelude.{List}
+use Rattle.cli_lists.specs.Comparison.{AreBreachesOf, HasPolicyFault}
 use Rattle.cli_lists.specs.declared.diff_policy.PolicyBreaches.{PolicyBreaches}
-use Rattle.cli_lists.proofs.ComparisonLemmas.{no_faults, no_memory_stops, of_made, on_made}
+use Rattle.cli_lists.proofs.ComparisonLemmas.{no_faults, of_made, on_made, out_of_memory, some_faults}
 use Rattle.cli_lists.proofs.diff_policy.breaches_of.Goals as goal
+
+pub returns-then-not-is_empty-clause-stopped : goal.returns-then-not-is_empty-clause-stopped
+returns-then-not-is_empty-clause-stopped c =
+    let reads =
+    of_made (λ (policy : Policy). Reads c.args.lists.after.list.now c.args.text.now policy) c.read.result c.in_ok-policy.policy
+    c.in_ok-policy.ensures.ok c.read.ensures in
+    inr (
+      c.refuse_policy.ensures,
+      some_faults c.faults-faults.result.now _ c.is_empty.result
+          (ap (λ (fs : List PolicyFault). map fault_at fs) c.faults-faults.ensures ∙ reads.faults) c.is_empty.ensures c.if-not-is_empty.true,
+    )
 
 pub breaches_by-requires-clause-reads : goal.breaches_by-requires-clause-reads
 breaches_by-requires-clause-reads c =
@@ -22,4 +36,5 @@ returns-clause-found c =
     c.made_or_status-2.result c.breaches_by.result c.made_or_status-2.ensures.ok c.breaches_by.ensures
 
 pub returns-clause-stopped : goal.returns-clause-stopped
-returns-clause-stopped c = no_memory_stops c.made_or_status-2.result c.breaches_by.result c.made_or_status-2.ensures.err
+returns-clause-stopped c =
+    out_of_memory (HasPolicyFault c.args.text.now c.args.lists.after.list.now) c.made_or_status-2.result c.breaches_by.result c.made_or_status-2.ensures.err

@@ -1,15 +1,21 @@
--- On the list of a review.
+-- By the review of the list.
 use Rattle.std.proofs.Common.{subst}
 use Rattle.own_model.specs.Listed.{Listed}
 use Rattle.list_review.specs.declared.review.Review.{Review}
-use Rattle.cli_base.proofs.StatusLemmas.{ends_more}
-use Rattle.cli_lists.specs.ListStatus.{EndsRouted, IsReview}
+use Rattle.cli_base.specs.Statuses.{EndsAs}
+use Rattle.cli_lists.specs.ListStatus.{EndsRouted, HasNoRequest}
+use Rattle.cli_lists.proofs.ReviewLemmas.{on_review, unreviewed}
 use Rattle.cli_lists.proofs.route.show_route.Goals as goal
 
-pub returns-in-Some : goal.returns-in-Some
-returns-in-Some c =
-    let asked = c.args.wish.now in
-    ends_more (EndsRouted asked c.list.result.now)
-    (λ ended. (review : Review) × IsReview review × EndsRouted asked review.list ended)
-    (λ ended routed. (c.in-Some.review, c.in-Some.ensures, subst (λ (l : Listed). EndsRouted asked l ended) c.list.ensures routed))
-    c.route_in.result c.route_in.ensures
+pub returns-in-Ok : goal.returns-in-Ok
+returns-in-Ok g c =
+    let asked = c.args.asked.now in
+    on_review (g.H.Host.text_at c.args.host.now) c.args.settings asked.list.now (λ (review : Review). HasNoRequest asked review.list)
+    (λ (review : Review). EndsRouted asked review.list) c.in-Ok.review c.route_in.result c.in-Ok.ensures.reviewed
+    (subst (λ (l : Listed). EndsAs (HasNoRequest asked l) (EndsRouted asked l) c.route_in.result) c.list.ensures c.route_in.ensures)
+
+pub returns-in-Err : goal.returns-in-Err
+returns-in-Err g c =
+    let asked = c.args.asked.now in
+    unreviewed (g.H.Host.text_at c.args.host.now) c.args.settings asked.list.now (λ (review : Review). HasNoRequest asked review.list)
+    (λ (review : Review). EndsRouted asked review.list) c.in-Err.status c.in-Err.ensures.failed

@@ -1,0 +1,120 @@
+//! The host of a command: its streams, clock and memory, and the files that the command reads.
+ghost use Rattle.std.specs.Prelude.{◌≡◌, ℕ, List, Option, Some, None, Ok, IfErr, IfOk, IfSome, false, is_ok, true};
+ghost use Rattle.std.specs.Option.{option_copied};
+ghost use Rattle.cli_base.specs.Files.{front_of};
+ghost use Rattle.cli_base.specs.declared.host.ReadFailure.TheVariants.{NoMemory as NoRoom};
+
+use cli_engine::{Input, Source};
+use std::alloc::{AllocError, Global};
+use std::fs::File;
+use std::io::Read;
+use std::{fs, io};
+
+/// The path that denotes standard input.
+pub const STANDARD_INPUT: &str = "-";
+
+/// The number of bytes that one read asks for.
+const BLOCK: usize = 4096;
+
+/// The reason for which a file can't be read.
+#[derive(Clone, Copy)]
+pub enum ReadFailure {
+    /// The file can't be opened.
+    Closed(io::Error),
+    /// A read failed.
+    Broken,
+    /// The host is out of memory.
+    NoMemory,
+}
+
+impl From<AllocError> for ReadFailure {
+    fn from(_fault: AllocError) -> ReadFailure {
+        ReadFailure::NoMemory
+    }
+}
+
+/// The host of a command. The path `-` denotes standard input.
+pub trait Host {
+    /// An open file.
+    type File: Read + Drop;
+
+    // The bytes of the file at a path, if they are known: then the file is there, and its bytes are read.
+    ghost text_at: { Self → List ℕ → Option (List ℕ) } = { λ _ _. None };
+
+    /// Returns the streams, the clock and the memory.
+    fn rt(&self) -> &HostRuntime;
+
+    /// Reads the file of a path to its end, or at most `most` bytes if it is some. Errors in order: `Closed` if the file can't be
+    /// opened; `Broken` if a read fails. At any point the host can be out of memory.
+    fn read(&self, path: &str, most: Option<usize>) -> Result<Vec<u8>, ReadFailure>
+        ensures text { IfOk result (λ text. IfSome (text_at self.now path.now) (λ bytes.
+            text.items ≡ front_of most bytes)) }
+        ensures failed { IfErr result (λ why. IfSome (text_at self.now path.now) (λ _. why ≡ NoRoom)) };
+
+    /// Opens the file of a path. Returns the operating system's error if that fails.
+    fn open(&self, path: &str) -> io::Result<Self::File>
+        ensures opened { IfSome (text_at self.now path.now) (λ _. is_ok result ≡ true) }
+        ensures bytes { IfOk result (λ file. IfSome (text_at self.now path.now) (λ bytes.
+            Self.File.remaining file ≡ Some bytes)) };
+
+    /// Returns whether the path is that of a folder, or the operating system's error if there is no such file or folder.
+    fn is_folder(&self, path: &str) -> io::Result<bool>
+        ensures { IfSome (text_at self.now path.now) (λ _. result ≡ Ok false) };
+
+    /// Returns whether there is a file at a path, or the operating system's error if that isn't known.
+    fn exists(&self, path: &str) -> io::Result<bool>
+        ensures { IfSome (text_at self.now path.now) (λ _. result ≡ Ok true) };
+}
+
+// What a file holds isn't known.
+impl Host for HostRuntime {
+    type File = File;
+
+    fn rt(&self) -> &HostRuntime {
+        self
+    }
+
+    fn read(&self, path: &str, most: Option<usize>) -> Result<Vec<u8>, ReadFailure> {
+        let most = most.unwrap_or(usize::MAX);
+        if path == STANDARD_INPUT {
+            return read_all(self.alloc(), &mut Input::new(self.reader()), most);
+        }
+        match fs::open(self, path) {
+            Ok(file) => read_all(self.alloc(), &mut Input::new(file), most),
+            Err(error) => Err(ReadFailure::Closed(error)),
+        }
+    }
+
+    fn open(&self, path: &str) -> io::Result<File> {
+        fs::open(self, path)
+    }
+
+    fn is_folder(&self, path: &str) -> io::Result<bool> {
+        Ok(fs::metadata(self, path)?.is_dir())
+    }
+
+    fn exists(&self, path: &str) -> io::Result<bool> {
+        fs::exists(self, path)
+    }
+}
+
+// Reads a source to its end, or at most `most` bytes. Errors: `Broken` after a failed read, and `NoMemory`.
+fn read_all<S: Source>(alloc: Global, source: &mut S, most: usize) -> Result<Vec<u8>, ReadFailure> {
+    let mut text = Vec::new(alloc);
+    let mut block = [0; BLOCK];
+    for _ in 0..u64::MAX {
+        let room = BLOCK.min(most.saturating_sub(text.len()));
+        if room == 0 {
+            return Ok(text);
+        }
+        if source.failed() {
+            break;
+        }
+        match source.read(&mut block[..room]) {
+            Ok(0) => return Ok(text),
+            Ok(count) => text.extend_from_slice(&block[..count])?,
+            Err(_) => break,
+        }
+    }
+    Err(ReadFailure::Broken)
+}

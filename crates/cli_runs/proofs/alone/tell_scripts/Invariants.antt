@@ -1,9 +1,0 @@
--- The status is that of the scripts so far.
-use Rattle.std.proofs.Common.{◌≡◌, take}
-use Rattle.line_rounds.specs.Views.{whole_view}
-use Rattle.cli_runs.specs.CommandStatus.{compared_status, lines_status}
-use Rattle.cli_runs.proofs.alone.tell_scripts.Given as goal
-
-abbrev pub invariant-loop-entry : goal.invariant-loop-entry
-invariant-loop-entry l =
-    l.status ≡ compared_status (take l.entry-index l.entry-items) (lines_status l.list l.all.settings (whole_view l.lines))
