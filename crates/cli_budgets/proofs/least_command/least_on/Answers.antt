@@ -29,5 +29,5 @@ returns-in-Ok-of c =
     (ends_by ⊥ Refused (λ ended. ended ≡ measured_status (length (unmeasured_of report))) (Ends lines) (λ never. absurd never)
     (λ ended is. (report, is)) c.print_report.result c.print_report.ensures)
 
-pub returns-in-Err-of : goal.returns-in-Err-of
-returns-in-Err-of c = inl (boot_ends (LacksReport c.args.machine.now) c.in-Err-of.fault c.report_boot_fault.result tt c.report_boot_fault.ensures)
+pub returns : goal.returns
+returns c = inl (boot_ends (LacksReport c.args.machine.now) c.in-Err-of.fault c.report_boot_fault.result tt c.report_boot_fault.ensures)
