@@ -5,7 +5,6 @@ use Rattle.std.specs.Borrow.{Bor}
 use Rattle.std.specs.Option.{option_copied}
 use Rattle.std.proofs.lemmas.List.{length-map}
 use Rattle.own_model.specs.Listed.{Listed}
-use Rattle.list_parser.specs.Quota.{quota_fault}
 use Rattle.list_parser.specs.declared.fault.BootFault.{BootFault}
 use Rattle.list_parser.specs.declared.fault.BootFault.TheVariants.{NoMemory}
 use Rattle.line_names.specs.RoundMarks.{RoundMark}

@@ -128,10 +128,13 @@ fn run_on<H: Host>(host: &H, machine: &Machine<'_>, request: RunRequest<'_>) -> 
         let origin: Origin<'_, H::File> = Origin::Typed(rt.reader());
         return run_source(rt, machine, request, origin, &[]);
     }
-    match read_whole(host, request.scenario) {
-        Ok(Some(text)) => run_text(host, machine, request, &text),
-        Ok(None) => run_long(host, machine, request),
-        Err(AllocError) => no_memory(rt),
+    let found = match read_whole(host, request.scenario) {
+        Ok(found) => found,
+        Err(AllocError) => return no_memory(rt),
+    };
+    match found {
+        Some(text) => run_text(host, machine, request, &text),
+        None => run_long(host, machine, request),
     }
 }
 

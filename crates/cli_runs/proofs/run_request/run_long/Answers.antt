@@ -10,8 +10,11 @@ returns-in-Err g c = inl (inr (c.in-Err.ensures.failed.0, inr c.in-Err.ensures.f
 pub returns : goal.returns
 returns g c =
     let request = c.args.request in
-    inr (search rules, inr (
-      c.requires,
-      ends_by_file c.args.machine.now request.viewing (start_by request.settings []) (g.H.Host.text_at c.args.host.now request.scenario.now) _
-          c.run_source.result c.in-Ok.ensures.bytes c.run_source.ensures,
-    ))
+    inr (
+      search rules,
+      inr (
+        c.requires,
+        ends_by_file c.args.machine.now request.viewing (start_by request.settings []) (g.H.Host.text_at c.args.host.now request.scenario.now) _
+            c.run_source.result c.in-Ok.ensures.bytes c.run_source.ensures,
+      ),
+    )

@@ -10,4 +10,4 @@ abbrev pub invariant-loop-line : goal.invariant-loop-line
 invariant-loop-line g l =
     g.K.Sink.has_failed l.sink ≡ false
     → Appends (g.K.Sink.contents l.fn.sink) (g.K.Sink.contents l.sink)
-        (flat_map (unread_error (subject_at l.subject) (map (λ line. line.now) l.lines.items)) (take l.line-index l.unread))
+    (flat_map (unread_error (subject_at l.subject) (map (λ line. line.now) l.lines.items)) (take l.line-index l.unread))
