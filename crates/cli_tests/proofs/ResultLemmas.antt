@@ -46,6 +46,12 @@ unknown_lacks texts settings path unknown = rw unknown tt
 
 -- ---- a policy
 
+-- no list is known
+pub no_list_result : (texts : List ℕ → Option (List ℕ)) (settings : Settings) (policy path : List ℕ) (passed : Bool) → path ≡ list_beside policy
+    → IsUnknown texts path → passed ≡ false → IsPolicyResult texts settings policy passed
+no_list_result texts settings policy path passed is unknown failed =
+    inl (failed, subst (λ p. HasNoList texts settings p) is (unknown_lacks texts settings path unknown))
+
 module _ {E : Type 0} (texts : List ℕ → Option (List ℕ)) (policy : List ℕ) where
   -- a list that boots
   pub booted_result : (text read : List ℕ) (list : Listed) (result : Result TestResult E) → read ≡ text → list_in read ≡ Ok list
@@ -76,10 +82,6 @@ module _ {E : Type 0} (texts : List ℕ → Option (List ℕ)) (policy : List �
         → IfOk result (λ test. IsPolicyResult texts settings policy test.passed)
     unlisted_result failure (Ok test) lacks memory failed = inl (failed, subst (λ p. HasNoList texts settings p) is (lacks memory))
     unlisted_result failure (Err error) lacks memory failed = tt
-
-    -- no list is known
-    pub no_list_result : (passed : Bool) → IsUnknown texts path → passed ≡ false → IsPolicyResult texts settings policy passed
-    no_list_result passed unknown failed = inl (failed, subst (λ p. HasNoList texts settings p) is (unknown_lacks texts settings path unknown))
 
 -- ---- one test after another
 

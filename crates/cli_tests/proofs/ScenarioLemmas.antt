@@ -24,6 +24,11 @@ pub lacks_by_status : (lacks : Bool) (status : ℕ) → status ≡ (if lacks the
 lacks_by_status true status is = ap (λ s. s == 1) is
 lacks_by_status false status is = ap (λ s. s == 1) is
 
+-- the result by the unfolded text, or by the fault of its rounds
+abbrev by_rounds : Bool → Settings → Listed → List ℕ → Bool → Result UnfoldedText RoundsFault → Type 0
+by_rounds strict settings list text passed rounds =
+    MatchResult rounds (λ lines. IsUnfoldedResult strict settings list text lines passed) (λ fault. passed ≡ false)
+
 module _ {E : Type 0} where
   -- a test that failed, and what else is known
   pub failed_also : (P : Type 0) (result : Result TestResult E) → P → IfOk result (λ test. test.passed ≡ false)
@@ -47,18 +52,13 @@ module _ {E : Type 0} where
     )
     warned_result text lines marks bytes warnings answered (Err error) marked read found passes warned = tt
 
-    -- the result by the unfolded text, or by the fault of its rounds
-    abbrev by_rounds : List ℕ → Bool → Result UnfoldedText RoundsFault → Type 0
-    by_rounds text passed rounds =
-        MatchResult rounds (λ lines. IsUnfoldedResult strict settings list text lines passed) (λ fault. passed ≡ false)
-
     -- rounds that unfold
     pub unfolded_result : (text : List ℕ) (known : NameTable) (lines : UnfoldedText) (result : Result TestResult E) → known ≡ names_of settings
         → unfolded known text ≡ Ok lines → IfOk result (λ test. IsUnfoldedResult strict settings list text lines test.passed)
         → IfOk result (λ test. IsTextResult strict settings list text test.passed)
     unfolding rounds_of
     unfolded_result text known lines (Ok test) is made passes =
-        subst (λ rounds. by_rounds text test.passed rounds) (sym (ap (λ names. unfolded names text) (sym is) ∙ made)) passes
+        subst (λ rounds. by_rounds strict settings list text test.passed rounds) (sym (ap (λ names. unfolded names text) (sym is) ∙ made)) passes
     unfolded_result text known lines (Err error) is made passes = tt
 
     -- rounds that don't unfold
@@ -67,7 +67,7 @@ module _ {E : Type 0} where
         → IfOk result (λ test. IsTextResult strict settings list text test.passed)
     unfolding rounds_of
     folded_result text known fault (Ok test) is made failed =
-        subst (λ rounds. by_rounds text test.passed rounds) (sym (ap (λ names. unfolded names text) (sym is) ∙ made)) failed
+        subst (λ rounds. by_rounds strict settings list text test.passed rounds) (sym (ap (λ names. unfolded names text) (sym is) ∙ made)) failed
     folded_result text known fault (Err error) is made failed = tt
 
     -- ---- a file

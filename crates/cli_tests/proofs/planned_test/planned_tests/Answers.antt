@@ -1,7 +1,8 @@
 -- The tests of a file more, and of no file more.
-use Rattle.std.proofs.Common.{◌≡◌, ◌∙◌, ◌∷◌, ap, arith, length, sym}
+use Rattle.std.proofs.Common.{◌≡◌, ◌∙◌, ◌∷◌, [], ap, arith, length, subst, sym}
 use Rattle.std.proofs.lemmas.List.{nil_from_length}
 use Rattle.std.specs.Vec.Iter.{into_iter_items}
+use Rattle.cli_tests.specs.Plan.{AreAdded}
 use Rattle.cli_tests.proofs.PlanLemmas.{added_more, added_none}
 use Rattle.cli_tests.proofs.planned_test.planned_tests.Goals as goal
 
@@ -20,3 +21,13 @@ returns g c =
     c.loop-file.invariant.added c.loop-file.tests.items
     (added_none (g.H.Host.text_at c.args.host.now) c.loop-file.tests.items (into_iter_items c.loop-file.file-iterator)
     (nil_from_length _ (sym c.loop-file.invariant.long ∙ c.in-None.ensures.steps.0)))
+
+pub loop-file-init : goal.loop-file-init
+loop-file-init g c =
+    let gives = c.into_iter-file-iterator.ensures.into_iter_gives in record {
+      added = λ tests added.
+          subst (λ files. AreAdded (g.H.Host.text_at c.args.host.now) [] files tests) gives.0
+          (subst (λ before. AreAdded (g.H.Host.text_at c.args.host.now) before (into_iter_items c.into_iter-file-iterator.result) tests)
+          c.new-tests.ensures.items added);
+      long = gives.1 ∙ c.args.files.ok.0 ∙ ap length (sym gives.0);
+    }

@@ -5,8 +5,8 @@ use Rattle.cli_tests.proofs.policy_test.test_policy.Goals as goal
 
 pub returns-then-not-may_exist : goal.returns-then-not-may_exist
 returns-then-not-may_exist g c =
-    no_list_result (g.H.Host.text_at c.args.host.now) c.args.policy.now c.args.settings c.as_str.result.now
-    (c.as_str.ensures.value ∙ c.in_ok-list.ensures) c.unchecked.result.passed (c.may_exist.ensures c.if-not-may_exist.true) c.unchecked.ensures
+    no_list_result (g.H.Host.text_at c.args.host.now) c.args.settings c.args.policy.now c.as_str.result.now c.unchecked.result.passed
+    (c.as_str.ensures.value ∙ c.in_ok-list.ensures) (c.may_exist.ensures c.if-not-may_exist.true) c.unchecked.ensures
 
 pub returns-in-Ok : goal.returns-in-Ok
 returns-in-Ok g c =

@@ -12,7 +12,7 @@ returns-in-Ok g c =
 pub returns-in-Ok-2 : goal.returns-in-Ok-2
 returns-in-Ok-2 g c =
     lines_result c.args.case.strict c.args.case.settings c.args.case.list.now (g.H.Host.text_at c.args.host.now) c.args.case.scenario.now
-    (g.H.Host.File.Read.remaining c.in-Ok.file) c.test_lines.result c.if-strict.false c.in-Ok.ensures.bytes c.test_lines.ensures
+    _ c.test_lines.result c.if-strict.false c.in-Ok.ensures.bytes c.test_lines.ensures
 
 pub returns-in-Err : goal.returns-in-Err
 returns-in-Err g c =
