@@ -1,5 +1,5 @@
 //! A sink that colours lines.
-ghost use Rattle.std.specs.Prelude.{◌≡◌, ◌++◌, ◌∷◌, ◌||◌, [], false, is_err, length, take, IfOk, OnOk};
+ghost use Rattle.std.specs.Prelude.{◌≡◌, ◌++◌, ◌∷◌, ◌||◌, [], false, is_err, length, take, IfOk, IfSome, OnOk};
 ghost use Rattle.std.specs.Io.{WritesAtMost};
 ghost use Rattle.std.specs.Io.KnownBytes.{Appends, WriteAppends};
 ghost use Rattle.run_lines.specs.Device.{is_write_failure};
@@ -101,6 +101,7 @@ impl<S: Sink> Sink for ColorSink<S> {
             (contents_of self.new.lines (S.contents self.new.sink)) result buffer.now }
         ensures failing { self.new.failed || S.has_failed self.new.sink
             ≡ is_write_failure result buffer.now }
+        ensures whole { IfSome self.old.lines (λ _. IfOk result (λ count. count ≡ length buffer.now)) }
         ensures lines { self.new.lines ≡ self.old.lines }
         ensures shown { IfOk result (λ count. Shows self.old.lines
             self.old.line.items (S.contents self.old.sink)
