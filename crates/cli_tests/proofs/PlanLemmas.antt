@@ -5,7 +5,7 @@ use Rattle.std.specs.Global.{Vec}
 use Rattle.std.specs.List.{list_any}
 use Rattle.std.specs.Prelude.{string_bytes}
 use Rattle.std.specs.Result.{IsErrAnd}
-use Rattle.std.proofs.lemmas.List.{length-map, take_all, take_more}
+use Rattle.std.proofs.lemmas.List.{get_or_default, length-map, take_all, take_more}
 use Rattle.cli_base.specs.Files.{IsUnknown}
 use Rattle.cli_tests.specs.Outcome.{LacksPath, search_lacks_memory}
 use Rattle.cli_tests.specs.Plan.{AreAdded, AreFiles, AreFilesAt, IsPolicyBeside, has_text, is_selected, path_of, with_file}
@@ -81,9 +81,8 @@ module _ (texts : List ℕ → Option (List ℕ)) where
   -- one of the paths isn't known
   pub lacks_path : (paths : List (Bor (List ℕ))) (place : ℕ) (other : Bor (List ℕ)) → place < length paths
       → IsUnknown texts (get_or paths place other).now → LacksPath texts paths
-  lacks_path [] place other within unknown = absurd (omega (arith, within))
-  lacks_path (first ∷ paths) zero other within unknown = inl unknown
-  lacks_path (first ∷ paths) (suc place) other within unknown = inr (lacks_path paths place other (omega (arith, within)) unknown)
+  lacks_path paths place other within unknown =
+      (place, get_or paths place other, within, get_or_default paths place (get_or paths place other) other within, unknown)
 
   -- ---- the tests of files
 

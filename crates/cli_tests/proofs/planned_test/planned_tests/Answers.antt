@@ -2,7 +2,7 @@
 use Rattle.std.proofs.Common.{◌≡◌, ◌∙◌, ◌∷◌, [], ap, arith, length, subst, sym}
 use Rattle.std.proofs.lemmas.List.{nil_from_length}
 use Rattle.std.specs.Vec.Iter.{into_iter_items}
-use Rattle.cli_tests.specs.Plan.{AreAdded}
+use Rattle.cli_tests.specs.Plan.{AreAdded, IsPolicyBeside}
 use Rattle.cli_tests.proofs.PlanLemmas.{added_more, added_none}
 use Rattle.cli_tests.proofs.planned_test.planned_tests.Goals as goal
 
@@ -12,7 +12,7 @@ loop-file-preserved g c =
       added = λ tests added. c.loop-file.invariant.added tests
           (added_more (g.H.Host.text_at c.args.host.now) c.loop-file.tests.items c.add_file.new.tests.items tests
           (into_iter_items c.loop-file.file-iterator) (into_iter_items c.next.new.self) c.in-Some.file c.in_ok-policy.policy steps
-          c.in_ok-policy.ensures c.in_ok-add_file.ensures added);
+          (subst (λ path. IsPolicyBeside (g.H.Host.text_at c.args.host.now) path c.in_ok-policy.policy) c.as_str.ensures.value c.in_ok-policy.ensures) c.in_ok-add_file.ensures added);
       long = let was = c.loop-file.invariant.long in let gone = c.in-Some.ensures.steps.1 in let short = ap length steps in omega arith;
     }
 
