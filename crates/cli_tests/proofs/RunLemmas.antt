@@ -69,7 +69,7 @@ kept_end P ended (Err error) is memory holds = tt
 pub less_known : (settings : Settings) (list : Listed) (marks : List RoundMark) (known text : Option (List ℕ)) (passed : Bool)
     → IfSome known (λ bytes. text ≡ Some bytes) → PassesBy settings list marks text passed → PassesBy settings list marks known passed
 less_known settings list marks (Some bytes) text passed is passes = subst (λ t. PassesBy settings list marks t passed) is passes
-less_known settings list marks None text passed is (Ok ending, run, rest) = (
+less_known settings list marks None text passed is (Ok ending, run, memory, answered) = (
   Ok ending,
   (record {
     boots = run.boots;
@@ -79,10 +79,11 @@ less_known settings list marks None text passed is (Ok ending, run, rest) = (
     counted = run.counted;
     complained = run.complained;
   }),
-  rest,
+  memory,
+  answered,
 )
   where
     unknown : (fault : Option LineRunFault) → IfNone fault (IfSome None (AreAll run.given))
     unknown (Some fault) = tt
     unknown None = tt
-less_known settings list marks None text passed is (Err fault, run, rest) = (Err fault, run, rest)
+less_known settings list marks None text passed is (Err fault, run, memory, answered) = (Err fault, run, memory, answered)

@@ -13,8 +13,8 @@ returns-in-Ok g c =
     listed_result (g.H.Host.text_at c.args.host.now) c.args.policy.now c.args.settings c.as_str-2.result.now
     (c.as_str-2.ensures.value ∙ c.in_ok-list.ensures) _ c.test_list.result c.in-Ok.ensures.found.1 c.test_list.ensures
 
-pub returns-in-Err : goal.returns-in-Err
-returns-in-Err g c =
+pub returns : goal.returns
+returns g c =
     unlisted_result (g.H.Host.text_at c.args.host.now) c.args.policy.now c.args.settings c.as_str-2.result.now
     (c.as_str-2.ensures.value ∙ c.in_ok-list.ensures) c.in-Err.failure c.without_list.result c.in-Err.ensures.failed c.without_list.ensures.memory
     c.without_list.ensures.failed

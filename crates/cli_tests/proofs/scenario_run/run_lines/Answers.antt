@@ -26,24 +26,24 @@ returns-in-Ok-clause-ends g c =
     let list = c.args.case.list.now in
     let first = start_by c.args.case.settings c.args.marks.now in
     let text = origin_bytes g.F.Read.remaining c.args.origin in
-    kept_end (EndsRun list first text) (Ok c.in-Ok.answered.ending) c.new.result c.new.ensures.ended c.new.ensures.memory
+    kept_end (EndsRun list first text) (Ok c.in-Ok.answered.ending) c.new-in-Ok.result c.new-in-Ok.ensures.ended c.new-in-Ok.ensures.memory
     (λ memory. run_of list first _ text c.in-Ok.answered.ending c.in_ok-start.ensures c.silent_reader-reader.ensures.bytes c.in-Ok.ensures.boots
     (c.in-Ok.ensures.played none))
 
 pub returns-in-Ok-clause-memory : goal.returns-in-Ok-clause-memory
 returns-in-Ok-clause-memory g c =
-    kept_end (λ ended. run_lacks_memory ended ≡ false) (Ok c.in-Ok.answered.ending) c.new.result c.new.ensures.ended c.new.ensures.memory
+    kept_end (λ ended. run_lacks_memory ended ≡ false) (Ok c.in-Ok.answered.ending) c.new-in-Ok.result c.new-in-Ok.ensures.ended c.new-in-Ok.ensures.memory
     (λ memory. memory)
 
-pub returns-in-Err-clause-ends : goal.returns-in-Err-clause-ends
-returns-in-Err-clause-ends g c =
+pub returns-clause-ends : goal.returns-clause-ends
+returns-clause-ends g c =
     let list = c.args.case.list.now in
     let first = start_by c.args.case.settings c.args.marks.now in
     let text = origin_bytes g.F.Read.remaining c.args.origin in
-    kept_end (EndsRun list first text) (Err c.in-Err.fault) c.new.result c.new.ensures.ended c.new.ensures.memory
+    kept_end (EndsRun list first text) (Err c.in-Err.fault) c.new-in-Err.result c.new-in-Err.ensures.ended c.new-in-Err.ensures.memory
     (unbooted_end list first text c.in-Err.fault c.in-Err.ensures.unbooted)
 
-pub returns-in-Err-clause-memory : goal.returns-in-Err-clause-memory
-returns-in-Err-clause-memory g c =
-    kept_end (λ ended. run_lacks_memory ended ≡ false) (Err c.in-Err.fault) c.new.result c.new.ensures.ended c.new.ensures.memory
+pub returns-clause-memory : goal.returns-clause-memory
+returns-clause-memory g c =
+    kept_end (λ ended. run_lacks_memory ended ≡ false) (Err c.in-Err.fault) c.new-in-Err.result c.new-in-Err.ensures.ended c.new-in-Err.ensures.memory
     (λ memory. memory)

@@ -18,5 +18,5 @@ returns g c =
     let texts = g.H.Host.text_at c.args.host.now in
     let other = option_copied c.args.conditions.asked.now.machine in
     scenario_result texts c.args.conditions.asked.now.strict c.args.conditions.settings other (Some c.as_str-2.result.now) c.find-machine.result
-    c.args.scenario.now c.test_on.result (inl (ap Some (c.as_str-2.ensures.value ∙ c.in_ok-list.ensures)))
-    (c.find-machine.ensures.found, c.find-machine.ensures.failed) c.test_on.ensures
+    c.args.scenario.now c.test_on-2.result (inl (ap Some (c.as_str-2.ensures.value ∙ c.in_ok-list.ensures)))
+    (c.find-machine.ensures.found, c.find-machine.ensures.failed) c.test_on-2.ensures
