@@ -11,4 +11,4 @@ returns-in-Ok g c =
 pub returns-in_ok-report-in-Err-Fault : goal.returns-in_ok-report-in-Err-Fault
 returns-in_ok-report-in-Err-Fault g c =
     folded_result c.args.case.strict c.args.case.settings c.args.case.list.now c.args.text.now c.in_ok-known.field-0 c.in-Err-Fault.fault
-    c.failed.result c.in_ok-known.ensures c.in-Err-Fault.ensures c.failed.ensures
+    c.failed.result c.in_ok-known.ensures (rw c.in-Err-Fault.field-0-is at c.in-Err-Fault.ensures) c.failed.ensures

@@ -12,9 +12,9 @@ returns-in_ok-error_line-in-Ok g c =
 pub returns-in-Ok-2 : goal.returns-in-Ok-2
 returns-in-Ok-2 g c =
     lines_result c.args.case.strict c.args.case.settings c.args.case.list.now (g.H.Host.text_at c.args.host.now) c.args.case.scenario.now
-    _ c.test_lines.result c.if-case.false c.in-Ok-2.ensures.bytes c.test_lines.ensures
+    _ c.test_lines.result c.if-case.false c.in-Ok.ensures.bytes c.test_lines.ensures
 
 pub returns-in_ok-report-in-Err : goal.returns-in_ok-report-in-Err
 returns-in_ok-report-in-Err g c =
     closed_result c.args.case.strict c.args.case.settings c.args.case.list.now (g.H.Host.text_at c.args.host.now) c.args.case.scenario.now
-    c.failed.result (unopened_unknown _ _ refl c.in-Err.ensures.opened) c.failed.ensures
+    c.failed-in-Err.result (unopened_unknown _ _ refl c.in-Err.ensures.opened) c.failed-in-Err.ensures
