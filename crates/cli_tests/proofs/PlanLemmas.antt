@@ -1,5 +1,5 @@
 -- Files and filters.
-use Rattle.std.proofs.Common.{inl, inr, arith, ◌≡◌, ◌||◌, ◌∙◌, ◌<◌, ◌≤◌, ◌+◌, ◌++◌, refl, sym, ap, append_assoc, append-nil, map, ℕ, Any, Bool, true, false, true≢false, get_or, Global, List, [], ◌∷◌, length, nat_eq, Option, Result, Ok, Err, IfErr, IfOk, IfSome, String, subst, suc, take, zero}
+use Rattle.std.proofs.Common.{◌≡◌, ◌||◌, ◌∙◌, ◌<◌, ◌≤◌, ◌+◌, ◌++◌, refl, sym, ap, append_assoc, append-nil, map, ℕ, Bool, false, true≢false, get_or, Global, List, [], ◌∷◌, length, nat_eq, Option, Result, Ok, Err, IfErr, IfOk, IfSome, String, subst, take}
 use Rattle.std.specs.Borrow.{Bor}
 use Rattle.std.specs.Global.{Vec}
 use Rattle.std.specs.List.{list_any}

@@ -1,5 +1,5 @@
 -- How the run of a test ends.
-use Rattle.std.proofs.Common.{◌≡◌, ◌≢◌, ◌∙◌, ◌++◌, ◌||◌, ℕ, ap, append-nil, Bool, false, true, true≢false, List, Option, Some, None, IfErr, IfNone, IfOk, IfSome, OnOk, Result, Ok, Err, refl, subst, sym}
+use Rattle.std.proofs.Common.{◌≡◌, ◌≢◌, ◌∙◌, ◌++◌, ◌||◌, ℕ, ap, append-nil, Bool, false, true≢false, List, Option, Some, None, IfErr, IfNone, IfOk, IfSome, OnOk, Result, Ok, Err, refl, subst, sym}
 use Rattle.own_model.specs.Listed.{Listed, start_list_of}
 use Rattle.own_model.specs.StartList.{Boots}
 use Rattle.line_steps.specs.RunPosition.{RunPosition}

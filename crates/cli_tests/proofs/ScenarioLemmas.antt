@@ -1,5 +1,5 @@
 -- The results of scenarios.
-use Rattle.std.proofs.Common.{inl, inr, ◌==◌, ◌&&◌, ◌≡◌, ◌∙◌, ap, sym, subst, refl, ℕ, Bool, false, true, not, List, [], Option, Some, None, IfErr, IfOk, IfSome, Result, Ok, Err}
+use Rattle.std.proofs.Common.{inl, inr, ◌==◌, ◌&&◌, ◌≡◌, ◌∙◌, ap, sym, subst, ℕ, Bool, false, true, not, List, [], Option, Some, IfOk, IfSome, Result, Ok, Err}
 use Rattle.std.specs.Prelude.{MatchBool, MatchResult, if◌then◌else◌}
 use Rattle.own_model.specs.Listed.{Listed}
 use Rattle.list_parser.specs.StartText.{list_in}

@@ -1,5 +1,5 @@
 -- Exit statuses, and the texts of percentages.
-use Rattle.std.proofs.Common.{inl, inr, arith, ◌≡◌, ◌⊎◌, ◌<◌, ◌≤◌, ◌^◌, ℕ, Bool, true, false, if◌then◌else◌, length, List, lt_of_not-le, Option, refl, subst}
+use Rattle.std.proofs.Common.{inl, inr, arith, ◌≡◌, ◌⊎◌, ◌<◌, ◌^◌, ℕ, Bool, true, false, if◌then◌else◌, length, List, lt_of_not-le, Option, refl, subst}
 use Rattle.std.specs.Str.Parse.{IsNumeral, digits_value, without_leading_plus}
 use Rattle.cli_options.specs.declared.command_options.TestOptions.{TestOptions}
 use Rattle.cli_base.specs.Statuses.{EndsAs, HasFailed, IsZero}
@@ -13,10 +13,6 @@ use Rattle.cli_tests.specs.declared.test.TestOutcome.{TestOutcome}
 pub unread_percentage : (text : List ℕ)
     → ¬ (IsNumeral 10 (without_leading_plus text) × (digits_value 10 (without_leading_plus text) < 2 ^ 8)) → IsNoPercentage text
 unread_percentage text unread numeral = lt_of_not-le (λ few. unread (numeral, omega (arith, few)))
-
--- nor is one that is read as a larger number
-pub large_percentage : (text : List ℕ) (percent : ℕ) → percent ≡ digits_value 10 (without_leading_plus text) → 100 < percent → IsNoPercentage text
-large_percentage text percent is large numeral = omega (arith, is, large)
 
 -- a write that failed
 pub failed_write : (status : ℕ) (Broken : Type 0) → (Broken → status ≡ 141) → (¬ Broken → status ≡ 1) → EndsAs ⊥ IsZero status → HasFailed status

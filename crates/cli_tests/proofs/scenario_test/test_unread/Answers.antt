@@ -1,5 +1,5 @@
 -- The lines of an open file are run, except with `--strict`.
-use Rattle.std.proofs.Common.{Some, refl}
+use Rattle.std.proofs.Common.{refl}
 use Rattle.cli_tests.proofs.ResultLemmas.{unopened_unknown}
 use Rattle.cli_tests.proofs.ScenarioLemmas.{closed_result, lines_result, strict_result}
 use Rattle.cli_tests.proofs.scenario_test.test_unread.Goals as goal

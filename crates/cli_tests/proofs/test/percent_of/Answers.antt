@@ -1,5 +1,5 @@
 -- Texts that are read as no percentage.
-use Rattle.cli_tests.proofs.StatusLemmas.{large_percentage, unread_percentage}
+use Rattle.cli_tests.proofs.StatusLemmas.{unread_percentage}
 use Rattle.cli_tests.proofs.test.percent_of.Goals as goal
 
 pub returns-in-Err-clause-none : goal.returns-in-Err-clause-none
