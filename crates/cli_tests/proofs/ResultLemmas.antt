@@ -41,7 +41,7 @@ unopened_unknown None opened is known = refl
 unopened_unknown (Some text) opened is known = absurd (true≢false (sym known ∙ is))
 
 -- a file that isn't known may be no list
-pub unknown_lacks : (texts : List ℕ → Option (List ℕ)) (settings : Settings) (path : List ℕ) → IsUnknown texts path → HasNoList texts settings path
+unknown_lacks : (texts : List ℕ → Option (List ℕ)) (settings : Settings) (path : List ℕ) → IsUnknown texts path → HasNoList texts settings path
 unknown_lacks texts settings path unknown = rw unknown tt
 
 -- ---- a policy
