@@ -1,4 +1,5 @@
 mod PlanLemmas
 mod ResultLemmas
 mod RunLemmas
+mod ScenarioLemmas
 mod StatusLemmas

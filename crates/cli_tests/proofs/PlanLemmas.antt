@@ -1,12 +1,16 @@
 -- Files and filters.
-use Rattle.std.proofs.Common.{inl, inr, arith, ◌≡◌, ◌||◌, ◌∙◌, ◌<◌, ◌+◌, ◌++◌, refl, sym, ap, append_assoc, append-nil, map, ℕ, Any, Bool, true, false, get_or, Global, List, [], ◌∷◌, length, nat_eq, Option, String, subst, suc, take, zero}
+use Rattle.std.proofs.Common.{◌≡◌, ◌||◌, ◌∙◌, ◌<◌, ◌≤◌, ◌+◌, ◌++◌, refl, sym, ap, append_assoc, append-nil, map, ℕ, Bool, false, true≢false, get_or, Global, List, [], ◌∷◌, length, nat_eq, Option, Result, Ok, Err, IfErr, IfOk, IfSome, String, subst, take}
 use Rattle.std.specs.Borrow.{Bor}
-use Rattle.std.proofs.lemmas.List.{take_more}
-use Rattle.cli_base.specs.Files.{IsUnknown}
-use Rattle.std.proofs.lemmas.List.{length-map}
+use Rattle.std.specs.Global.{Vec}
 use Rattle.std.specs.List.{list_any}
-use Rattle.cli_tests.specs.Outcome.{LacksPath}
-use Rattle.cli_tests.specs.Plan.{AreFiles, AreFilesAt, has_text, is_selected, path_of}
+use Rattle.std.specs.Prelude.{string_bytes}
+use Rattle.std.specs.Result.{IsErrAnd}
+use Rattle.std.proofs.lemmas.List.{get_or_default, length-map, take_all, take_more}
+use Rattle.cli_base.specs.Files.{IsUnknown}
+use Rattle.cli_tests.specs.Outcome.{LacksPath, search_lacks_memory}
+use Rattle.cli_tests.specs.Plan.{AreAdded, AreFiles, AreFilesAt, IsPolicyBeside, has_text, is_selected, path_of, with_file}
+use Rattle.cli_tests.specs.declared.file_search.SearchFailure.{SearchFailure}
+use Rattle.cli_tests.specs.declared.file_search.SearchFailure.TheVariants.{NoMemory}
 use Rattle.cli_tests.specs.declared.planned_test.PlannedTest.{PlannedTest}
 
 -- a mapped element passes a test if the element passes the mapped test
@@ -24,9 +28,30 @@ selected_by texts test is_empty found length_is some found_is =
     found_is ∙ sym (any_of_map (has_text (path_of test)) (λ (text : Bor (List ℕ)). text.now) texts)
     ∙ sym (ap (λ b. b || list_any (has_text (path_of test)) (map (λ (text : Bor (List ℕ)). text.now) texts)) some_mapped)
 
+-- ---- a search that fails
+
+-- where the host is out of memory a search states nothing of its paths
+pub no_room : {T : Type 0} (P : Type 0) (result : Result T SearchFailure) → IsErrAnd result (λ failure. failure ≡ NoMemory)
+    → IfErr result (λ failure. search_lacks_memory failure ≡ false → P)
+no_room P (Ok found) is = tt
+no_room P (Err failure) is = λ room. absurd (true≢false (sym (ap search_lacks_memory is) ∙ room))
+
 -- ---- the files of paths
 
 module _ (texts : List ℕ → Option (List ℕ)) where
+  -- a path that isn't known may have any files
+  pub unknown_files : {E : Type 0} (path : List ℕ) (result : Result (Vec (String Global)) E) → IsUnknown texts path
+      → IfOk result (λ files. AreFilesAt texts path files.items)
+  unknown_files path (Ok files) unknown =
+      subst (λ (known : Option (List ℕ)). IfSome known (λ text. map (λ file. string_bytes file) files.items ≡ path ∷ [])) (sym unknown) tt
+  unknown_files path (Err failure) unknown = tt
+
+  -- and may not be found
+  pub unknown_fails : {T : Type 0} (path : List ℕ) (result : Result T SearchFailure) → IsUnknown texts path
+      → IfErr result (λ failure. search_lacks_memory failure ≡ false → IsUnknown texts path)
+  unknown_fails path (Ok found) unknown = tt
+  unknown_fails path (Err failure) unknown = λ room. unknown
+
   -- the files of one path more
   files_more : (paths : List (Bor (List ℕ))) (path : Bor (List ℕ)) (files found : List (String Global))
       → AreFiles texts paths files → AreFilesAt texts path.now found → AreFiles texts (paths ++ path ∷ []) (files ++ found)
@@ -40,15 +65,34 @@ module _ (texts : List ℕ → Option (List ℕ)) where
   )
 
   -- the same of the paths so far
-  pub files_next : (paths : List (Bor (List ℕ))) (place : ℕ) (path : Bor (List ℕ)) (files found : List (String Global)) → place < length paths → path ≡ get_or paths place path
-      → AreFiles texts (take place paths) files → AreFilesAt texts path.now found → AreFiles texts (take (place + 1) paths) (files ++ found)
-  files_next paths place path files found within is before are =
-      subst (λ those. AreFiles texts those (files ++ found))
-      (sym (take_more paths place path within ∙ ap (λ p. take place paths ++ p ∷ []) (sym is)))
-      (files_more (take place paths) path files found before are)
+  pub files_next : (paths : List (Bor (List ℕ))) (place : ℕ) (other : Bor (List ℕ)) (files found all : List (String Global)) → place < length paths
+      → all ≡ files ++ found → AreFiles texts (take place paths) files → AreFilesAt texts (get_or paths place other).now found
+      → AreFiles texts (take (place + 1) paths) all
+  files_next paths place other files found all within is before are =
+      subst (λ those. AreFiles texts (take (place + 1) paths) those) (sym is)
+      (subst (λ those. AreFiles texts those (files ++ found)) (sym (take_more paths place other within))
+      (files_more (take place paths) (get_or paths place other) files found before are))
+
+  -- the files of all paths
+  pub files_all : (paths : List (Bor (List ℕ))) (place : ℕ) (files : List (String Global)) → length paths ≤ place
+      → AreFiles texts (take place paths) files → AreFiles texts paths files
+  files_all paths place files end are = subst (λ those. AreFiles texts those files) (take_all place paths end) are
 
   -- one of the paths isn't known
-  pub lacks_path : (paths : List (Bor (List ℕ))) (place : ℕ) (path : Bor (List ℕ)) → place < length paths → path ≡ get_or paths place path
-      → IsUnknown texts path.now → LacksPath texts paths
-  lacks_path (first ∷ paths) zero path within is unknown = inl (subst (λ p. IsUnknown texts p.now) is unknown)
-  lacks_path (first ∷ paths) (suc place) path within is unknown = inr (lacks_path paths place path (omega arith) is unknown)
+  pub lacks_path : (paths : List (Bor (List ℕ))) (place : ℕ) (other : Bor (List ℕ)) → place < length paths
+      → IsUnknown texts (get_or paths place other).now → LacksPath texts paths
+  lacks_path paths place other within unknown =
+      (place, get_or paths place other, within, get_or_default paths place (get_or paths place other) other within, unknown)
+
+  -- ---- the tests of files
+
+  -- the tests of a file, and those of the files after it
+  pub added_more : (before after tests : List PlannedTest) (files rest : List (String Global)) (file : String Global) (beside : Option (String Global))
+      → files ≡ file ∷ rest → IsPolicyBeside texts (string_bytes file) beside → after ≡ with_file before file beside
+      → AreAdded texts after rest tests → AreAdded texts before files tests
+  added_more before after tests files rest file beside is next with added =
+      subst (λ those. AreAdded texts before those tests) (sym is) (beside, next, subst (λ those. AreAdded texts those rest tests) with added)
+
+  -- no file is left
+  pub added_none : (tests : List PlannedTest) (files : List (String Global)) → files ≡ [] → AreAdded texts tests files tests
+  added_none tests files is = subst (λ those. AreAdded texts tests those tests) (sym is) refl

@@ -1,74 +1,87 @@
--- The results of tests.
-use Rattle.std.proofs.Common.{inl, inr, ◌<◌, ◌≤◌, ◌+◌, ◌++◌, ◌∷◌, [], get_or, length, take, ◌≡◌, ◌∙◌, ◌⊎◌, ap, sym, subst, refl, ℕ, Bool, false, true, true≢false, ◌≢◌, is_some, List, Option, Some, None, IfSome, Result, Ok, Err}
+-- What the host tells of a file, and the results of policies and of all tests.
+use Rattle.std.proofs.Common.{inl, inr, ◌<◌, ◌≤◌, ◌+◌, ◌++◌, ◌∷◌, [], get_or, length, take, ◌≡◌, ◌∙◌, ap, sym, subst, refl, ℕ, Bool, false, true, true≢false, ◌≢◌, is_some, List, Option, Some, None, IfOk, IfSome, Result, Ok, Err}
 use Rattle.std.proofs.lemmas.List.{take_all, take_more}
 use Rattle.std.proofs.lemmas.Slice.Zip.{all_zipped_more}
 use Rattle.own_model.specs.Listed.{Listed}
-use Rattle.list_parser.specs.StartText.{list_in}
-use Rattle.line_rounds.specs.Unfolding.{UnfoldedText, unfolded}
-use Rattle.line_rounds.specs.declared.fault.RoundsFault.{RoundsFault}
 use Rattle.list_faults.specs.Places.{fault_of}
+use Rattle.list_parser.specs.Quota.{quota_fault}
+use Rattle.list_parser.specs.StartText.{list_in}
 use Rattle.list_parser.specs.declared.fault.BootFault.{BootFault}
 use Rattle.list_parser.specs.declared.fault.BootFault.TheVariants.{NoMemory}
 use Rattle.cli_base.specs.Files.{HasNoList, IsUnknown}
-use Rattle.cli_base.specs.Given.{names_of}
 use Rattle.cli_base.specs.ListFailures.{boot_lacks_memory, lacks_memory}
 use Rattle.cli_base.specs.MachineChoice.{list_beside}
-use Rattle.cli_base.specs.MachineTexts.{IsMachineOf}
-use Rattle.cli_base.specs.Texts.{bytes_of}
-use Rattle.cli_base.specs.Unfolding.{rounds_of}
+use Rattle.cli_base.specs.MachineTexts.{IsFilled}
 use Rattle.cli_base.specs.declared.list_file.StartListFailure.{StartListFailure}
-use Rattle.cli_base.specs.declared.machine.Machine.{Machine}
 use Rattle.cli_base.specs.declared.settings.Settings.{Settings}
 use Rattle.cli_options.specs.declared.command_options.TestOptions.{TestOptions}
+use Rattle.view_test_report.specs.declared.test_result.TestResult.{TestResult}
 use Rattle.view_test_report.specs.declared.test_result.TimedResult.{TimedResult}
 use Rattle.cli_tests.specs.Outcome.{AreResults, IsResultOf}
-use Rattle.cli_tests.specs.PolicyTest.{IsListResult}
-use Rattle.cli_tests.specs.ScenarioTest.{IsFound, IsListFor, IsMachineResult, IsScenarioResult, IsTextResult, IsUnfoldedResult}
+use Rattle.cli_tests.specs.PolicyTest.{IsKeptBy, IsListResult, IsPolicyResult}
 use Rattle.cli_tests.specs.declared.planned_test.PlannedTest.{PlannedTest}
 
--- a file that isn't there isn't known
-pub absent_unknown : {E : Type 0} (known : Option (List ℕ)) (exists : Bool) (there : Result Bool E) → there ≡ Ok exists → exists ≡ false
-    → IfSome known (λ text. there ≡ Ok true) → known ≡ None
-absent_unknown None exists there is absent found = refl
-absent_unknown (Some text) exists there is absent found = absurd (true≢false (ap read (sym found ∙ is) ∙ absent))
-  where
-    read : {E : Type 0} → Result Bool E → Bool
-    read (Ok b) = b
-    read (Err e) = true
+-- ---- a file
+
+-- a file isn't known if the host doesn't tell of it what it would tell then
+pub told_unknown : {E : Type 0} (known : Option (List ℕ)) (told would : Bool) (result : Result Bool E) → result ≡ Ok told → told ≢ would
+    → IfSome known (λ text. result ≡ Ok would) → known ≡ None
+told_unknown None told would result is other known = refl
+told_unknown (Some text) told would result is other known = absurd (other cc)
+
+-- nor is it if the host can't tell
+pub untold_unknown : {E : Type 0} (known : Option (List ℕ)) (error : E) (would : Bool) (result : Result Bool E) → result ≡ Err error
+    → IfSome known (λ text. result ≡ Ok would) → known ≡ None
+untold_unknown None error would result is known = refl
+untold_unknown (Some text) error would result is known = absurd cc
+
+-- nor is it if it isn't opened
+pub unopened_unknown : (known : Option (List ℕ)) (opened : Bool) → opened ≡ false → IfSome known (λ text. opened ≡ true) → known ≡ None
+unopened_unknown None opened is known = refl
+unopened_unknown (Some text) opened is known = absurd (true≢false (sym known ∙ is))
 
 -- a file that isn't known may be no list
-pub unknown_lacks : (texts : List ℕ → Option (List ℕ)) (settings : Settings) (path : List ℕ) → IsUnknown texts path → HasNoList texts settings path
+unknown_lacks : (texts : List ℕ → Option (List ℕ)) (settings : Settings) (path : List ℕ) → IsUnknown texts path → HasNoList texts settings path
 unknown_lacks texts settings path unknown = rw unknown tt
-
--- the test of a scenario on the machine of the list that is chosen for it
-pub scenario_result : (texts : List ℕ → Option (List ℕ)) (strict : Bool) (settings : Settings) (other path : Option (List ℕ)) (found : Result Machine StartListFailure)
-    (scenario : List ℕ) (passed : Bool) → IsListFor texts other scenario path → IsFound texts settings path found
-    → IsMachineResult texts strict settings found scenario passed → IsScenarioResult texts strict settings other scenario passed
-scenario_result texts strict settings other path (Ok machine) scenario passed chosen is result =
-    (path, chosen, inr (result.0, (bytes_of machine.text, is.0.1, result.1), result.2))
-scenario_result texts strict settings other path (Err failure) scenario passed chosen is result = (path, chosen, inl (result.1, is.1 result.0))
-
--- ---- a scenario's text
-
--- rounds that don't unfold
-pub folded_result : (strict : Bool) (settings : Settings) (list : Listed) (text : List ℕ) (fault : RoundsFault) (passed : Bool)
-    → unfolded (names_of settings) text ≡ Err fault → passed ≡ false → IsTextResult strict settings list text passed
-unfolding rounds_of
-folded_result strict settings list text fault passed is failed = rw is failed
-
--- rounds that unfold
-pub unfolded_result : (strict : Bool) (settings : Settings) (list : Listed) (text : List ℕ) (lines : UnfoldedText) (passed : Bool)
-    → unfolded (names_of settings) text ≡ Ok lines → IsUnfoldedResult strict settings list text lines passed → IsTextResult strict settings list text passed
-unfolding rounds_of
-unfolded_result strict settings list text lines passed is result = rw is result
 
 -- ---- a policy
 
--- a list that doesn't boot
-pub unbooted_result : (texts : List ℕ → Option (List ℕ)) (policy text : List ℕ) (fault : BootFault) (passed : Bool)
-    → (fault ≢ NoMemory → fault_of text ≡ Some fault) → boot_lacks_memory fault ≡ false → passed ≡ false → IsListResult texts policy text passed
-unbooted_result texts policy text fault passed faulty memory failed =
-    inl (failed, ap is_some (faulty (λ is. true≢false (ap boot_lacks_memory (sym is) ∙ memory))))
+-- no list is known
+pub no_list_result : (texts : List ℕ → Option (List ℕ)) (settings : Settings) (policy path : List ℕ) (passed : Bool) → path ≡ list_beside policy
+    → IsUnknown texts path → passed ≡ false → IsPolicyResult texts settings policy passed
+no_list_result texts settings policy path passed is unknown failed =
+    inl (failed, subst (λ p. HasNoList texts settings p) is (unknown_lacks texts settings path unknown))
+
+module _ {E : Type 0} (texts : List ℕ → Option (List ℕ)) (policy : List ℕ) where
+  -- a list that boots
+  pub booted_result : (text read : List ℕ) (list : Listed) (result : Result TestResult E) → read ≡ text → list_in read ≡ Ok list
+      → quota_fault list ≡ None → IfOk result (λ test. IsKeptBy texts policy list test.passed)
+      → IfOk result (λ test. IsListResult texts policy text test.passed)
+  booted_result text read list (Ok test) is listed boots kept = inr (list, subst (λ t. list_in t ≡ Ok list) is listed, boots, kept)
+  booted_result text read list (Err error) is listed boots kept = tt
+
+  -- a list that doesn't boot
+  pub unbooted_result : (text read : List ℕ) (fault : BootFault) (result : Result TestResult E) → read ≡ text
+      → (fault ≢ NoMemory → fault_of read ≡ Some fault) → IfOk result (λ test. boot_lacks_memory fault ≡ false)
+      → IfOk result (λ test. test.passed ≡ false) → IfOk result (λ test. IsListResult texts policy text test.passed)
+  unbooted_result text read fault (Ok test) is faulty memory failed =
+      let found : fault_of read ≡ Some fault = faulty (λ none. true≢false (sym (ap boot_lacks_memory none) ∙ memory)) in
+      inl (failed, subst (λ t. is_some (fault_of t) ≡ true) is (ap is_some found))
+  unbooted_result text read fault (Err error) is faulty memory failed = tt
+
+  module _ (settings : Settings) (path : List ℕ) (is : path ≡ list_beside policy) where
+    -- a list that is read
+    pub listed_result : (text : List ℕ) (result : Result TestResult E) → IsFilled texts settings path text
+        → IfOk result (λ test. IsListResult texts policy text test.passed) → IfOk result (λ test. IsPolicyResult texts settings policy test.passed)
+    listed_result text (Ok test) filled listed = inr (text, subst (λ p. IsFilled texts settings p text) is filled, listed)
+    listed_result text (Err error) filled listed = tt
+
+    -- a list that isn't read
+    pub unlisted_result : (failure : StartListFailure) (result : Result TestResult E) → (lacks_memory failure ≡ false → HasNoList texts settings path)
+        → IfOk result (λ test. lacks_memory failure ≡ false) → IfOk result (λ test. test.passed ≡ false)
+        → IfOk result (λ test. IsPolicyResult texts settings policy test.passed)
+    unlisted_result failure (Ok test) lacks memory failed = inl (failed, subst (λ p. HasNoList texts settings p) is (lacks memory))
+    unlisted_result failure (Err error) lacks memory failed = tt
 
 -- ---- one test after another
 

@@ -1,5 +1,5 @@
 -- How the run of a test ends.
-use Rattle.std.proofs.Common.{◌≡◌, ◌≢◌, ◌∙◌, ◌++◌, ◌||◌, ℕ, ap, append-nil, Bool, false, true, true≢false, List, Option, Some, None, IfErr, IfNone, IfOk, IfSome, OnOk, Result, Ok, Err, refl, subst, sym}
+use Rattle.std.proofs.Common.{◌≡◌, ◌≢◌, ◌∙◌, ◌++◌, ◌||◌, ℕ, ap, append-nil, Bool, false, true≢false, List, Option, Some, None, IfErr, IfNone, IfOk, IfSome, OnOk, Result, Ok, Err, refl, subst, sym}
 use Rattle.own_model.specs.Listed.{Listed, start_list_of}
 use Rattle.own_model.specs.StartList.{Boots}
 use Rattle.line_steps.specs.RunPosition.{RunPosition}
@@ -17,6 +17,7 @@ use Rattle.cli_base.specs.ListFailures.{boot_lacks_memory}
 use Rattle.cli_base.specs.declared.settings.Settings.{Settings}
 use Rattle.line_names.specs.RoundMarks.{RoundMark}
 use Rattle.cli_tests.specs.ScenarioTest.{EndsRun, IsRunOf, PassesBy, run_lacks_memory}
+use Rattle.cli_tests.specs.declared.scenario_run.TestRun.{TestRun}
 
 -- devices that haven't failed are no fault before the run
 pub none_before : (r k e : Bool) → r ≡ false → k ≡ false → e ≡ false → fault_before r (k || e) ≡ None
@@ -45,18 +46,30 @@ run_of list first begun text ending {input = input} begins reads boots run =
       complained = run.complained;
     }))
 
+-- a machine that doesn't boot
+pub unbooted_end : (list : Listed) (first : RunPosition) (text : Option (List ℕ)) (fault : BootFault)
+    → (fault ≢ NoMemory → quota_fault list ≡ Some fault) → run_lacks_memory (Err fault) ≡ false → EndsRun list first text (Err fault)
+unbooted_end list first text fault unbooted memory = unbooted (λ is. true≢false (ap boot_lacks_memory (sym is) ∙ memory))
+
 -- a run of lines, or a machine that doesn't boot
 pub ends_run : (list : Listed) (first : RunPosition) (text : Option (List ℕ)) (P : ScenarioEnd → Type 0) (ended : Result ScenarioEnd BootFault)
     → IfOk ended P → OnOk ended (Boots (start_list_of list)) → ((ending : ScenarioEnd) → Boots (start_list_of list) → P ending → IsRunOf list first text ending)
     → IfErr ended (λ fault. fault ≢ NoMemory → quota_fault list ≡ Some fault) → run_lacks_memory ended ≡ false → EndsRun list first text ended
 ends_run list first text P (Ok ending) run boots of unbooted memory = of ending boots run
-ends_run list first text P (Err fault) run boots of unbooted memory = unbooted (λ is. true≢false (ap boot_lacks_memory (sym is) ∙ memory))
+ends_run list first text P (Err fault) run boots of unbooted memory = unbooted_end list first text fault unbooted memory
+
+-- what holds of the end of a run that had memory holds of the run that is kept
+pub kept_end : {E : Type 0} (P : Result ScenarioEnd BootFault → Type 0) (ended : Result ScenarioEnd BootFault) (result : Result TestRun E)
+    → IfOk result (λ run. run.ended ≡ ended) → IfOk result (λ run. run_lacks_memory ended ≡ false) → (run_lacks_memory ended ≡ false → P ended)
+    → IfOk result (λ run. P run.ended)
+kept_end P ended (Ok run) is memory holds = subst P (sym is) (holds memory)
+kept_end P ended (Err error) is memory holds = tt
 
 -- a run of a text that is known is one of a text that may not be known
 pub less_known : (settings : Settings) (list : Listed) (marks : List RoundMark) (known text : Option (List ℕ)) (passed : Bool)
     → IfSome known (λ bytes. text ≡ Some bytes) → PassesBy settings list marks text passed → PassesBy settings list marks known passed
 less_known settings list marks (Some bytes) text passed is passes = subst (λ t. PassesBy settings list marks t passed) is passes
-less_known settings list marks None text passed is (Ok ending, run, rest) = (
+less_known settings list marks None text passed is (Ok ending, run, memory, answered) = (
   Ok ending,
   (record {
     boots = run.boots;
@@ -66,10 +79,11 @@ less_known settings list marks None text passed is (Ok ending, run, rest) = (
     counted = run.counted;
     complained = run.complained;
   }),
-  rest,
+  memory,
+  answered,
 )
   where
     unknown : (fault : Option LineRunFault) → IfNone fault (IfSome None (AreAll run.given))
     unknown (Some fault) = tt
     unknown None = tt
-less_known settings list marks None text passed is (Err fault, run, rest) = (Err fault, run, rest)
+less_known settings list marks None text passed is (Err fault, run, memory, answered) = (Err fault, run, memory, answered)

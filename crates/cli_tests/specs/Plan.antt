@@ -1,5 +1,5 @@
 -- The tests of files: each scenario, and each policy once, and which of them the texts of a filter select.
-use Rattle.std.specs.Prelude.{◌≡◌, ℕ, ◌<◌, ◌==◌, ◌||◌, Bool, false, List, [], ◌∷◌, ◌++◌, codes, filter, is_some, length, map, string_bytes, String, if◌then◌else◌, IfSome, Option, Some, None}
+use Rattle.std.specs.Prelude.{◌≡◌, ℕ, ◌==◌, ◌||◌, Bool, false, List, [], ◌∷◌, ◌++◌, codes, filter, is_some, length, map, string_bytes, String, if◌then◌else◌, IfSome, Option, Some, None}
 use Rattle.std.specs.Borrow.{Bor}
 use Rattle.std.specs.Global.{Global}
 use Rattle.std.specs.List.{list_any}

@@ -1,5 +1,5 @@
 -- A filter of some texts selects by them.
-use Rattle.std.proofs.Common.{◌∙◌, ap, sym, ℕ, List}
+use Rattle.std.proofs.Common.{◌∙◌, ap, ℕ, List}
 use Rattle.std.specs.Borrow.{Bor}
 use Rattle.std.specs.List.{list_any}
 use Rattle.cli_tests.specs.Plan.{has_text}

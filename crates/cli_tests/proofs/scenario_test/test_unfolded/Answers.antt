@@ -1,0 +1,10 @@
+-- The unfolded lines are run.
+use Rattle.line_rounds.specs.Views.{whole_view}
+use Rattle.cli_tests.proofs.ScenarioLemmas.{warned_result}
+use Rattle.cli_tests.proofs.scenario_test.test_unfolded.Goals as goal
+
+pub returns : goal.returns
+returns g c =
+    warned_result c.args.case.strict c.args.case.settings c.args.case.list.now c.args.text.now (whole_view c.args.lines.now) c.marks.result.now
+    c.bytes.result.now c.in_ok-warnings.warnings c.in_ok-result.result.passed c.warned.result c.marks.ensures c.bytes.ensures
+    c.in_ok-warnings.ensures c.in_ok-result.ensures c.warned.ensures
