@@ -178,3 +178,28 @@ module _ (list : Listed) (place : ℕ) (need : Option Amounts) (starts : is_init
         before_are = all_kept steps count joined.before split.front split.front_are joined.before_are;
         after_are = its_kept count (steps_at steps count) joined.after split.back split.back_are joined.after_are;
       }
+
+-- ---- one component more
+
+module _ {Z : Type 0} (list : Listed) (steps : List (Vec ComponentLine Z)) where
+  -- accounts of a component after those of the components before it
+  pub joined : (component : ℕ) (lines : List ComponentLine) (before after all : List AccountBudgets) → lines ≡ steps_at steps component → all ≡ before ++ after →
+      AreAccounts list steps component before → AreAccountsOf list component lines after → AreAccounts list steps (component + 1) all
+  joined component lines before after all same these are its =
+      let next : suc component ≡ component + 1 = omega arith in
+      let more : AreAccounts list steps (suc component) all = record {
+        before = before;
+        after = after;
+        these = these;
+        before_are = are;
+        after_are = subst (λ l. AreAccountsOf list component l after) same its;
+      } in
+      subst (λ n. AreAccounts list steps n all) next more
+
+-- sessions of components from the next one on
+pub sessions_after : (list : Listed) (component : ℕ) (script : Option ScriptSessions) (scripts rest : List (Option ScriptSessions)) → scripts ≡ script ∷ rest →
+    AreSessionsFrom list component scripts → IsSessionsOf list component script × AreSessionsFrom list (component + 1) rest
+sessions_after list component script scripts rest these are =
+    let next : suc component ≡ component + 1 = omega arith in
+    let both : AreSessionsFrom list component (script ∷ rest) = subst (λ l. AreSessionsFrom list component l) these are in
+    (both.0, subst (λ n. AreSessionsFrom list n rest) next both.1)

@@ -1,5 +1,5 @@
 -- Drafts of a report, one after another, and the last one.
-use Rattle.std.proofs.Common.{arith, ◌≡◌, ℕ, zero, suc, ◌+◌, ◌<◌, ◌==◌, Bool, true, false, List, [], ◌++◌, length, map, append-nil, refl, sym, ap, subst, ◌∙◌}
+use Rattle.std.proofs.Common.{arith, ◌≡◌, ℕ, zero, suc, ◌+◌, ◌<◌, ◌==◌, Bool, true, false, List, [], ◌++◌, length, map, append-nil, refl, sym, ap, subst, ◌∙◌, Bor}
 use Rattle.std.specs.Prelude.{Vec}
 use Rattle.std.specs.List.{slice_split}
 use Rattle.own_model.specs.Listed.{Listed}
@@ -11,12 +11,13 @@ use Rattle.budget_least.specs.ChangedLines.{changed_numbers}
 use Rattle.budget_least.specs.ComponentAccounts.{AreAccounts}
 use Rattle.budget_least.specs.ComponentLines.{first_reading, lines_in, lines_of, numbers_in, AreRead, HasRead, ReadLine}
 use Rattle.budget_least.specs.InitNeeds.{AreNeeded}
-use Rattle.budget_least.specs.ReportOf.{first_budgets, has_names, AreFilledBy, AreLinesOf, AreUnsettledIf, AreWrittenBy, HasAccounts, IsDraft, IsDraftAt, IsReportIf}
+use Rattle.budget_least.specs.ReportOf.{first_budgets, has_names, AreFilledBy, AreLinesOf, AreUnsettledIf, AreWrittenBy, HasAccounts, HaveKept, IsDraft, IsDraftAt, IsReportIf}
 use Rattle.budget_least.specs.declared.binding_run.BindingBudgets.{BindingBudgets}
 use Rattle.budget_least.specs.declared.binding_run.BindingBudgets.TheVariants.{Ample, AsDonated, Chosen}
 use Rattle.budget_least.specs.declared.lines_by_component.LinesByComponent.{LinesByComponent}
 use Rattle.budget_least.specs.declared.report.BudgetQuery.{BudgetQuery}
 use Rattle.budget_least.specs.declared.report.BudgetReport.{BudgetReport}
+use Rattle.budget_least.specs.declared.unmeasured_line.UnmeasuredLine.{UnmeasuredLine}
 
 -- ---- lines that are the same
 
@@ -28,14 +29,36 @@ accounts_kept : {Z : Type 0} (list : Listed) (count : ℕ) (accounts : List Acco
 accounts_kept {Z = Z} list count accounts old new same are = subst (λ (steps : List (Vec ComponentLine Z)). AreAccounts list steps count accounts) (sym same) are
 
 module _ (question : BudgetQuery) (start : RunPosition) where
-  reading_kept : (budgets : BindingBudgets) (unread : List ℕ) (run : BoundRun) (old new : List (List ReadLine)) → new ≡ old →
+  reading_kept : (budgets : BindingBudgets) (run : BoundRun) (old new : List (List ReadLine)) (was now : List ℕ) → new ≡ old → now ≡ was →
       AreRead (slice_split (λ b. b == 10) question.scenario.now) (first_reading question.list.now question.scenario.now start budgets)
-      (record { run = run; lines = old; unmeasured = unread }) →
+      (record { run = run; lines = old; unmeasured = was }) →
       AreRead (slice_split (λ b. b == 10) question.scenario.now) (first_reading question.list.now question.scenario.now start budgets)
-      (record { run = run; lines = new; unmeasured = unread })
-  reading_kept budgets unread run old new same read =
-      subst (λ (lines : List (List ReadLine)). AreRead (slice_split (λ b. b == 10) question.scenario.now)
-      (first_reading question.list.now question.scenario.now start budgets) (record { run = run; lines = lines; unmeasured = unread })) (sym same) read
+      (record { run = run; lines = new; unmeasured = now })
+  reading_kept budgets run old new was now same numbers read =
+      subst (λ (unread : List ℕ). AreRead (slice_split (λ b. b == 10) question.scenario.now)
+      (first_reading question.list.now question.scenario.now start budgets) (record { run = run; lines = new; unmeasured = unread })) (sym numbers)
+      (subst (λ (lines : List (List ReadLine)). AreRead (slice_split (λ b. b == 10) question.scenario.now)
+      (first_reading question.list.now question.scenario.now start budgets) (record { run = run; lines = lines; unmeasured = was })) (sym same) read)
+
+  -- ---- lines and accounts of one draft
+
+  pub drafted : (budgets : BindingBudgets) (lines : LinesByComponent) (measured report : BudgetReport) → measured.list.now ≡ question.list.now →
+      measured.choice ≡ question.choice → measured.scene.unmeasured ≡ lines.unmeasured → lines_in measured.scene ≡ lines_in lines →
+      HasAccounts measured (length measured.list.now.entries) → report.list ≡ measured.list → report.choice ≡ measured.choice → report.scene ≡ measured.scene →
+      HaveKept measured report → AreNeeded report.choice report.list.now report.accounts.items →
+      HasRead question.list.now question.scenario.now start budgets lines → IsDraft question start budgets (numbers_in report.scene) report
+  drafted budgets lines measured report list choice unmeasured same accounts lists choices scenes kept needed read = record {
+    list = ap (λ (l : Bor Listed). l.now) lists ∙ list;
+    choice = choices ∙ choice;
+    lines = (
+      read.0,
+      reading_kept budgets read.0 (lines_in lines) (lines_in report.scene) (numbers_in lines) (numbers_in report.scene)
+      (ap (λ (scene : LinesByComponent). lines_in scene) scenes ∙ same)
+      (ap (λ (scene : LinesByComponent). numbers_in scene) scenes ∙ ap (λ found. map (λ (line : UnmeasuredLine). line.number) found.items) unmeasured) read.1,
+    );
+    accounts = subst (λ (l : Bor Listed). HasAccounts report (length l.now.entries)) (sym lists) (kept (length measured.list.now.entries) accounts);
+    needed = needed;
+  }
 
   -- ---- lines that are added to those that aren't measured
 
@@ -44,7 +67,7 @@ module _ (question : BudgetQuery) (start : RunPosition) where
   draft_kept budgets unread report scene same is = record {
     list = is.list;
     choice = is.choice;
-    lines = (is.lines.0, reading_kept budgets unread is.lines.0 (lines_in report.scene) (lines_in scene) (ap (λ steps. seen steps.items) same) is.lines.1);
+    lines = (is.lines.0, reading_kept budgets is.lines.0 (lines_in report.scene) (lines_in scene) unread unread (ap (λ steps. seen steps.items) same) refl is.lines.1);
     accounts =
         accounts_kept report.list.now (length report.list.now.entries) report.accounts.items report.scene.steps.items scene.steps.items (ap (λ steps. steps.items) same)
         is.accounts;

@@ -8,3 +8,6 @@ returns-then-not-has_names c =
     let report = c.in_ok-report.report in
     named_as c.args.question c.args.start report false c.has_names.result c.has_names.ensures c.if-not-has_names.true
     (last_draft c.args.question c.args.start false 0 report (omega arith) c.in_ok-report.ensures refl)
+
+pub returns : goal.returns
+returns c = named_as c.args.question c.args.start c.settle.new.report true c.has_names.result c.has_names.ensures c.if-not-has_names.false c.in_ok-settle.ensures

@@ -10,3 +10,11 @@ returns-then-branch c =
     let few : c.loop-number.number < 8 = omega (arith, c.loop-number-test.true) in
     subst (λ r. IsReportIf true c.args.question c.args.start.now r) (sym (c.in_ok-settles.ensures.same c.if-branch.true))
     (last_draft c.args.question c.args.start.now true c.loop-number.number report few c.loop-number.invariant.draft (c.in_ok-settles.ensures.settled c.if-branch.true))
+
+pub loop-number-preserved : goal.loop-number-preserved
+loop-number-preserved c = record { draft = c.in_ok-settles.ensures.next c.if-branch.false c.loop-number.number c.loop-number.invariant.draft }
+
+pub returns : goal.returns
+returns c =
+    let few : c.loop-number.number < 8 = omega (arith, c.loop-number.auto.number-end) in
+    c.in_ok-leave_unsettled.ensures c.loop-number.number few c.loop-number.invariant.draft
