@@ -92,6 +92,7 @@ impl BudgetReport<'_> {
         ensures accounts { OnOk result
             (HasAccounts self.new (length self.new.list.now.entries)) }
     {
+        let _few = self.list.count();
         let mut component = 0;
         for script in scripts {
             self.add_component(alloc, component, script)?;

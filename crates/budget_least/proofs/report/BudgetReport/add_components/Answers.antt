@@ -9,9 +9,9 @@ use Rattle.budget_least.proofs.report.BudgetReport.add_components.Goals as goal
 
 pub overflow_add-component : goal.overflow_add-component
 overflow_add-component c =
-    let steps = c.in-Some.ensures.steps.0 in
-    let longer = ap length steps in
-    omega (arith, longer, c.loop-script.invariant.count, c.requires.count)
+    let longer = ap length c.in-Some.ensures.steps.0 in
+    let entries = ap (λ (list : Bor Listed). length list.now.entries) c.loop-script.invariant.list in
+    omega (arith, longer, entries, c.loop-script.invariant.count, c.count-few.ensures.value, c.count-few.ensures.most)
 
 pub add_component-requires-clause-there : goal.add_component-requires-clause-there
 add_component-requires-clause-there c =

@@ -10,4 +10,4 @@ returns-then-not-has_names c =
     (last_draft c.args.question c.args.start false 0 report (omega arith) c.in_ok-report.ensures refl)
 
 pub returns : goal.returns
-returns c = named_as c.args.question c.args.start c.settle.new.report true c.has_names.result c.has_names.ensures c.if-not-has_names.false c.in_ok-settle.ensures
+returns c = named_as c.args.question c.args.start c.settle.new.self true c.has_names.result c.has_names.ensures c.if-not-has_names.false c.in_ok-settle.ensures
