@@ -8,3 +8,6 @@ pub mod ScenarioLemmas
 pub mod SizeLemmas
 pub mod BoundRunLemmas
 pub mod ReadingLemmas
+pub mod ChangedLemmas
+pub mod AccountLemmas
+pub mod DraftLemmas

@@ -2,7 +2,10 @@ pub mod InitNeeds
 pub mod MachineSizes
 pub mod BoundRuns
 pub mod ComponentLines
+pub mod ChangedLines
+pub mod ComponentAccounts
 pub mod Report
+pub mod ReportOf
 pub mod WrittenList
 pub mod MemberValues
 pub mod ValueWriters

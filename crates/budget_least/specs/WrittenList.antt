@@ -4,7 +4,8 @@ use Rattle.std.specs.List.{list_all, slice_get}
 use Rattle.std.specs.Option.{option_map_or}
 use Rattle.std.specs.Str.{bytes_eq}
 use Rattle.own_model.specs.Amounts.{Amounts}
-use Rattle.own_model.specs.Listed.{Listed}
+use Rattle.own_model.specs.Listed.{Listed, start_list_of}
+use Rattle.own_model.specs.StartList.{Boots}
 use Rattle.list_parser.specs.StartText.{list_in}
 use Rattle.budget_search.specs.BudgetIntervals.{chosen_of}
 use Rattle.budget_search.specs.declared.account_budgets.AccountBudgets.{AccountBudgets}
@@ -54,7 +55,7 @@ pub record IsResized (text written : List ℕ) : Type 0 where
   pub written_is : written ≡ text_with values text
 
 -- a text is another one except for budgets and sizes, and is a start list with the budgets of a report, on a machine that is large
--- enough if one is
+-- enough if one is. If one is, the list boots
 pub record IsWritten (report : BudgetReport) (text written : List ℕ) : Type 0 where
   pub resized : IsResized text written
   pub list : Listed
@@ -63,3 +64,4 @@ pub record IsWritten (report : BudgetReport) (text written : List ℕ) : Type 0 
   pub smallest : Option MachineSize
   pub smallest_is : HasSmallestMachine (sum_of report) smallest
   pub size : has_size list (size_of report.list.now smallest) ≡ true
+  pub boots : is_some smallest ≡ true → Boots (start_list_of list)

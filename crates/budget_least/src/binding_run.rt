@@ -19,6 +19,7 @@ use line_steps::RunPosition;
 use list_parser::{BootFault, StartList};
 use std::alloc::{AllocError, Global};
 use std::marker::Model;
+use trade_base::PAGE;
 
 /// The budgets of a run that binds names.
 #[derive(Clone, Copy)]
@@ -61,6 +62,9 @@ impl BindingBudgets<'_> {
             return ample(alloc, list, component);
         };
         if budget.caps > u64::from(LARGEST) {
+            return ample(alloc, list, component);
+        }
+        if budget.ram > u64::from(LARGEST) * PAGE {
             return ample(alloc, list, component);
         }
         funded(alloc, list, component, budget)

@@ -5,11 +5,13 @@
 #![tactic(auto)]
 
 mod binding_run;
+mod changed_line;
 mod line_donations;
 mod lines_by_component;
 mod machine_size;
 mod member_values;
 mod report;
+mod report_accounts;
 mod unmeasured_line;
 mod written_donation;
 mod written_list;

@@ -1,10 +1,11 @@
 //! The lines of a scenario, component by component.
-ghost use Rattle.std.specs.Prelude.{◌≡◌, ◌==◌, [], is_some, map, replicate, IfOk};
+ghost use Rattle.std.specs.Prelude.{◌≡◌, ◌==◌, [], is_some, map, replicate, IfOk, OnOk};
 ghost use Rattle.std.specs.List.{position};
 ghost use Rattle.std.specs.Option.{option_copied};
-ghost use Rattle.budget_least.specs.ComponentLines.{expects_refusal, lines_of};
+ghost use Rattle.budget_least.specs.ComponentLines.{expects_refusal, line_of, lines_of};
 
 use crate::binding_run::{BindingBudgets, BindingRun};
+use crate::changed_line::ChangedLine;
 use crate::line_donations::LineDonations;
 use crate::unmeasured_line::{UnmeasuredLine, UnmeasuredReason};
 use crate::written_donation::can_donate;
@@ -19,13 +20,6 @@ use list_parser::{BootFault, StartList};
 use session_proto::SessionArgs;
 use std::alloc::{AllocError, Global};
 use text_codec::find_byte;
-
-/// A line that changes with the budgets.
-#[derive(Clone, Copy)]
-pub(crate) struct ChangedLine {
-    component: usize,
-    number: u64,
-}
 
 /// The lines of each component, and the lines that aren't measured.
 #[derive(Drop)]
@@ -45,6 +39,7 @@ impl LinesByComponent {
     ghost use Rattle.line_names.specs.Views.{filled_view};
     ghost use Rattle.line_steps.specs.ResolvedLines.{is_unread};
     ghost use Rattle.line_steps.specs.ResolvedViews.{resolved_view, HasParsedCall};
+    ghost use Rattle.budget_least.specs.ComponentAccounts.{steps_at};
     ghost use Rattle.budget_least.specs.ComponentLines.{expects_refusal, line_of, lines_in, numbers_in, reading, said_in, with_line, AreRead, HasRead, IsAdded, IsAddedTo, IsRead, IsTaken};
 
     /// Reads the unfolded text of a scenario, by the components of a list, and fills its lines with what a run with these budgets
@@ -64,40 +59,35 @@ impl LinesByComponent {
         Ok(lines)
     }
 
-    /// Returns the places of lines that differ in another reading of the same scenario. The error is that the host is out of
-    /// memory.
-    pub(crate) fn changed(
-        &self,
-        alloc: Global,
-        other: &LinesByComponent,
-    ) -> Result<Vec<ChangedLine>, AllocError> {
-        let mut changed = Vec::new(alloc);
-        for component in 0..self.steps.len() {
-            let (steps, others) = (self.of(component), other.of(component));
-            for place in 0..steps.len().max(others.len()) {
-                if let Some(number) = changed_number(steps.get(place), others.get(place)) {
-                    changed.push(ChangedLine { component, number })?;
-                }
-            }
-        }
-        Ok(changed)
-    }
-
     /// Adds lines to those that aren't measured, since they change with the budgets. The error is that the host is out of memory.
     pub(crate) fn leave_changed(
         &mut self,
         alloc: Global,
         changed: &[ChangedLine],
-    ) -> Result<(), AllocError> {
+    ) -> Result<(), AllocError>
+        ensures steps { self.new.steps ≡ self.old.steps }
+        ensures unmeasured { OnOk result (numbers_in self.new
+            ≡ numbers_in self.old ++ map (λ line. line.number) changed.now) }
+    {
         for line in changed {
-            self.unmeasured.push(UnmeasuredLine {
-                number: line.number,
-                component: Some(line.component),
-                why: UnmeasuredReason::Unsettled,
-                token: String::new(alloc),
-                is_again: self.numbers.add(line.number)?,
-            })?;
+            self.leave_one(alloc, *line)?;
         }
+        Ok(())
+    }
+
+    // Adds a line to those that aren't measured, since it changes with the budgets.
+    fn leave_one(&mut self, alloc: Global, line: ChangedLine) -> Result<(), AllocError>
+        ensures steps { self.new.steps ≡ self.old.steps }
+        ensures unmeasured { OnOk result
+            (numbers_in self.new ≡ numbers_in self.old ++ line.number ∷ []) }
+    {
+        self.unmeasured.push(UnmeasuredLine {
+            number: line.number,
+            component: Some(line.component),
+            why: UnmeasuredReason::Unsettled,
+            token: String::new(alloc),
+            is_again: self.numbers.add(line.number)?,
+        })?;
         Ok(())
     }
 
@@ -106,20 +96,21 @@ impl LinesByComponent {
         &mut self,
         alloc: Global,
         donations: &LineDonations,
-    ) -> Result<(), AllocError> {
-        for steps in self.steps.as_mut_slice() {
-            for step in steps.as_mut_slice() {
-                if let Some(donation) = donations.of(step.number) {
-                    step.donate(alloc, donation)?;
-                }
-            }
+    ) -> Result<(), AllocError>
+        ensures unmeasured { self.new.unmeasured ≡ self.old.unmeasured }
+        ensures lines { OnOk result (lines_in self.new ≡ lines_in self.old) }
+    {
+        for component in 0..self.steps.len() {
+            let steps = &mut self.steps[component];
+            donate_all(alloc, steps, donations)?;
         }
         Ok(())
     }
 
     /// Returns the lines of a component.
     pub(crate) fn of(&self, component: usize) -> &[ComponentLine]
-        ensures { length result.now
+        ensures steps { result.now ≡ steps_at self.now.steps.items component }
+        ensures count { length result.now
             ≡ length (unwrap_or (slice_get (lines_in self.now) component) []) }
     {
         match self.steps.get(component) {
@@ -348,13 +339,34 @@ fn no_lines(alloc: Global, components: usize) -> Result<Vec<Vec<ComponentLine>>,
     Ok(steps)
 }
 
-// Returns the number of a line, if another reading hasn't the same line at its place.
-fn changed_number(step: Option<&ComponentLine>, other: Option<&ComponentLine>) -> Option<u64> {
-    match (step, other) {
-        (Some(step), Some(other)) if step.is_like(other) => None,
-        (Some(step), _) | (None, Some(step)) => Some(step.number),
-        (None, None) => None,
+// Sets the donations of a component's lines.
+fn donate_all(
+    alloc: Global,
+    steps: &mut Vec<ComponentLine>,
+    donations: &LineDonations,
+) -> Result<(), AllocError>
+    ensures { OnOk result (lines_of steps.new.items ≡ lines_of steps.old.items) }
+{
+    for place in 0..steps.len() {
+        donate(alloc, &mut steps[place], donations)?;
     }
+    Ok(())
+}
+
+// Sets the donation of a line, if it has one.
+fn donate(
+    alloc: Global,
+    step: &mut ComponentLine,
+    donations: &LineDonations,
+) -> Result<(), AllocError>
+    ensures { OnOk result (line_of step.new ≡ line_of step.old) }
+{
+    let donation = donations.of(step.number);
+    let Some(donation) = donation else {
+        return Ok(());
+    };
+    step.donate(alloc, donation)?;
+    Ok(())
 }
 
 /// Returns whether names may be in a text.

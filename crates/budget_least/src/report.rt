@@ -1,32 +1,32 @@
 //! What all accounts of a scenario need.
-ghost use Rattle.std.specs.Prelude.{◌≡◌, ◌<◌, length, suc, IfOk, OnOk};
+ghost use Rattle.std.specs.Prelude.{◌≡◌, ◌+◌, ◌<◌, ℕ, true, false, [], length, suc, IfOk, OnOk};
 ghost use Rattle.std.specs.List.{list_all};
 ghost use Rattle.std.specs.Option.{option_map};
 ghost use Rattle.own_model.specs.Amounts.{more_of};
 ghost use Rattle.budget_meter.specs.Needs.{amounts_of};
 ghost use Rattle.budget_least.specs.Report.{accounts_of, list_of, sum_of, unmeasured_of, HasSmallestMachine};
-ghost use Rattle.budget_least.specs.ComponentLines.{HasRead};
+ghost use Rattle.line_steps.specs.RunPosition.{RunPosition};
+ghost use Rattle.budget_least.specs.ComponentLines.{numbers_in, HasRead};
+ghost use Rattle.budget_least.specs.ReportOf.{first_budgets, AreFilledBy, AreUnsettledIf, HaveKept, IsDraft, IsDraftAt, IsReportIf, IsReportOf};
+ghost use Rattle.budget_least.specs.declared.binding_run.BindingBudgets.{BindingBudgets};
 ghost use Rattle.budget_least.specs.InitNeeds.{capped, is_entry_of, need_of, needed_below, sum_with, AreChanged, AreNeeded, AreNeededFrom};
 ghost use Rattle.budget_least.specs.WrittenList.{has_budget, IsResized, IsWritten};
 ghost use Rattle.budget_least.specs.WrittenScenario.{scenario_of};
 
 use crate::binding_run::BindingBudgets;
-use crate::line_donations::LineDonations;
 use crate::lines_by_component::{LinesByComponent, has_names};
 use crate::machine_size::MachineSize;
 use crate::unmeasured_line::UnmeasuredLine;
-use crate::written_list::{ListSizes, has_budget, has_size, size_of};
+use crate::written_list::{ListSizes, has_budget, has_size, size_of, test_boot};
 use crate::written_scenario::scenario_with;
 use budget_meter::Budget;
-use budget_search::{
-    AccountBudgets, BudgetChoice, ComponentLine, ScriptSearch, ScriptSessions, budget_of,
-};
+use budget_search::{AccountBudgets, BudgetChoice};
 use line_steps::RunPosition;
 use list_parser::{BootFault, ConfigField, StartList};
 use std::alloc::{AllocError, Global};
 
-/// The most runs with the budgets that are written.
-const MOST_READINGS: usize = 8;
+/// The number of the last draft: the lines of a report are measured again at most so many times.
+const LAST_DRAFT: usize = 7;
 
 /// A question: a start list, the text of a scenario, which budgets are written, and whether sessions get what the scenario donates
 /// in place of these.
@@ -44,7 +44,9 @@ pub struct BudgetQuery<'a> {
 
 impl BudgetQuery<'_> {
     // Returns the budgets of the first run that binds names.
-    fn ample(self) -> BindingBudgets<'static> {
+    fn ample(self) -> BindingBudgets<'static>
+        ensures { result ≡ first_budgets self.entry }
+    {
         if self.as_donated {
             BindingBudgets::AsDonated
         } else {
@@ -74,7 +76,7 @@ pub struct BudgetReport<'a> {
     pub(crate) list: &'a StartList,
     pub(crate) choice: BudgetChoice,
     pub(crate) accounts: Vec<AccountBudgets>,
-    scene: LinesByComponent,
+    pub(crate) scene: LinesByComponent,
 }
 
 impl<'a> BudgetReport<'a> {
@@ -87,24 +89,40 @@ impl<'a> BudgetReport<'a> {
         question: BudgetQuery<'a>,
         start: RunPosition<'_>,
     ) -> Result<BudgetReport<'a>, BootFault>
-        ensures { IfOk result (λ report.
-            AreNeeded report.choice report.list.now report.accounts.items) }
+        ensures { IfOk result (IsReportOf question.entry start.entry) }
     {
-        let lines = question.lines(alloc, &start, question.ample())?;
-        let mut report = BudgetReport::with(alloc, question, lines)?;
-        if has_names(question.scenario) {
-            report.settle(alloc, question, &start)?;
+        let mut report = BudgetReport::first(alloc, question, &start)?;
+        if !has_names(question.scenario) {
+            return Ok(report);
         }
-        report.sum_inits(alloc)?;
+        report.settle(alloc, question, &start)?;
         Ok(report)
     }
 
-    // Returns the accounts that these lines need, without what inits need.
+    // Returns the first draft of a report.
+    fn first(
+        alloc: Global,
+        question: BudgetQuery<'a>,
+        start: &RunPosition<'_>,
+    ) -> Result<BudgetReport<'a>, BootFault>
+        ensures { IfOk result (λ report.
+            IsDraftAt question.entry start.now 0 (numbers_in report.scene) report) }
+    {
+        let lines = question.lines(alloc, start, question.ample())?;
+        let report = BudgetReport::with(alloc, question, lines)?;
+        Ok(report)
+    }
+
+    // Returns the report on these lines.
     fn with(
         alloc: Global,
         question: BudgetQuery<'a>,
         lines: LinesByComponent,
-    ) -> Result<BudgetReport<'a>, BootFault> {
+    ) -> Result<BudgetReport<'a>, BootFault>
+        ensures { IfOk result (λ report. (start : RunPosition) (budgets : BindingBudgets) →
+            HasRead question.entry.list.now question.entry.scenario.now start budgets lines →
+            IsDraft question.entry start budgets (numbers_in report.scene) report) }
+    {
         let mut report = BudgetReport {
             list: question.list,
             choice: question.choice,
@@ -112,6 +130,7 @@ impl<'a> BudgetReport<'a> {
             scene: lines,
         };
         report.add_accounts(alloc, question.as_donated)?;
+        report.sum_inits(alloc)?;
         Ok(report)
     }
 
@@ -122,57 +141,88 @@ impl<'a> BudgetReport<'a> {
         alloc: Global,
         question: BudgetQuery<'a>,
         start: &RunPosition<'_>,
-    ) -> Result<(), BootFault> {
-        for left in (0..MOST_READINGS).rev() {
-            let chosen = BindingBudgets::Chosen {
-                choice: self.choice,
-                accounts: self.accounts.as_slice(),
-                steps: self.scene.steps.as_slice(),
-            };
-            let lines = question.lines(alloc, start, chosen)?;
-            let changed = self.scene.changed(alloc, &lines)?;
-            if changed.is_empty() {
+    ) -> Result<(), BootFault>
+        requires { IsDraftAt question start.now 0 (numbers_in self.old.scene) self.old }
+        ensures { OnOk result (IsReportIf true question.entry start.now self.new) }
+    {
+        for number in 0..LAST_DRAFT {
+            if self.settles(alloc, question, start)? {
                 return Ok(());
             }
-            if left == 0 {
-                self.scene.leave_changed(alloc, changed.as_slice())?;
-            } else {
-                *self = BudgetReport::with(alloc, question, lines)?;
-            }
         }
+        self.leave_unsettled(alloc, question, start)?;
         Ok(())
     }
 
-    // Adds the accounts of all components, without what inits need. The lines donate what their sessions need before scripts' own
-    // accounts are measured, unless they donate what the scenario says.
-    fn add_accounts(&mut self, alloc: Global, as_donated: bool) -> Result<(), BootFault> {
-        let list = self.list;
-        let mut scripts = Vec::new(alloc);
-        let mut donations = LineDonations::new(alloc, self.choice);
-        for component in 0..list.count() {
-            let script = sessions_of(alloc, list, component, self.scene.of(component))?;
-            if let Some(script) = &script {
-                donations.add_all(script.accounts.as_slice())?;
-            }
-            scripts.push(script)?;
+    // Measures the lines again as a run with the budgets that are written fills them, unless they stay the same, and returns whether
+    // they do.
+    fn settles(
+        &mut self,
+        alloc: Global,
+        question: BudgetQuery<'a>,
+        start: &RunPosition<'_>,
+    ) -> Result<bool, BootFault>
+        ensures same { IfOk result (λ settles. settles ≡ true → self.new ≡ self.old) }
+        ensures settled { IfOk result (λ settles. settles ≡ true →
+            AreUnsettledIf true question.entry start.now self.old []) }
+        ensures next { IfOk result (λ settles. settles ≡ false → (number : ℕ) →
+            IsDraftAt question.entry start.now number (numbers_in self.old.scene) self.old →
+            IsDraftAt question.entry start.now (number + 1) (numbers_in self.new.scene) self.new) }
+    {
+        let lines = self.filled(alloc, question, start)?;
+        let changed = self.scene.changed(alloc, &lines)?;
+        if changed.is_empty() {
+            return Ok(true);
         }
-        if !as_donated {
-            self.scene.donate(alloc, &donations)?;
-        }
-        for component in 0..list.count() {
-            let script = match scripts.get_mut(component) {
-                Some(script) => script.take(),
-                None => None,
-            };
-            let steps = self.scene.of(component);
-            add_component(alloc, list, component, steps, script, &mut self.accounts)?;
-        }
+        let report = BudgetReport::with(alloc, question, lines)?;
+        *self = report;
+        Ok(false)
+    }
+
+    // Adds the lines that a run with the budgets that are written fills otherwise to those that aren't measured.
+    fn leave_unsettled(
+        &mut self,
+        alloc: Global,
+        question: BudgetQuery<'a>,
+        start: &RunPosition<'_>,
+    ) -> Result<(), BootFault>
+        ensures { OnOk result ((number : ℕ) → number < 8 →
+            IsDraftAt question.entry start.now number (numbers_in self.old.scene) self.old →
+            IsReportIf true question.entry start.now self.new) }
+    {
+        let lines = self.filled(alloc, question, start)?;
+        let changed = self.scene.changed(alloc, &lines)?;
+        self.scene.leave_changed(alloc, changed.as_slice())?;
         Ok(())
+    }
+
+    // Returns the lines as a run with the budgets that are written fills them.
+    fn filled(
+        &self,
+        alloc: Global,
+        question: BudgetQuery<'a>,
+        start: &RunPosition<'_>,
+    ) -> Result<LinesByComponent, BootFault>
+        ensures { IfOk result (AreFilledBy question.entry start.now self.now) }
+    {
+        let accounts = self.accounts.as_slice();
+        let steps = self.scene.steps.as_slice();
+        let chosen = BindingBudgets::Chosen {
+            choice: self.choice,
+            accounts,
+            steps,
+        };
+        let lines = question.lines(alloc, start, chosen)?;
+        Ok(lines)
     }
 
     // Gives the accounts of inits what their lists need, those of the innermost init first.
     fn sum_inits(&mut self, alloc: Global) -> Result<(), AllocError>
-        ensures { OnOk result
+        ensures list { self.new.list ≡ self.old.list }
+        ensures choice { self.new.choice ≡ self.old.choice }
+        ensures scene { self.new.scene ≡ self.old.scene }
+        ensures accounts { OnOk result (HaveKept self.old self.new) }
+        ensures needed { OnOk result
             (AreNeeded self.new.choice self.new.list.now self.new.accounts.items) }
     {
         let mut place = self.list.count();
@@ -188,6 +238,8 @@ impl<'a> BudgetReport<'a> {
         requires { place < length self.old.list.now.entries }
         ensures list { self.new.list ≡ self.old.list }
         ensures choice { self.new.choice ≡ self.old.choice }
+        ensures scene { self.new.scene ≡ self.old.scene }
+        ensures accounts { OnOk result (HaveKept self.old self.new) }
         ensures needed { OnOk result (AreNeededFrom (suc place) self.old.choice self.old.list.now
             self.old.accounts.items →
             AreNeededFrom place self.new.choice self.new.list.now self.new.accounts.items) }
@@ -211,6 +263,7 @@ impl<'a> BudgetReport<'a> {
     ) -> Result<(), AllocError>
         ensures list { self.new.list ≡ self.old.list }
         ensures choice { self.new.choice ≡ self.old.choice }
+        ensures scene { self.new.scene ≡ self.old.scene }
         ensures changed { OnOk result (AreChanged component (option_map amounts_of needed)
             self.old.accounts.items self.new.accounts.items) }
     {
@@ -301,14 +354,17 @@ impl<'a> BudgetReport<'a> {
     /// machine is as large as the budgets ask, and no smaller than it was; if no machine is large enough, it stays.
     ///
     /// Refuses as `StartList::read` if the text with the budgets is no start list, for example with `BadConfig size` if it is too
-    /// long. Then refuses with `BadConfig start` if the text isn't the report's.
+    /// long. Then refuses with `BadConfig start` if the text isn't the report's. If a machine is large enough, the list with the
+    /// budgets boots; otherwise refuses with the fault of the boot.
     pub fn start_list(&self, alloc: Global, text: &[u8]) -> Result<Vec<u8>, BootFault>
         ensures { IfOk result (λ written. IsWritten self.now text.now written.items) }
     {
-        let size = size_of(self.list, self.machine());
+        let machine = self.machine();
+        let size = size_of(self.list, machine);
         let written = self.list_with(alloc, text, size)?;
         let list = StartList::read(alloc, written.as_slice())?;
         if self.has_budgets(&list) && has_size(&list, size) {
+            test_boot(alloc, &list, machine.is_some())?;
             Ok(written)
         } else {
             Err(BootFault::BadConfig(ConfigField::Start))
@@ -369,46 +425,4 @@ fn with_need(sum: Budget, account: &AccountBudgets, choice: BudgetChoice) -> Opt
             .saturating_add(budget.caps)
             .saturating_add(reserve.caps),
     })
-}
-
-// Returns what the sessions of a component need, if it is a script.
-fn sessions_of(
-    alloc: Global,
-    list: &StartList,
-    component: usize,
-    steps: &[ComponentLine],
-) -> Result<Option<ScriptSessions>, BootFault>
-    requires { component < length list.now.entries }
-{
-    match ScriptSearch::of(list, component) {
-        Some(search) => {
-            let sessions = search.sessions(alloc, steps)?;
-            Ok(Some(sessions))
-        }
-        None => Ok(None),
-    }
-}
-
-// Adds the accounts of a component, the sessions of a script before its own.
-fn add_component(
-    alloc: Global,
-    list: &StartList,
-    component: usize,
-    steps: &[ComponentLine],
-    sessions: Option<ScriptSessions>,
-    accounts: &mut Vec<AccountBudgets>,
-) -> Result<(), BootFault>
-    requires { component < length list.now.entries }
-{
-    let (Some(search), Some(sessions)) = (ScriptSearch::of(list, component), sessions) else {
-        let given = budget_of(&list.entries()[component]);
-        accounts.push(AccountBudgets::idle(alloc, component, given)?)?;
-        return Ok(());
-    };
-    let own = search.own(alloc, steps, &sessions.given)?;
-    for account in sessions.accounts {
-        accounts.push(account)?;
-    }
-    accounts.push(own)?;
-    Ok(())
 }

@@ -1,11 +1,14 @@
 //! The text of a start list with the budgets of a report.
-ghost use Rattle.std.specs.Prelude.{◌≡◌};
+ghost use Rattle.std.specs.Prelude.{◌≡◌, true, OnOk};
+ghost use Rattle.own_model.specs.Listed.{start_list_of};
+ghost use Rattle.own_model.specs.StartList.{Boots};
 ghost use Rattle.budget_least.specs.WrittenList.{has_budget, has_size, size_of};
 
 use crate::machine_size::MachineSize;
 use crate::member_values::{JsonStep, MemberValue, with_values};
 use budget_meter::{Budget, Bytes};
 use budget_search::{AccountBudgets, BudgetChoice};
+use init_core::boot;
 use list_parser::{BootFault, StartList};
 use std::alloc::{AllocError, Global};
 
@@ -166,6 +169,17 @@ pub(crate) fn size_of(list: &StartList, smallest: Option<MachineSize>) -> Machin
         },
         None => MachineSize { pages, caps },
     }
+}
+
+/// Boots the machine of a list, if it is to boot. The error is that of the boot.
+pub(crate) fn test_boot(alloc: Global, list: &StartList, is_to_boot: bool) -> Result<(), BootFault>
+    ensures { OnOk result (is_to_boot ≡ true → Boots (start_list_of list.now)) }
+{
+    if !is_to_boot {
+        return Ok(());
+    }
+    let _core = boot(alloc, list)?;
+    Ok(())
 }
 
 // Returns the steps to each entry of a list in its text.

@@ -1,5 +1,5 @@
 -- What a start list tells of a component's calls hangs on no budget.
-use Rattle.std.proofs.Common.{◌≡◌, ℕ, zero, suc, ◌+◌, ◌<◌, ◌==◌, cond, ◌&&◌, Bool, List, [], ◌∷◌, ◌++◌, inl, inr, length, map, refl, sym, ap, arith, ◌∙◌}
+use Rattle.std.proofs.Common.{◌≡◌, ℕ, zero, suc, ◌+◌, ◌<◌, ◌==◌, cond, ◌&&◌, Bool, false, true, List, [], ◌∷◌, ◌++◌, inl, inr, length, map, refl, sym, ap, arith, ◌∙◌}
 use Rattle.std.proofs.lemmas.List.{length-map}
 use Rattle.std.proofs.lemmas.Option.{none-some, same_Some, slice_get-map, slice_get_cases, unwrap_or-slice_get}
 use Rattle.std.proofs.lemmas.List.Sums.{sum_by-cons}
@@ -9,18 +9,22 @@ use Rattle.std.specs.Option.{option_map, option_and_then, unwrap_or}
 use Rattle.std.specs.Str.{bytes_eq}
 use Rattle.list_parser.proofs.ListLemmas.{position-map}
 use Rattle.trade_base.specs.Service.{service_name, services}
-use Rattle.own_model.specs.Listed.{Listed, ListedEntry, ListedRule, Target, Way, init_entry, default_of, most_lists, offers, named_provider, only_provider, way_to, rules_for, offer_at, offer_in, server_at, service_in, with_name, with_names, lead_of, lead_to, lead_without, own_rule, own_rule_for, own_rules_asking, own_rules, level_of, levels_within, kind_of, reserve_of, start_of, start_list_of}
+use Rattle.own_model.specs.Listed.{Binary, Listed, ListedEntry, ListedRule, Target, Way, init_entry, default_of, most_lists, offers, named_provider, only_provider, way_to, rules_for, offer_at, offer_in, server_at, service_in, with_name, with_names, lead_of, lead_to, lead_without, own_rule, own_rule_for, own_rules_asking, own_rules, level_of, levels_within, kind_of, reserve_of, start_of, start_list_of}
+use Rattle.own_model.specs.Listed.Binary.{Script as AScript, Server as AServer, Init as AnInit}
 use Rattle.own_model.specs.Listed.Target.{Child, AnyChild, Parent}
 use Rattle.own_model.specs.Listed.Way.{Inside, Outside}
 use Rattle.own_model.specs.Account.{opened}
-use Rattle.own_model.specs.Amounts.{Amounts}
+use Rattle.own_model.specs.Amounts.{Amounts, no_amounts}
 use Rattle.own_model.specs.StartList.{StartEntry, of_component, start_state}
 use Rattle.own_model.specs.StartList.Kind.{Script}
 use Rattle.own_model.specs.Transcript.{nobody, nothing}
 use Rattle.budget_theorems.specs.Need.{budgeted}
+use Rattle.list_parser.specs.Depth.{runs_script}
+use Rattle.budget_meter.specs.Needs.{amounts_of}
+use Rattle.budget_meter.specs.declared.budget.Budget.{Budget}
 use Rattle.list_parser.specs.Budgets.{bare, but_budgets, entry_with_budget, entry_with_reserve, with_budget, with_reserve}
 use Rattle.list_parser.proofs.BudgetLemmas.{budget_aside, changed_there, reserve_aside}
-use Rattle.budget_search.specs.Alike.{IsFunded, own_entry, own_state}
+use Rattle.budget_search.specs.Alike.{budget_at, given_in, IsFunded, own_entry, own_state}
 use Rattle.budget_search.specs.Run.{Begins}
 
 -- ---- lists that a function makes
@@ -116,7 +120,20 @@ module _ (list : Listed) where
 
 -- ---- a component of two lists
 
+other_kind : (binary : Binary) → runs_script binary ≡ false → kind_of binary ≡ Script → ⊥
+other_kind AScript other is = absurd (cc)
+other_kind (AServer service offer) other is = absurd (cc)
+other_kind AnInit other is = absurd (cc)
+
+script_kind : (binary : Binary) → runs_script binary ≡ true → kind_of binary ≡ Script
+script_kind AScript script = refl
+script_kind (AServer service offer) script = absurd (cc)
+script_kind AnInit script = absurd (cc)
+
 module _ (list : Listed) (component : ℕ) (entry : ListedEntry) (is : slice_get list.entries component ≡ Some entry) where
+  pub given_told : (budget : Budget) → budget.ram ≡ entry.ram → budget.caps ≡ entry.caps → amounts_of budget ≡ given_in list component
+  given_told budget ram caps = (λ i. record { ram = ram i; caps = caps i }) ∙ ap (λ o. unwrap_or (option_map budget_at o) no_amounts) (sym is)
+
   named : {X : Type 0} (f : StartEntry → X) (d : X) → slice_index_or (map f (map (start_of list) list.entries)) component d ≡ f (start_of list entry)
   named f d =
       sym (unwrap_or-slice_get (map f (map (start_of list) list.entries)) component d)
@@ -126,6 +143,12 @@ module _ (list : Listed) (component : ℕ) (entry : ListedEntry) (is : slice_get
 
   pub entry_named : own_entry list component ≡ (start_of list entry).entry
   entry_named = named (λ start. start.entry) nobody
+
+  pub is_script : runs_script entry.binary ≡ true → (own_entry list component).kind ≡ Script
+  is_script script = ap (λ e. e.kind) entry_named ∙ script_kind entry.binary script
+
+  pub not_script : runs_script entry.binary ≡ false → (own_entry list component).kind ≡ Script → ⊥
+  not_script other script = other_kind entry.binary other (ap (λ e. e.kind) (sym entry_named) ∙ script)
 
   pub state_named : own_state list component ≡ start_state (start_of list entry)
   state_named = named start_state nothing

@@ -1,12 +1,12 @@
 -- The sessions of a component, line by line.
-use Rattle.std.proofs.Common.{arith, ◌≡◌, ℕ, zero, suc, ◌<◌, ◌≤◌, Bool, false, List, [], ◌∷◌, ◌++◌, inr, length, map, get_or, set, refl, sym, ap, ◌∙◌, subst}
+use Rattle.std.proofs.Common.{arith, ◌≡◌, ℕ, zero, suc, ◌<◌, ◌≤◌, Bool, false, true, List, [], ◌∷◌, ◌++◌, inl, inr, length, map, get_or, set, refl, sym, ap, ◌∙◌, subst}
 use Rattle.std.proofs.lemmas.List.{length-map, map-append}
 use Rattle.std.specs.Prelude.{replicate, Option, Some, None}
-use Rattle.own_model.specs.Call.{Call, is_exit}
+use Rattle.own_model.specs.Call.{Call}
 use Rattle.own_model.specs.SessionArgs.{Arguments}
 use Rattle.list_parser.specs.Budgets.{changed_at}
 use Rattle.budget_search.proofs.ChangeLemmas.{set_changed, changed_past}
-use Rattle.budget_search.specs.ReachedSessions.{named_in, names, opens, reached_by, reached_of, reaches, unopened, Followed, IsFollowed, ReachBy, Reached, Sessions}
+use Rattle.budget_search.specs.ReachedSessions.{ends_lines, named_in, names, opens, reached_by, reached_of, reaches, unopened, Followed, IsFollowed, ReachBy, Reached, Sessions}
 use Rattle.budget_search.specs.declared.opened_sessions.OpenedSession.{OpenedSession}
 
 -- ---- one session
@@ -90,8 +90,12 @@ module _ (old : Sessions) (openeds items : List OpenedSession) (owners : List (O
 -- ---- lines
 
 module _ (left_out : Bool) (place : ℕ) (rest : Followed → Type 0) (old : Followed) (end : Sessions) where
-  module _ (said : Option Call) (call : Call) (next : Followed) (is : said ≡ Some call) (goes : is_exit call ≡ false) (reach : rest next) where
+  module _ (said : Option Call) (call : Call) (next : Followed) (is : said ≡ Some call) (goes : ends_lines left_out call ≡ false) (reach : rest next) where
     -- a line that is left out, and one whose call is made
     pub steps_by : (b : Bool) → left_out ≡ b → IsFollowed b place call old next → ReachBy left_out said place rest old end
     steps_by b left step =
         subst (λ o. ReachBy left_out o place rest old end) (sym is) (inr (goes, (next, (subst (λ l. IsFollowed l place call old next) (sym left) step, reach))))
+
+  -- an exit
+  pub ends_by : (said : Option Call) (call : Call) → said ≡ Some call → ends_lines left_out call ≡ true → end ≡ old.sessions → ReachBy left_out said place rest old end
+  ends_by said call is ends same = subst (λ o. ReachBy left_out o place rest old end) (sym is) (inl (ends, same))

@@ -12,11 +12,16 @@ abbrev pub need_rows : Option Amounts → List BudgetInterval
 need_rows None = []
 need_rows (Some need) = record { ram_from = need.ram; ram_below = None; caps_from = need.caps; likeness = Same } ∷ []
 
--- the accounts of a component have the intervals of what it needs, and all else of each account that is summed stays
+-- the accounts of a component have the intervals of what it needs, and all else of each account stays
 pub record IsChanged (component : ℕ) (need : Option Amounts) (old new : AccountBudgets) : Type 0 where
   pub same : new.component ≡ old.component
   pub session : new.session ≡ old.session
   pub reserve : new.reserve ≡ old.reserve
+  pub count : new.count ≡ old.count
+  pub given : new.given ≡ old.given
+  pub gaps : new.found.holes.items ≡ old.found.holes.items
+  pub left_out : new.found.left_out.items ≡ old.found.left_out.items
+  pub refused : new.found.refused ≡ old.found.refused
   pub rows : new.found.rows.items ≡ (if nat_eq old.component component then need_rows need else old.found.rows.items)
 
 -- the own account of a component that makes no calls, with the budget that is given: every budget suffices, and no line is short

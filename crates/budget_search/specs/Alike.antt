@@ -3,7 +3,7 @@ use Rattle.std.specs.Prelude.{◌≡◌, ◌-◌, ℕ}
 use Rattle.std.specs.List.{slice_get}
 use Rattle.std.specs.Option.{option_map, unwrap_or}
 use Rattle.own_model.specs.Amounts.{Amounts, no_amounts}
-use Rattle.own_model.specs.Listed.{Listed, reserve_of, start_list_of}
+use Rattle.own_model.specs.Listed.{Listed, ListedEntry, reserve_of, start_list_of}
 use Rattle.own_model.specs.OwnState.{OwnState}
 use Rattle.own_model.specs.StartList.{Entry, entries_of, start_states}
 use Rattle.own_model.specs.Transcript.{entry_at, state_at}
@@ -21,6 +21,13 @@ own_state list component = state_at (start_states (start_list_of list)) componen
 -- the reserve of a component at the start: what the list gives a script, and otherwise nothing
 abbrev pub reserve_in : Listed → ℕ → Amounts
 reserve_in list component = unwrap_or (option_map reserve_of (slice_get list.entries component)) no_amounts
+
+-- the budget that a list gives a component
+abbrev pub budget_at : ListedEntry → Amounts
+budget_at entry = record { ram = entry.ram; caps = entry.caps }
+
+abbrev pub given_in : Listed → ℕ → Amounts
+given_in list component = unwrap_or (option_map budget_at (slice_get list.entries component)) no_amounts
 
 -- the most that a component can have in addition to its reserve: the largest machine has 4096 pages of 4096 bytes, and 4096
 -- capabilities

@@ -1,5 +1,5 @@
 -- The lines that reach the sessions of a component.
-use Rattle.std.specs.Prelude.{◌≡◌, ◌≢◌, ◌⊎◌, ◌+◌, ℕ, Bool, true, false, List, [], ◌∷◌, ◌++◌, codes, length, map, replicate, slice_get, if◌then◌else◌, Option, Some, None, IfSome, IfNone}
+use Rattle.std.specs.Prelude.{◌≡◌, ◌≢◌, ◌⊎◌, ◌+◌, ◌&&◌, ℕ, Bool, true, false, not, List, [], ◌∷◌, ◌++◌, codes, length, map, replicate, slice_get, if◌then◌else◌, Option, Some, None, IfSome, IfNone}
 use Rattle.std.specs.Option.{option_and_then}
 use Rattle.std.specs.Str.{bytes_eq}
 use Rattle.own_model.specs.Call.{Call, is_exit}
@@ -107,12 +107,16 @@ IsFollowed false place call old new =
     (new.client ≡ made_with_enough call old.client)
     × ((came : Came) × (IsShown new.client.text came × (new.sessions ≡ after_call came place call old.sessions)))
 
--- a line and those after it end with these sessions; an exit ends them
+-- an exit ends the lines, unless it is left out
+abbrev pub ends_lines : Bool → Call → Bool
+ends_lines left_out call = not left_out && is_exit call
+
+-- a line and those after it end with these sessions
 abbrev pub ReachBy : Bool → Option Call → ℕ → (Followed → Type 0) → Followed → Sessions → Type 0
 ReachBy left_out None place rest old end = rest old
 ReachBy left_out (Some call) place rest old end =
-    ((is_exit call ≡ true) × (end ≡ old.sessions))
-    ⊎ ((is_exit call ≡ false) × ((next : Followed) × (IsFollowed left_out place call old next × rest next)))
+    ((ends_lines left_out call ≡ true) × (end ≡ old.sessions))
+    ⊎ ((ends_lines left_out call ≡ false) × ((next : Followed) × (IsFollowed left_out place call old next × rest next)))
 
 -- the lines of a component, from the one at a place on, end with these sessions
 abbrev pub Reach : List ComponentLine → ℕ → Followed → Sessions → Type 0

@@ -109,12 +109,12 @@ impl OpenedSessions {
         let Some(call) = step.said() else {
             return Ok(true);
         };
-        if is_exit(call) {
-            return Ok(false);
-        }
         if step.is_left_out {
             self.leave_out(call, place)?;
             return Ok(true);
+        }
+        if is_exit(call) {
+            return Ok(false);
         }
         self.go_on(alloc, client, call, place)?;
         Ok(true)

@@ -38,12 +38,12 @@ pub struct ScriptSessions {
 }
 
 impl ScriptSearch<'_> {
-    ghost use Rattle.std.specs.Prelude.{◌≡◌, ◌<◌, length, is_some, None, IfOk, IfSome, OnOk};
+    ghost use Rattle.std.specs.Prelude.{◌≡◌, ◌≢◌, ◌<◌, length, is_some, None, IfNone, IfOk, IfSome, OnOk};
     ghost use Rattle.budget_meter.specs.Needs.{amounts_of};
     ghost use Rattle.own_model.specs.StartList.Kind.{Script as AScript};
     ghost use Rattle.budget_meter.specs.Run.{Shows};
     ghost use Rattle.budget_search.specs.AccountNeeds.{AreSessionAccounts, IsSessionAccount};
-    ghost use Rattle.budget_search.specs.Alike.{most_in, own_entry, own_state, reserve_in};
+    ghost use Rattle.budget_search.specs.Alike.{given_in, most_in, own_entry, own_state, reserve_in};
     ghost use Rattle.budget_search.specs.BudgetIntervals.{lowest_of, safe_of};
     ghost use Rattle.budget_search.specs.Own.{suffices_with, AreExact};
     ghost use Rattle.budget_search.specs.Steps.{calls_of};
@@ -54,6 +54,10 @@ impl ScriptSearch<'_> {
         requires { component < length list.now.entries }
         ensures component { IfSome result (λ search. search.component ≡ component) }
         ensures list { IfSome result (λ search. search.list.now ≡ list.now) }
+        ensures given { IfSome result (λ search.
+            amounts_of search.given ≡ given_in list.now component) }
+        ensures script { IfSome result (λ _. (own_entry list.now component).kind ≡ AScript) }
+        ensures other { IfNone result ((own_entry list.now component).kind ≢ AScript) }
     {
         let entry = &list.entries()[component];
         if !entry.is_script() {
@@ -238,7 +242,9 @@ impl ScriptSearch<'_> {
 
 /// Returns the budget of an entry.
 pub fn budget_of(entry: &ListEntry) -> Budget
-    ensures { result.caps < 2 ^ 32 }
+    ensures ram { result.ram ≡ entry.now.ram }
+    ensures caps { result.caps ≡ entry.now.caps }
+    ensures few { result.caps < 2 ^ 32 }
 {
     Budget {
         ram: entry.ram(),

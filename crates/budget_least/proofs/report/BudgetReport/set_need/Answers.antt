@@ -17,6 +17,7 @@ loop-at-preserved c =
     record {
       list = c.loop-at.invariant.list;
       choice = c.loop-at.invariant.choice;
+      scene = c.loop-at.invariant.scene;
       count = length-set news c.loop-at.at c.need.new.self ∙ c.loop-at.invariant.count;
       changed =
           rw add-one

@@ -9,6 +9,7 @@ abbrev pub invariant-loop-at : goal.invariant-loop-at
 invariant-loop-at l = record {
   list : l.self.list ≡ l.initial.self.list;
   choice : l.self.choice ≡ l.initial.self.choice;
+  scene : l.self.scene ≡ l.initial.self.scene;
   count : length l.self.accounts.items ≡ length l.initial.self.accounts.items;
   changed : AreChangedTo l.at l.component (option_map amounts_of l.needed) l.initial.self.accounts.items l.self.accounts.items;
 }

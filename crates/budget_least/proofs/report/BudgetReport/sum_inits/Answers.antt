@@ -1,5 +1,5 @@
 -- Init by init, the innermost first.
-use Rattle.std.proofs.Common.{arith, ◌≡◌, ◌-◌, suc, length, sym, ap, subst, Bor}
+use Rattle.std.proofs.Common.{arith, ◌≡◌, ◌-◌, suc, length, refl, sym, ap, subst, ◌∙◌, Bor}
 use Rattle.own_model.specs.Listed.{Listed}
 use Rattle.budget_least.proofs.NeededLemmas.{needed_all, needed_first}
 use Rattle.budget_least.specs.InitNeeds.{AreNeededFrom}
@@ -11,6 +11,10 @@ loop-place-init c =
     let list = c.args.self.now.list.now in
     let accounts = c.args.self.now.accounts.items in
     record {
+      list = refl;
+      choice = refl;
+      scene = refl;
+      accounts = λ count before. before;
       within = omega (arith, c.count-place.ensures.value);
       needed = subst (λ n. AreNeededFrom n choice list accounts) (sym c.count-place.ensures.value) (needed_first choice list accounts accounts);
     }
@@ -24,12 +28,16 @@ loop-place-preserved c =
     let count = ap (λ (list : Bor Listed). length list.now.entries) c.sum_init.ensures.list in
     let next : c.loop-place.place ≡ suc (c.loop-place.place - 1) = omega (arith, c.loop-place-test.true) in
     record {
+      list = c.sum_init.ensures.list ∙ c.loop-place.invariant.list;
+      choice = c.sum_init.ensures.choice ∙ c.loop-place.invariant.choice;
+      scene = c.sum_init.ensures.scene ∙ c.loop-place.invariant.scene;
+      accounts = λ n before. c.in_ok-sum_init.ensures.accounts n (c.loop-place.invariant.accounts n before);
       within = omega (arith, c.loop-place.invariant.within, count);
       needed = c.in_ok-sum_init.ensures.needed (subst (λ n. AreNeededFrom n self.choice self.list.now self.accounts.items) next c.loop-place.invariant.needed);
     }
 
-pub returns : goal.returns
-returns c =
+pub returns-clause-needed : goal.returns-clause-needed
+returns-clause-needed c =
     let self = c.loop-place.self in
     let none : c.loop-place.place ≡ 0 = omega (arith, c.loop-place-test.false) in
     needed_all self.choice self.list.now self.accounts.items self.accounts.items

@@ -1,0 +1,205 @@
+-- Accounts component by component, while inits get what their lists need.
+use Rattle.std.proofs.Common.{arith, ◌≡◌, ℕ, zero, suc, ◌+◌, true, false, List, [], ◌∷◌, ◌++◌, length, nat_eq, refl, sym, ap, subst, ◌∙◌}
+use Rattle.std.proofs.lemmas.Bool.Decides.{nat_tests}
+use Rattle.std.specs.Prelude.{if◌then◌else◌, is_some, Option, Some, None, Vec}
+use Rattle.std.specs.List.{slice_get}
+use Rattle.std.specs.Option.{option_map_or}
+use Rattle.own_model.specs.Amounts.{Amounts}
+use Rattle.own_model.specs.Listed.{Binary, Listed, ListedEntry, kind_of}
+use Rattle.own_model.specs.Listed.Binary.{Script as AScript, Server as AServer, Init as AnInit}
+use Rattle.own_model.specs.StartList.Kind.{Script}
+use Rattle.list_parser.specs.Depth.{is_init, runs_init}
+use Rattle.budget_meter.specs.Needs.{amounts_of}
+use Rattle.budget_search.proofs.AlikeLemmas.{entry_named}
+use Rattle.budget_search.specs.AccountNeeds.{need_rows, AreSessionAccounts, IsChanged, IsIdle, IsSessionAccount}
+use Rattle.budget_search.specs.Alike.{most_in, own_entry}
+use Rattle.budget_search.specs.BudgetIntervals.{lowest_of, safe_of}
+use Rattle.budget_search.specs.Own.{suffices_with, AreExact}
+use Rattle.budget_search.specs.Sufficient.{HasLeast, HasSafe}
+use Rattle.budget_search.specs.declared.account_budgets.AccountBudgets.{AccountBudgets}
+use Rattle.budget_search.specs.declared.component_line.ComponentLine.{ComponentLine}
+use Rattle.budget_search.specs.declared.script_search.ScriptSessions.{ScriptSessions}
+use Rattle.budget_least.specs.ComponentAccounts.{steps_at, AreAccounts, AreAccountsOf, AreSessionsFrom, IsMeasured, IsOwnOf, IsSessionsOf}
+use Rattle.budget_least.specs.InitNeeds.{is_init_at, AreChanged}
+
+-- ---- sessions of one component more
+
+pub one_more : (list : Listed) (first : ℕ) (scripts : List (Option ScriptSessions)) (script : Option ScriptSessions) → AreSessionsFrom list first scripts →
+    IsSessionsOf list (first + length scripts) script → AreSessionsFrom list first (scripts ++ script ∷ [])
+one_more list first [] script are is =
+    let none : first + 0 ≡ first = omega arith in
+    (subst (λ n. IsSessionsOf list n script) none is, tt)
+one_more list first (one ∷ scripts) script are is =
+    let next : first + length (one ∷ scripts) ≡ suc first + length scripts = omega arith in
+    (are.0, one_more list (suc first) scripts script are.1 (subst (λ n. IsSessionsOf list n script) next is))
+
+-- ---- an init is no script
+
+starter : (binary : Binary) → runs_init binary ≡ true → kind_of binary ≡ Script → ⊥
+starter AScript init is = absurd (cc)
+starter (AServer service offer) init is = absurd (cc)
+starter AnInit init is = absurd (cc)
+
+told_false : true ≡ false → ⊥
+told_false is = absurd (cc)
+
+starter_at : (list : Listed) (place : ℕ) (entry : Option ListedEntry) → slice_get list.entries place ≡ entry → option_map_or is_init entry false ≡ true →
+    (own_entry list place).kind ≡ Script → ⊥
+starter_at list place None found init is = told_false (sym init)
+starter_at list place (Some entry) found init is =
+    starter entry.binary init (sym (ap (λ e. e.kind) (entry_named list place entry found)) ∙ is)
+
+no_script : (list : Listed) (place : ℕ) → is_init_at list place ≡ true → (own_entry list place).kind ≡ Script → ⊥
+no_script list place init is = starter_at list place (slice_get list.entries place) refl init is
+
+-- ---- accounts that come from two lists
+
+record Split (place : ℕ) (need : Option Amounts) (firsts rest news : List AccountBudgets) : Type 0 where
+  front : List AccountBudgets
+  back : List AccountBudgets
+  these : news ≡ front ++ back
+  front_are : AreChanged place need firsts front
+  back_are : AreChanged place need rest back
+
+split_in : (place : ℕ) (need : Option Amounts) (firsts rest news : List AccountBudgets) → AreChanged place need (firsts ++ rest) news → Split place need firsts rest news
+split_in place need [] rest news are = record { front = []; back = news; these = refl; front_are = tt; back_are = are }
+split_in place need (old ∷ firsts) rest [] are = absurd are
+split_in place need (old ∷ firsts) rest (new ∷ news) are =
+    let more : Split place need firsts rest news = split_in place need firsts rest news are.1 in
+    record {
+      front = new ∷ more.front;
+      back = more.back;
+      these = ap (λ l. new ∷ l) more.these;
+      front_are = (are.0, more.front_are);
+      back_are = more.back_are;
+    }
+
+-- ---- accounts of one component, while those of an init change
+
+module _ (list : Listed) (place : ℕ) (need : Option Amounts) (starts : is_init_at list place ≡ true) where
+  measured_kept : (component : ℕ) (steps : List ComponentLine) (old new : AccountBudgets) → new.reserve ≡ old.reserve → new.found.rows.items ≡ old.found.rows.items →
+      IsMeasured list component steps old → IsMeasured list component steps new
+  measured_kept component steps old new reserve rows is = record {
+    reserve = ap amounts_of reserve ∙ is.reserve;
+    exact = subst (λ r. AreExact list component steps (most_in list component).caps (most_in list component).ram r) (sym rows) is.exact;
+    least = subst (λ r. HasLeast (suffices_with list component steps) (most_in list component) (lowest_of r)) (sym rows) is.least;
+    safe = subst (λ r. HasSafe (suffices_with list component steps) (most_in list component) (safe_of r)) (sym rows) is.safe;
+  }
+
+  idle_kept : (component : ℕ) (given : Amounts) (old new : AccountBudgets) → IsChanged place need old new → new.found.rows.items ≡ old.found.rows.items →
+      IsIdle component given old → IsIdle component given new
+  idle_kept component given old new is rows idle = record {
+    same = is.same ∙ idle.same;
+    own = is.session ∙ idle.own;
+    count = is.count ∙ idle.count;
+    given_is = ap (λ g. amounts_of g.budget) is.given ∙ idle.given_is;
+    accepted = ap (λ g. g.refused) is.given ∙ idle.accepted;
+    reserve = ap amounts_of is.reserve ∙ idle.reserve;
+    rows = rows ∙ idle.rows;
+    gaps = is.gaps ∙ idle.gaps;
+    left_out = is.left_out ∙ idle.left_out;
+    refused = is.refused ∙ idle.refused;
+  }
+
+  own_kept : (component : ℕ) (steps : List ComponentLine) (old new : AccountBudgets) → IsChanged place need old new → IsOwnOf list component steps old →
+      IsOwnOf list component steps new
+  own_kept component steps old new is own =
+      elim (nat_eq old.component place) as (λ b. nat_eq old.component place ≡ b → IsOwnOf list component steps new) [
+        | true ↦ λ here.
+            let at : old.component ≡ place = grind (arith, nat_tests, here) in
+            let init : is_init_at list component ≡ true = subst (λ c. is_init_at list c ≡ true) (sym at ∙ own.same) starts in
+            record {
+              same = is.same ∙ own.same;
+              own = is.session ∙ own.own;
+              given = ap (λ g. amounts_of g.budget) is.given ∙ own.given;
+              script = λ kind. absurd (no_script list component init kind);
+              server = λ kind none. absurd (told_false (sym init ∙ none));
+            }
+        | false ↦ λ other.
+            let rows : new.found.rows.items ≡ old.found.rows.items = is.rows ∙ ap (λ b. if b then need_rows need else old.found.rows.items) other in
+            record {
+              same = is.same ∙ own.same;
+              own = is.session ∙ own.own;
+              given = ap (λ g. amounts_of g.budget) is.given ∙ own.given;
+              script = λ kind. measured_kept component steps old new is.reserve rows (own.script kind);
+              server = λ kind none. idle_kept component _ old new is rows (own.server kind none);
+            }
+      ] refl
+
+  session_kept : (component : ℕ) (old new : AccountBudgets) → IsChanged place need old new → IsSessionAccount component old → IsSessionAccount component new
+  session_kept component old new is session = record {
+    same = is.same ∙ session.same;
+    session = ap (λ s. is_some s) is.session ∙ session.session;
+    reserve = ap amounts_of is.reserve ∙ session.reserve;
+  }
+
+  sessions_kept : (component : ℕ) (olds news : List AccountBudgets) → AreChanged place need olds news → AreSessionAccounts component olds → AreSessionAccounts component news
+  sessions_kept component [] [] are before = tt
+  sessions_kept component [] (new ∷ news) are before = absurd are
+  sessions_kept component (old ∷ olds) [] are before = absurd are
+  sessions_kept component (old ∷ olds) (new ∷ news) are before = (session_kept component old new are.0 before.0, sessions_kept component olds news are.1 before.1)
+
+  none_kept : (news : List AccountBudgets) → AreChanged place need [] news → news ≡ []
+  none_kept [] are = refl
+  none_kept (new ∷ news) are = absurd are
+
+  with_own : (component : ℕ) (steps : List ComponentLine) (olds : List AccountBudgets) (old : AccountBudgets) (front back news : List AccountBudgets) → news ≡ front ++ back →
+      AreChanged place need olds front → AreChanged place need (old ∷ []) back → AreSessionAccounts component olds → IsOwnOf list component steps old →
+      AreAccountsOf list component steps news
+  with_own component steps olds old front [] news these are last sessions own = absurd last
+  with_own component steps olds old front (new ∷ back) news these are last sessions own =
+      let only : back ≡ [] = none_kept back last.1 in
+      record {
+        sessions = front;
+        own = new;
+        these = these ∙ ap (λ l. front ++ new ∷ l) only;
+        sessions_are = sessions_kept component olds front are sessions;
+        own_is = own_kept component steps old new last.0 own;
+      }
+
+  its_kept : (component : ℕ) (steps : List ComponentLine) (olds news : List AccountBudgets) → AreChanged place need olds news → AreAccountsOf list component steps olds →
+      AreAccountsOf list component steps news
+  its_kept component steps olds news are its =
+      let split : Split place need its.sessions (its.own ∷ []) news =
+      split_in place need its.sessions (its.own ∷ []) news (subst (λ l. AreChanged place need l news) its.these are) in
+      with_own component steps its.sessions its.own split.front split.back news split.these split.front_are split.back_are its.sessions_are its.own_is
+
+  -- and accounts of all components
+  pub all_kept : {Z : Type 0} (steps : List (Vec ComponentLine Z)) (count : ℕ) (olds news : List AccountBudgets) → AreChanged place need olds news → AreAccounts list steps count olds →
+      AreAccounts list steps count news
+  all_kept steps zero olds news are none = none_kept news (subst (λ l. AreChanged place need l news) none are)
+  all_kept steps (suc count) olds news are joined =
+      let split : Split place need joined.before joined.after news =
+      split_in place need joined.before joined.after news (subst (λ l. AreChanged place need l news) joined.these are) in
+      record {
+        before = split.front;
+        after = split.back;
+        these = split.these;
+        before_are = all_kept steps count joined.before split.front split.front_are joined.before_are;
+        after_are = its_kept count (steps_at steps count) joined.after split.back split.back_are joined.after_are;
+      }
+
+-- ---- one component more
+
+module _ {Z : Type 0} (list : Listed) (steps : List (Vec ComponentLine Z)) where
+  -- accounts of a component after those of the components before it
+  pub joined : (component : ℕ) (lines : List ComponentLine) (before after all : List AccountBudgets) → lines ≡ steps_at steps component → all ≡ before ++ after →
+      AreAccounts list steps component before → AreAccountsOf list component lines after → AreAccounts list steps (component + 1) all
+  joined component lines before after all same these are its =
+      let next : suc component ≡ component + 1 = omega arith in
+      let more : AreAccounts list steps (suc component) all = record {
+        before = before;
+        after = after;
+        these = these;
+        before_are = are;
+        after_are = subst (λ l. AreAccountsOf list component l after) same its;
+      } in
+      subst (λ n. AreAccounts list steps n all) next more
+
+-- sessions of components from the next one on
+pub sessions_after : (list : Listed) (component : ℕ) (script : Option ScriptSessions) (scripts rest : List (Option ScriptSessions)) → scripts ≡ script ∷ rest →
+    AreSessionsFrom list component scripts → IsSessionsOf list component script × AreSessionsFrom list (component + 1) rest
+sessions_after list component script scripts rest these are =
+    let next : suc component ≡ component + 1 = omega arith in
+    let both : AreSessionsFrom list component (script ∷ rest) = subst (λ l. AreSessionsFrom list component l) these are in
+    (both.0, subst (λ n. AreSessionsFrom list n rest) next both.1)

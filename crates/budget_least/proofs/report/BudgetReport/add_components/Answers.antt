@@ -1,0 +1,50 @@
+-- The accounts of one component more, and of all.
+use Rattle.std.proofs.Common.{arith, ◌≡◌, ◌+◌, length, sym, ap, subst, ◌∙◌, Bor}
+use Rattle.std.specs.Vec.Iter.{into_iter_items}
+use Rattle.own_model.specs.Listed.{Listed}
+use Rattle.budget_least.proofs.AccountLemmas.{sessions_after}
+use Rattle.budget_least.specs.ComponentAccounts.{AreSessionsFrom}
+use Rattle.budget_least.specs.ReportOf.{HasAccounts}
+use Rattle.budget_least.proofs.report.BudgetReport.add_components.Goals as goal
+
+pub overflow_add-component : goal.overflow_add-component
+overflow_add-component c =
+    let longer = ap length c.in-Some.ensures.steps.0 in
+    let entries = ap (λ (list : Bor Listed). length list.now.entries) c.loop-script.invariant.list in
+    omega (arith, longer, entries, c.loop-script.invariant.count, c.count-few.ensures.value, c.count-few.ensures.most)
+
+pub add_component-requires-clause-there : goal.add_component-requires-clause-there
+add_component-requires-clause-there c =
+    let longer = ap length c.in-Some.ensures.steps.0 in
+    omega (arith, longer, c.loop-script.invariant.count)
+
+pub add_component-requires-clause-sessions : goal.add_component-requires-clause-sessions
+add_component-requires-clause-sessions c =
+    (sessions_after c.loop-script.self.list.now c.loop-script.component c.in-Some.script (into_iter_items c.loop-script.script-iterator) (into_iter_items c.next.new.self)
+    c.in-Some.ensures.steps.0 c.loop-script.invariant.left).0
+
+pub loop-script-preserved : goal.loop-script-preserved
+loop-script-preserved c =
+    let was = c.loop-script.self in
+    let rest = into_iter_items c.next.new.self in
+    let steps = c.in-Some.ensures.steps.0 in
+    let longer = ap length steps in
+    let entries = ap (λ (list : Bor Listed). length list.now.entries) c.add_component.ensures.list in
+    record {
+      list = c.add_component.ensures.list ∙ c.loop-script.invariant.list;
+      choice = c.add_component.ensures.choice ∙ c.loop-script.invariant.choice;
+      scene = c.add_component.ensures.scene ∙ c.loop-script.invariant.scene;
+      accounts = c.in_ok-add_component.ensures.accounts;
+      left =
+          subst (λ (list : Bor Listed). AreSessionsFrom list.now (c.loop-script.component + 1) rest) (sym c.add_component.ensures.list)
+          (sessions_after was.list.now c.loop-script.component c.in-Some.script (into_iter_items c.loop-script.script-iterator) rest steps c.loop-script.invariant.left).1;
+      count = omega (arith, longer, entries, c.loop-script.invariant.count);
+      exact = omega (arith, longer, c.in-Some.ensures.steps.1, c.loop-script.invariant.exact);
+    }
+
+pub returns-clause-accounts : goal.returns-clause-accounts
+returns-clause-accounts c =
+    let self = c.loop-script.self in
+    let all : c.loop-script.component ≡ length self.list.now.entries =
+    omega (arith, c.in-None.ensures.steps.0, c.loop-script.invariant.exact, c.loop-script.invariant.count) in
+    subst (λ n. HasAccounts self n) all c.loop-script.invariant.accounts

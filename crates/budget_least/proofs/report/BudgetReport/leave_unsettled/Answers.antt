@@ -1,0 +1,14 @@
+-- The lines that still change are left out.
+use Rattle.std.proofs.Common.{◌++◌, map, ap, ◌∙◌}
+use Rattle.budget_least.proofs.DraftLemmas.{left_out}
+use Rattle.budget_least.specs.ComponentLines.{numbers_in}
+use Rattle.budget_least.specs.declared.changed_line.ChangedLine.{ChangedLine}
+use Rattle.budget_least.proofs.report.BudgetReport.leave_unsettled.Goals as goal
+
+pub returns : goal.returns
+returns c = λ number few is.
+    let changed = c.in_ok-changed.changed in
+    left_out c.args.question c.args.start.now number c.args.self.now c.leave_changed.new.self c.in_ok-lines.lines (map (λ (line : ChangedLine). line.number) changed.items) few
+    c.leave_changed.ensures.steps c.in_ok-lines.ensures c.in_ok-changed.ensures
+    (c.in_ok-leave_changed.ensures.unmeasured
+    ∙ ap (λ lines. numbers_in c.args.self.now.scene ++ map (λ (line : ChangedLine). line.number) lines) c.as_slice.ensures.value) is
