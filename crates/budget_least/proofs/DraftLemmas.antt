@@ -158,3 +158,9 @@ module _ (question : BudgetQuery) (start : RunPosition) where
 pub named_as : (question : BudgetQuery) (start : RunPosition) (report : BudgetReport) (named found : Bool) → found ≡ has_names question.scenario.now → found ≡ named →
     IsReportIf named question start report → IsReportIf (has_names question.scenario.now) question start report
 named_as question start report named found told is reported = subst (λ b. IsReportIf b question start report) (sym is ∙ told) reported
+
+-- in a draft, accounts of inits have what the inits' lists need
+pub needed_at : (question : BudgetQuery) (start : RunPosition) (number : ℕ) (unread : List ℕ) (report : BudgetReport)
+    → IsDraftAt question start number unread report → AreNeeded report.choice report.list.now report.accounts.items
+needed_at question start zero unread report draft = draft.needed
+needed_at question start (suc number) unread report next = next.draft.needed

@@ -89,7 +89,9 @@ impl<'a> BudgetReport<'a> {
         question: BudgetQuery<'a>,
         start: RunPosition<'_>,
     ) -> Result<BudgetReport<'a>, BootFault>
-        ensures { IfOk result (IsReportOf question.entry start.entry) }
+        ensures report { IfOk result (IsReportOf question.entry start.entry) }
+        ensures needed { IfOk result (λ report.
+            AreNeeded report.choice report.list.now report.accounts.items) }
     {
         let mut report = BudgetReport::first(alloc, question, &start)?;
         if !has_names(question.scenario) {
