@@ -51,7 +51,7 @@ module _ {Z : Type 0} where
       longer
       ∙ ap (λ numbers. numbers ++ changed_lines (lines_of these) (lines_of those)) so_far
       ∙ (λ i. changed_below component (seen steps) (seen others)
-          ++ changed_lines ((ap lines_of is_these ∙ lines_seen steps component) i) ((ap lines_of is_those ∙ lines_seen others component) i)) in
+      ++ changed_lines ((ap lines_of is_these ∙ lines_seen steps component) i) ((ap lines_of is_those ∙ lines_seen others component) i)) in
       more ∙ ap (λ n. changed_below n (seen steps) (seen others)) next
 
 -- ---- lines whose donations are set

@@ -1,5 +1,5 @@
 -- Drafts of a report, one after another, and the last one.
-use Rattle.std.proofs.Common.{arith, ◌≡◌, ℕ, zero, suc, ◌+◌, ◌<◌, ◌==◌, Bool, true, false, List, [], ◌++◌, length, map, append-nil, refl, sym, ap, subst, ◌∙◌, Bor}
+use Rattle.std.proofs.Common.{arith, ◌≡◌, ℕ, zero, suc, ◌+◌, ◌<◌, ◌==◌, Bool, true, List, [], ◌++◌, length, map, append-nil, refl, sym, ap, subst, ◌∙◌, Bor}
 use Rattle.std.specs.Prelude.{Vec}
 use Rattle.std.specs.List.{slice_split}
 use Rattle.own_model.specs.Listed.{Listed}
@@ -11,7 +11,7 @@ use Rattle.budget_least.specs.ChangedLines.{changed_numbers}
 use Rattle.budget_least.specs.ComponentAccounts.{AreAccounts}
 use Rattle.budget_least.specs.ComponentLines.{first_reading, lines_in, lines_of, numbers_in, AreRead, HasRead, ReadLine}
 use Rattle.budget_least.specs.InitNeeds.{AreNeeded}
-use Rattle.budget_least.specs.ReportOf.{first_budgets, has_names, AreFilledBy, AreLinesOf, AreUnsettledIf, AreWrittenBy, HasAccounts, HaveKept, IsDraft, IsDraftAt, IsReportIf}
+use Rattle.budget_least.specs.ReportOf.{first_budgets, has_names, AreFilledBy, AreUnsettledIf, AreWrittenBy, HasAccounts, HaveKept, IsDraft, IsDraftAt, IsReportIf}
 use Rattle.budget_least.specs.declared.binding_run.BindingBudgets.{BindingBudgets}
 use Rattle.budget_least.specs.declared.binding_run.BindingBudgets.TheVariants.{Ample, AsDonated, Chosen}
 use Rattle.budget_least.specs.declared.lines_by_component.LinesByComponent.{LinesByComponent}
@@ -53,8 +53,8 @@ module _ (question : BudgetQuery) (start : RunPosition) where
     lines = (
       read.0,
       reading_kept budgets read.0 (lines_in lines) (lines_in report.scene) (numbers_in lines) (numbers_in report.scene)
-      (ap (λ (scene : LinesByComponent). lines_in scene) scenes ∙ same)
-      (ap (λ (scene : LinesByComponent). numbers_in scene) scenes ∙ ap (λ found. map (λ (line : UnmeasuredLine). line.number) found.items) unmeasured) read.1,
+          (ap (λ (scene : LinesByComponent). lines_in scene) scenes ∙ same)
+          (ap (λ (scene : LinesByComponent). numbers_in scene) scenes ∙ ap (λ found. map (λ (line : UnmeasuredLine). line.number) found.items) unmeasured) read.1,
     );
     accounts = subst (λ (l : Bor Listed). HasAccounts report (length l.now.entries)) (sym lists) (kept (length measured.list.now.entries) accounts);
     needed = needed;

@@ -2,7 +2,6 @@
 use Rattle.std.specs.Prelude.{◌≡◌, ◌≢◌, ◌<◌, ⊤, ℕ, zero, suc, false, List, [], ◌∷◌, ◌++◌, length, Vec, Option, Some, None}
 use Rattle.std.specs.List.{slice_get}
 use Rattle.std.specs.Option.{option_map, unwrap_or}
-use Rattle.own_model.specs.Amounts.{Amounts}
 use Rattle.own_model.specs.Listed.{Listed}
 use Rattle.own_model.specs.StartList.Kind.{Script}
 use Rattle.budget_meter.specs.Needs.{amounts_of}

@@ -124,10 +124,7 @@ impl BudgetReport<'_> {
 }
 
 // Adds accounts to others.
-fn add_all(
-    accounts: &mut Vec<AccountBudgets>,
-    more: Vec<AccountBudgets>,
-) -> Result<(), AllocError>
+fn add_all(accounts: &mut Vec<AccountBudgets>, more: Vec<AccountBudgets>) -> Result<(), AllocError>
     ensures { OnOk result (accounts.new.items ≡ accounts.old.items ++ more.items) }
 {
     for account in more {

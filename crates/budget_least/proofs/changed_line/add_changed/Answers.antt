@@ -1,5 +1,5 @@
 -- One place more, and all.
-use Rattle.std.proofs.Common.{arith, ◌≡◌, ◌++◌, length, map, max, sym, ap, ◌∙◌}
+use Rattle.std.proofs.Common.{arith, ◌≡◌, ◌++◌, length, map, max, ap, ◌∙◌}
 use Rattle.std.proofs.lemmas.List.{length-map}
 use Rattle.std.specs.Option.{option_copied}
 use Rattle.budget_least.proofs.ChangedLemmas.{place_more}

@@ -13,4 +13,3 @@ loop-place-preserved c =
       count = length-set steps c.loop-place.place c.donate.new.step ∙ c.loop-place.invariant.count;
       lines = kept_at line_of steps c.loop-place.place c.index_mut.result.now c.donate.new.step there c.index_mut.ensures.value c.in_ok-donate.ensures ∙ c.loop-place.invariant.lines;
     }
-

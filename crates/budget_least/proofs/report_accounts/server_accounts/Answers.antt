@@ -1,5 +1,5 @@
 -- A component that makes no calls has the budget of its entry.
-use Rattle.std.proofs.Common.{◌≡◌, ◌++◌, [], get_or, length, Some, refl, subst, ◌∙◌}
+use Rattle.std.proofs.Common.{◌≡◌, [], get_or, length, Some, refl, subst, ◌∙◌}
 use Rattle.std.specs.List.{slice_get}
 use Rattle.std.proofs.lemmas.Option.{slice_get_read}
 use Rattle.budget_meter.specs.Needs.{amounts_of}

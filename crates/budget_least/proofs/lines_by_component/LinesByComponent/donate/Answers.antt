@@ -1,7 +1,6 @@
 -- One component more.
 use Rattle.std.proofs.Common.{arith, ◌<◌, length, ◌∙◌}
 use Rattle.std.proofs.lemmas.List.{length-set}
-use Rattle.std.specs.Prelude.{Vec}
 use Rattle.budget_least.proofs.ChangedLemmas.{kept_at}
 use Rattle.budget_least.specs.ComponentLines.{lines_of}
 use Rattle.budget_least.proofs.lines_by_component.LinesByComponent.donate.Goals as goal

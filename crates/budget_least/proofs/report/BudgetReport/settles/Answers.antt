@@ -1,5 +1,5 @@
 -- The lines stay the same, or are those of the next draft.
-use Rattle.std.proofs.Common.{arith, ◌≡◌, ◌==◌, List, [], ◌∷◌, length, map, refl}
+use Rattle.std.proofs.Common.{arith, ◌≡◌, List, [], ◌∷◌, length, map, refl}
 use Rattle.std.proofs.lemmas.Bool.Decides.{nat_tests}
 use Rattle.budget_least.proofs.DraftLemmas.{next_draft, none_left}
 use Rattle.budget_least.specs.declared.changed_line.ChangedLine.{ChangedLine}

@@ -1,5 +1,5 @@
 -- The accounts for lines, and then what inits need.
-use Rattle.std.proofs.Common.{ap, ◌∙◌, Bor}
+use Rattle.std.proofs.Common.{ap, Bor}
 use Rattle.own_model.specs.Listed.{Listed}
 use Rattle.budget_least.proofs.DraftLemmas.{drafted}
 use Rattle.budget_least.proofs.report.BudgetReport.with.Goals as goal
