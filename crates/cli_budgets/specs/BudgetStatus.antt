@@ -1,9 +1,16 @@
 -- The exit status of `least`.
-use Rattle.std.specs.Prelude.{◌≡◌, ℕ, List, length, nat_lt, if◌then◌else◌, Option, ⊤}
+use Rattle.std.specs.Prelude.{◌≡◌, ℕ, List, length, nat_lt, if◌then◌else◌, Option, Ok, ⊤}
 use Rattle.line_rounds.specs.Unfolding.{UnfoldedText}
+use Rattle.line_steps.specs.RunPosition.{first_position}
+use Rattle.list_parser.specs.StartText.{list_in}
+use Rattle.budget_search.specs.declared.budget_intervals.BudgetChoice.TheVariants.{Minimum, Safe}
 use Rattle.budget_least.specs.Report.{unmeasured_of}
+use Rattle.budget_least.specs.ReportOf.{IsReportOf}
+use Rattle.budget_least.specs.declared.report.BudgetQuery.{BudgetQuery}
 use Rattle.budget_least.specs.declared.report.BudgetReport.{BudgetReport}
 use Rattle.cli_options.specs.declared.command_options.LeastOptions.{LeastOptions}
+use Rattle.cli_base.specs.Given.{names_of}
+use Rattle.cli_base.specs.Texts.{bytes_of}
 use Rattle.cli_base.specs.Unfolding.{EndsOnText}
 use Rattle.cli_base.specs.declared.machine.Machine.{Machine}
 use Rattle.cli_base.specs.declared.settings.Settings.{Settings}
@@ -12,8 +19,18 @@ use Rattle.cli_base.specs.declared.settings.Settings.{Settings}
 abbrev pub measured_status : ℕ → ℕ
 measured_status lines = if nat_lt 0 lines then 3 else 0
 
-abbrev pub EndsMeasured : Machine → List ℕ → UnfoldedText → ℕ → Type 0
-EndsMeasured machine text lines status = (report : BudgetReport) × (status ≡ measured_status (length (unmeasured_of report)))
+-- a question is about these lines on the list of a machine, with the budgets and the donations that the command line asks for
+abbrev pub Asks : LeastOptions → Machine → UnfoldedText → BudgetQuery → Type 0
+Asks asked machine lines question =
+    (list_in (bytes_of machine.text) ≡ Ok question.list.now) × (question.scenario.now ≡ lines.text)
+    × (question.choice ≡ (if asked.safe then Safe else Minimum)) × (question.as_donated ≡ asked.as_donated)
+
+-- the status is that of the report on such a question, with the values of names
+abbrev pub EndsMeasured : LeastOptions → Settings → Machine → List ℕ → UnfoldedText → ℕ → Type 0
+EndsMeasured asked settings machine text lines status =
+    (question : BudgetQuery) × Asks asked machine lines question
+    × ((report : BudgetReport) × IsReportOf question (first_position (names_of settings) lines.marks) report
+    × (status ≡ measured_status (length (unmeasured_of report))))
 
 -- a machine has no report of budgets: nothing is stated of when that is
 abbrev pub LacksReport : Machine → Type 0
@@ -22,4 +39,4 @@ LacksReport machine = ⊤
 -- `least` ends so
 abbrev pub BudgetsEnd : (List ℕ → Option (List ℕ)) → LeastOptions → Settings → ℕ → Type 0
 BudgetsEnd texts asked settings status =
-    EndsOnText texts settings asked.machine asked.scenario.now LacksReport EndsMeasured status
+    EndsOnText texts settings asked.machine asked.scenario.now LacksReport (EndsMeasured asked settings) status

@@ -101,7 +101,8 @@ fn least_on(
     settings: Settings<'_>,
 ) -> u8
     ensures { EndsAs (LacksReport machine.now)
-        (EndsUnfolded settings.entry text.now (EndsMeasured machine.now text.now)) result }
+        (EndsUnfolded settings.entry text.now
+            (EndsMeasured asked.now settings.entry machine.now text.now)) result }
 {
     let lines = match unfolded(rt, asked.scenario, text, settings) {
         Ok(lines) => lines,

@@ -8,7 +8,7 @@ use Rattle.cli_budgets.proofs.least_command.print_minimum_budgets.Goals as goal
 
 pub returns-in-Err : goal.returns-in-Err
 returns-in-Err g c =
-    on_lack (g.H.Host.text_at c.args.host.now) c.args.settings c.args.asked.now.machine c.args.asked.now.scenario.now LacksReport EndsMeasured
+    on_lack (g.H.Host.text_at c.args.host.now) c.args.settings c.args.asked.now.machine c.args.asked.now.scenario.now LacksReport (EndsMeasured c.args.asked.now c.args.settings)
     c.in-Err.status c.in-Err.ensures.failed
 
 pub returns-in-Err-read : goal.returns-in-Err-read
@@ -16,7 +16,7 @@ returns-in-Err-read g c =
     let texts = g.H.Host.text_at c.args.host.now in
     let named = c.args.asked.now.machine in
     let scenario = c.args.asked.now.scenario.now in
-    on_no_machine texts c.args.settings named scenario LacksReport EndsMeasured c.in-Err-read.status
+    on_no_machine texts c.args.settings named scenario LacksReport (EndsMeasured c.args.asked.now c.args.settings) c.in-Err-read.status
     (⊎_map (λ one. one)
     (λ two. (two.0, lacks_machine texts c.args.settings named scenario c.in-Ok.list c.path.result c.in-Ok.ensures.chosen c.path.ensures two.1))
     c.in-Err-read.ensures.failed)
@@ -26,7 +26,7 @@ returns-in-Ok-scenario_text g c =
     let texts = g.H.Host.text_at c.args.host.now in
     let named = c.args.asked.now.machine in
     let scenario = c.args.asked.now.scenario.now in
-    on_text texts c.args.settings named scenario LacksReport EndsMeasured c.in-Ok-read.machine c.as_slice.result.now c.least_on.result
+    on_text texts c.args.settings named scenario LacksReport (EndsMeasured c.args.asked.now c.args.settings) c.in-Ok-read.machine c.as_slice.result.now c.least_on.result
     (machine_for texts c.args.settings named scenario c.in-Ok.list c.path.result c.in-Ok-read.machine c.in-Ok.ensures.chosen c.path.ensures
     c.in-Ok-read.ensures.found)
     (subst (λ t. IsTextAt texts scenario t) (sym c.as_slice.ensures.value) c.in-Ok-scenario_text.ensures.text) c.least_on.ensures
