@@ -1,5 +1,5 @@
 -- Why there are no paths: of a request, and of scripts and servers that are named.
-use Rattle.std.proofs.Common.{◌≡◌, ℕ, Bool, true, false, List, ap, inl, inr, refl, subst, sym}
+use Rattle.std.proofs.Common.{◌≡◌, ℕ, true, false, List, ap, inl, inr, refl, subst, sym}
 use Rattle.std.specs.Prelude.{◌⊎◌, is_err, is_some, if◌then◌else◌, IfSome, Option, Some, None, Result, Ok, Err}
 use Rattle.list_reach.specs.Paths.{GivesReason, PathFault, fault_of, joined}
 use Rattle.list_reach.specs.RouteQuery.{IsWhy}

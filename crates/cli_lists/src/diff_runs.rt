@@ -12,7 +12,7 @@ ghost use Rattle.cli_lists.specs.ComparedRuns.{AreNeedsOn, answers_on, need_at, 
 use crate::diff_files::ListFile;
 use budget_least::{AccountBudgets, Budget, BudgetChoice, BudgetQuery, BudgetReport};
 use cli_base::{
-    Origin, OutputStream, Printing, Settings, Spot, StopMessage, UNWRITTEN, made_or_status,
+    Host, Origin, OutputStream, Printing, Settings, Spot, StopMessage, UNWRITTEN, made_or_status,
     plain_writer, report_error, spot_of, watched_reader,
 };
 use init_core::{BootFault, ListEntry, StartList};
@@ -23,7 +23,6 @@ use run_exchanges::Exchange;
 use run_lines::LineRunFault;
 use run_scenario::ScenarioInput;
 use std::alloc::{AllocError, Global};
-use std::fs::File;
 use view_diagnostics::DiagnosticForm;
 use view_runs::answers;
 
@@ -82,8 +81,8 @@ impl<'a> RunPair<'a> {
 
 /// Returns the calls of a scenario with their replies on a list that boots. If the scenario can't be run to its end, prints why and
 /// returns the exit status 1. Expectations of the scenario are ignored.
-pub(crate) fn answers_on<'a>(
-    rt: &'a HostRuntime,
+pub(crate) fn answers_on<'a, H: Host>(
+    host: &'a H,
     run: RunInput<'a>,
     settings: Settings<'_>,
 ) -> Result<Vec<Exchange>, u8>
@@ -91,13 +90,14 @@ pub(crate) fn answers_on<'a>(
         answers_on settings.entry run.entry.file.list.now (whole_view run.entry.lines.now)) }
     ensures failed { IfErr result (λ status. status ≡ 1) }
 {
+    let rt = host.rt();
     let start = settings.start_or_status(rt, run.lines.marks())?;
     let input = ScenarioInput {
         list: run.file.list,
         scenario: settings.subject(run.path),
         start,
     };
-    let origin: Origin<'_, File> = Origin::Held(run.lines.bytes());
+    let origin: Origin<'_, H::File> = Origin::Held(run.lines.bytes());
     let mut reader = watched_reader(rt, origin, Printing::Afterwards);
     let mut nowhere = plain_writer(rt, OutputStream::Dropped);
     let mut complaints = plain_writer(rt, OutputStream::Dropped);

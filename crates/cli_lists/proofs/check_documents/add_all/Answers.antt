@@ -1,7 +1,8 @@
 -- The review of the text, or its fault.
 use Rattle.std.proofs.Common.{inl}
+use Rattle.std.proofs.lemmas.Result.{on_ok_weaker}
 use Rattle.cli_lists.specs.ListStatus.{EndsKept, HasRefused}
-use Rattle.cli_lists.proofs.DocumentLemmas.{on_fault, on_reviewed, on_success}
+use Rattle.cli_lists.proofs.DocumentLemmas.{on_fault, on_reviewed}
 use Rattle.cli_lists.proofs.ReviewLemmas.{fault_ends}
 use Rattle.cli_lists.proofs.check_documents.add_all.Goals as goal
 
@@ -13,7 +14,7 @@ returns-in-Ok-clause-status g c =
 
 pub returns-in-Ok-clause-listed : goal.returns-in-Ok-clause-listed
 returns-in-Ok-clause-listed g c =
-    on_success c.add_reviewed.result
+    on_ok_weaker c.add_reviewed.result
     (λ lists. inl (c.in-Ok.review, (c.in-Ok.ensures.list, c.in-Ok.ensures.boots, c.in-Ok.ensures.told), lists)) c.add_reviewed.ensures.listed
 
 pub returns-in-Err-clause-status : goal.returns-in-Err-clause-status

@@ -1,6 +1,4 @@
 -- The paths of both options.
-use Rattle.std.proofs.Common.{◌≡◌, ◌∙◌, List, Ok, ap, sym}
-use Rattle.std.specs.Borrow.{Bor}
 use Rattle.list_reach.specs.Paths.{joined, numbers_of_all}
 use Rattle.list_reach.specs.declared.component_numbers.ComponentKind.TheVariants.{Script as Scripts, Server as Servers}
 use Rattle.cli_lists.proofs.PathLemmas.{all_named, none_named}
