@@ -13,7 +13,7 @@ use Rattle.cli_lists.proofs.diff_policy.breaches_of.Goals as goal
 
 pub returns-then-not-is_empty-clause-stopped : goal.returns-then-not-is_empty-clause-stopped
 returns-then-not-is_empty-clause-stopped c =
-    let reads =
+    let reads : Reads c.args.lists.after.list.now c.args.text.now c.in_ok-policy.policy =
     IfOk-at_ok (λ (policy : Policy). Reads c.args.lists.after.list.now c.args.text.now policy) c.in_ok-policy.ensures.ok c.read.ensures in
     inr (
       c.refuse_policy.ensures,
