@@ -10,7 +10,7 @@ use Rattle.cli_lists.specs.ListStatus.{EndsOnText, IsReviewOf}
 -- a status that is printed, or why it isn't
 printed_as : (R : Type 0) (P : ℕ → Type 0) (ended status : ℕ) → EndsAs R P ended → EndsAs ⊥ (λ e. e ≡ ended) status → EndsAs R P status
 printed_as R P ended status ends (inl (inl failed)) = inl (inl failed)
-printed_as R P ended status ends (inl (inr (two, no))) = absurd no
+printed_as R P ended status ends (inl (inr (two, never))) = absurd never
 printed_as R P ended status ends (inr is) = subst (λ s. EndsAs R P s) (sym is) ends
 
 printed_ends : {E : Type 0} (R : Type 0) (P : ℕ → Type 0) (added : Result ℕ E) (status : ℕ) → IfOk added (EndsAs R P)

@@ -31,5 +31,5 @@ none_named numbers fault status reason is = by (fault_of fault) reason is
   where
     by : (o : Option PathFault) → IfSome o (λ why. numbers ≡ Err why) → status ≡ (if is_some o then 2 else 1)
         → (status ≡ 1) ⊎ (status ≡ 2) × (is_err numbers ≡ true)
-    by None no one = inl one
+    by None _ one = inl one
     by (Some why) why_is two = inr (two, ap (λ (r : Result (List ℕ) PathFault). is_err r) why_is)

@@ -60,8 +60,8 @@ module _ (texts : List ℕ → Option (List ℕ)) (settings : Settings) (path : 
     where
       by : (o : Option (List ℕ)) → IfSome o (λ bytes. IsNoList (list_filled settings (front bytes)))
           → IfSome o (λ bytes. IsNoBoot (list_filled settings (front bytes)))
-      by None no = tt
-      by (Some bytes) no = no_boot (list_filled settings (front bytes)) no
+      by None lacks = tt
+      by (Some bytes) lacks = no_boot (list_filled settings (front bytes)) lacks
 
   -- a text with a fault is that of a file that is no list that boots
   pub text_boots_not : (text : List ℕ) → IsFilled texts settings path text → is_some (fault_of text) ≡ true

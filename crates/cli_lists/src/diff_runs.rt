@@ -1,13 +1,13 @@
 //! The runs of scenarios on two start lists: needs that aren't covered any more, and replies that differ.
 ghost use Rattle.std.specs.Prelude.{◌≡◌, ◌++◌, map, IfErr, IfOk, OnOk};
 ghost use Rattle.std.specs.List.{flat_map};
-ghost use Rattle.std.specs.Option.{option_map};
+ghost use Rattle.std.specs.Option.{option_copied, option_map};
 ghost use Rattle.budget_least.specs.Report.{accounts_of};
 ghost use Rattle.budget_meter.specs.Needs.{amounts_of};
 ghost use Rattle.budget_search.specs.BudgetIntervals.{lowest_of};
 ghost use Rattle.line_rounds.specs.Views.{whole_view};
 ghost use Rattle.list_diff.specs.LineResults.{call_in};
-ghost use Rattle.cli_lists.specs.ComparedRuns.{AreNeedsOn, answers_on, need_at, need_of, needs_by, quota_of, results_by};
+ghost use Rattle.cli_lists.specs.ComparedRuns.{AreNeedsOn, answers_on, need_at, need_if, need_of, needs_by, quota_of, results_by};
 
 use crate::diff_files::ListFile;
 use budget_least::{AccountBudgets, Budget, BudgetChoice, BudgetQuery, BudgetReport};
@@ -186,10 +186,27 @@ fn add_need<'a>(
     ensures { OnOk result
         (map need_at needs.new.items ≡ map need_at needs.old.items ++ needs_by list.now account.now) }
 {
-    if let (None, Some(entry)) = (account.session(), list.entries().get(account.component())) {
-        needs.push(need_of(account, entry))?;
+    let entry = list.entries().get(account.component());
+    add_need_if(needs, account, account.session().is_some(), entry)
+}
+
+// Adds the need of a component by an account, if the component is there. Adds nothing if the account is that of a session.
+fn add_need_if<'a>(
+    needs: &mut Vec<ComponentNeed<'a>>,
+    account: &AccountBudgets,
+    is_session: bool,
+    entry: Option<&'a ListEntry>,
+) -> Result<(), AllocError>
+    ensures { OnOk result (map need_at needs.new.items ≡ map need_at needs.old.items
+        ++ need_if account.now is_session (option_copied entry.entry)) }
+{
+    if is_session {
+        return Ok(());
     }
-    Ok(())
+    match entry {
+        Some(entry) => needs.push(need_of(account, entry)),
+        None => Ok(()),
+    }
 }
 
 // Returns the budget and the need of a component's account.

@@ -9,12 +9,12 @@ returns-in-Ok-clause-named c =
     let asked = c.args.asked.now in
     all_named (numbers_of_all c.args.list.now Scripts asked.from.items) (numbers_of_all c.args.list.now Servers asked.to.items)
     c.in-Ok.filter.from.items c.in-Ok.filter.to.items
-    (rw c.as_slice.ensures.value at c.in-Ok.ensures.from) (rw c.as_slice-2.ensures.value at c.in-Ok.ensures.to)
+    (rw c.as_slice-from.ensures.value at c.in-Ok.ensures.from) (rw c.as_slice-to.ensures.value at c.in-Ok.ensures.to)
 
 pub returns-in-Err-clause-failed : goal.returns-in-Err-clause-failed
 returns-in-Err-clause-failed c =
     let asked = c.args.asked.now in
     none_named
     (joined (numbers_of_all c.args.list.now Scripts asked.from.items) (numbers_of_all c.args.list.now Servers asked.to.items))
-    c.in-Err.fault c.unnamed_status.result (rw (c.as_slice.ensures.value, c.as_slice-2.ensures.value) at c.in-Err.ensures.fault)
+    c.in-Err.fault c.unnamed_status.result (rw (c.as_slice-from.ensures.value, c.as_slice-to.ensures.value) at c.in-Err.ensures.fault)
     c.unnamed_status.ensures
