@@ -204,7 +204,10 @@ fn add_need_if<'a>(
         return Ok(());
     }
     match entry {
-        Some(entry) => needs.push(need_of(account, entry)),
+        Some(entry) => {
+            needs.push(need_of(account, entry))?;
+            Ok(())
+        }
         None => Ok(()),
     }
 }

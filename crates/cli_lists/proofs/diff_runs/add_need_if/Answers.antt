@@ -1,7 +1,6 @@
 -- The need is that of the entry, unless the account is that of a session.
 use Rattle.std.proofs.Common.{◌≡◌, ◌∙◌, ◌++◌, Bool, List, [], ◌∷◌, Option, Some, ap, false, map, sym}
 use Rattle.std.proofs.lemmas.List.{append-nil, map-append}
-use Rattle.std.proofs.lemmas.Result.{on_ok_weaker}
 use Rattle.std.specs.Borrow.{Bor}
 use Rattle.std.specs.Option.{option_copied}
 use Rattle.budget_search.specs.declared.account_budgets.AccountBudgets.{AccountBudgets}
@@ -30,13 +29,10 @@ returns-then-is_session c =
     unadded (map need_at c.args.needs.now.items) (need_if c.args.account.now c.args.is_session (option_copied c.args.entry))
     (ap (λ (b : Bool). need_if c.args.account.now b (option_copied c.args.entry)) c.if-is_session.true)
 
-pub returns-in-Some : goal.returns-in-Some
-returns-in-Some c =
-    on_ok_weaker c.push.result
-    (λ items.
+pub returns-in_ok-push : goal.returns-in_ok-push
+returns-in_ok-push c =
     need_added c.args.account.now c.in-Some.entry.now c.need_of.result c.args.is_session (option_copied c.args.entry) c.args.needs.now.items
-    c.push.new.self.items c.if-is_session.false (ap option_copied c.in-Some.is) c.need_of.ensures items)
-    c.push.ensures.items
+    c.push.new.self.items c.if-is_session.false (ap option_copied c.in-Some.is) c.need_of.ensures c.in_ok-push.ensures.items
 
 pub returns-in-None : goal.returns-in-None
 returns-in-None c =
