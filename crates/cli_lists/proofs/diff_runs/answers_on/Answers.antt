@@ -7,8 +7,8 @@ use Rattle.std.specs.Prelude.{None}
 use Rattle.cli_lists.proofs.ChangeLemmas.{answered, answers_are}
 use Rattle.cli_lists.proofs.diff_runs.answers_on.Goals as goal
 
-pub returns-in-None-clause-answers : goal.returns-in-None-clause-answers
-returns-in-None-clause-answers g c =
+pub returns-clause-answers : goal.returns-clause-answers
+returns-clause-answers g c =
     let list = c.args.run.file.list.now in
     answers_are c.args.settings list (whole_view c.args.run.lines.now) c.marks.result.now c.in_ok-start.start c.bytes.result.now
     c.in-Ok.answered.exchanges.items c.in_ok-start.ensures.start c.marks.ensures c.bytes.ensures
