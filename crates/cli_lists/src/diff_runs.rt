@@ -1,5 +1,5 @@
 //! The runs of scenarios on two start lists: needs that aren't covered any more, and replies that differ.
-ghost use Rattle.std.specs.Prelude.{◌≡◌, ◌++◌, map, IfErr, IfOk, OnOk};
+ghost use Rattle.std.specs.Prelude.{◌≡◌, ◌++◌, map, None, IfErr, IfOk, OnOk};
 ghost use Rattle.std.specs.List.{flat_map};
 ghost use Rattle.std.specs.Option.{option_copied, option_map};
 ghost use Rattle.budget_least.specs.Report.{accounts_of};
@@ -24,7 +24,7 @@ use run_lines::LineRunFault;
 use run_scenario::ScenarioInput;
 use std::alloc::{AllocError, Global};
 use view_diagnostics::DiagnosticForm;
-use view_runs::answers;
+use view_runs::{AnswerList, answers};
 
 /// What is run on one side: a scenario, by its path and its unfolded text, on a start list.
 #[derive(Clone, Copy)]
@@ -109,11 +109,25 @@ pub(crate) fn answers_on<'a, H: Host>(
         &mut nowhere,
         &mut complaints,
     ) {
-        Ok(answered) => match answered.ending.fault {
-            Some(fault) => Err(report_stopped(rt, form, run.path, answered.ending.lines, fault)),
-            None => Ok(answered.exchanges),
-        },
+        Ok(answered) => all_answered(rt, form, run.path, answered),
         Err(fault) => Err(report_unbooted(rt, form, run.file.path, &fault)),
+    }
+}
+
+// Returns the answered calls of a run to its end. If the run stopped before, prints why and returns the exit status 1.
+fn all_answered(
+    rt: &HostRuntime,
+    form: DiagnosticForm,
+    path: &str,
+    answered: AnswerList,
+) -> Result<Vec<Exchange>, u8>
+    ensures ended { IfOk result (λ found.
+        (answered.ending.fault ≡ None) × (found.items ≡ answered.exchanges.items)) }
+    ensures failed { IfErr result (λ status. status ≡ 1) }
+{
+    match answered.ending.fault {
+        Some(fault) => Err(report_stopped(rt, form, path, answered.ending.lines, fault)),
+        None => Ok(answered.exchanges),
     }
 }
 

@@ -16,9 +16,3 @@ pub returns-in-Ok-clause-listed : goal.returns-in-Ok-clause-listed
 returns-in-Ok-clause-listed g c =
     on_ok_weaker c.add_reviewed.result
     (λ lists. inl (c.in-Ok.review, (c.in-Ok.ensures.list, c.in-Ok.ensures.boots, c.in-Ok.ensures.told), lists)) c.add_reviewed.ensures.listed
-
-pub returns-clause-status : goal.returns-clause-status
-returns-clause-status g c =
-    let check = c.args.check.now in
-    on_fault c.args.text.now (HasRefused check) (EndsKept (g.H.Host.text_at c.args.host.now) check) c.boot_status.result
-    (fault_ends c.args.text.now c.in-Err.placed.fault c.boot_status.result c.in-Err.ensures.fault c.boot_status.ensures)

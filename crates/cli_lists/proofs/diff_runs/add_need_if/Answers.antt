@@ -29,11 +29,6 @@ returns-then-is_session c =
     unadded (map need_at c.args.needs.now.items) (need_if c.args.account.now c.args.is_session (option_copied c.args.entry))
     (ap (λ (b : Bool). need_if c.args.account.now b (option_copied c.args.entry)) c.if-is_session.true)
 
-pub returns : goal.returns
-returns c =
-    need_added c.args.account.now c.in-Some.entry.now c.need_of.result c.args.is_session (option_copied c.args.entry) c.args.needs.now.items
-    c.push.new.self.items c.if-is_session.false (ap option_copied c.in-Some.is) c.need_of.ensures c.in_ok-push.ensures.items
-
 pub returns-in-None : goal.returns-in-None
 returns-in-None c =
     unadded (map need_at c.args.needs.now.items) (need_if c.args.account.now c.args.is_session (option_copied c.args.entry))
