@@ -16,4 +16,4 @@ returns-in-Ok-clause-needs c =
     (IfOk-weaker c.component_needs.result
     (λ (v : Vec ComponentNeed Global). map need_at v.items ≡ flat_map (needs_by list) (accounts_of c.in-Ok.report))
     (λ (v : Vec ComponentNeed Global). AreNeedsOn list v.items)
-    (λ value are. (c.in-Ok.report, c.in-Ok.report.choice, c.in-Ok.ensures, are)) c.component_needs.ensures)
+    (λ value are. (c.in-Ok.report, c.in-Ok.report.choice, c.in-Ok.ensures.needed, are)) c.component_needs.ensures)
