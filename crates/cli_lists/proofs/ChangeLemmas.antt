@@ -1,6 +1,7 @@
 -- What the exit status of `diff` states of the runs of scenarios, and of all that is compared.
-use Rattle.std.proofs.Common.{Global, ◌≡◌, ◌∙◌, ◌++◌, ℕ, Bool, List, [], append-nil, ap, inl, inr, map, refl, subst, sym}
-use Rattle.std.specs.Prelude.{◌⊎◌, IfErr, IfNone, IfOk, Option, Some, None, Result, Ok, Err, Vec}
+use Rattle.std.proofs.Common.{Global, ◌≡◌, ◌∙◌, ◌++◌, ℕ, Bool, List, append-nil, ap, inl, inr, map, subst, sym}
+use Rattle.std.proofs.lemmas.Result.{IfErr-weaker, IfOk-at_ok, IfOk-weaker}
+use Rattle.std.specs.Prelude.{◌⊎◌, IfErr, IfNone, IfOk, Option, Some, None, Result, Ok, Vec}
 use Rattle.std.specs.Borrow.{Bor}
 use Rattle.std.specs.Option.{option_copied}
 use Rattle.line_names.specs.RoundMarks.{RoundMark}
@@ -73,8 +74,7 @@ changed_as P Q more status (inr (changed, differ, is)) = inr (changed, more chan
 
 pub ok_as : (P Q : Bool → Type 0) → ((b : Bool) → P b → Q b) → (r : Result ℕ ℕ) → IfOk r (EndsAs ⊥ (EndsChanged P))
     → IfOk r (EndsAs ⊥ (EndsChanged Q))
-ok_as P Q more (Ok status) ends = changed_as P Q more status ends
-ok_as P Q more (Err status) ends = tt
+ok_as P Q more r = IfOk-weaker r (EndsAs ⊥ (EndsChanged P)) (EndsAs ⊥ (EndsChanged Q)) (changed_as P Q more)
 
 -- where nothing is refused
 pub ends_any : (R F : Type 0) (P : Bool → Type 0) (status : ℕ) → EndsAs ⊥ (EndsChanged P) status → EndsBy R F P status
@@ -99,8 +99,7 @@ stopped_as R S F G why how status (inl (inr (two, refused))) = inl (inr (two, wh
 stopped_as R S F G why how status (inr (three, fault)) = inr (three, how fault)
 
 pub err_as : (R S F G : Type 0) → (R → S) → (F → G) → (r : Result ℕ ℕ) → IfErr r (HasStopped R F) → IfErr r (HasStopped S G)
-err_as R S F G why how (Ok status) stopped = tt
-err_as R S F G why how (Err status) stopped = stopped_as R S F G why how status stopped
+err_as R S F G why how r = IfErr-weaker r (HasStopped R F) (HasStopped S G) (stopped_as R S F G why how)
 
 -- a refusal
 pub refusal_stops : (R S F : Type 0) (status : ℕ) → (R → S) → (status ≡ 1) ⊎ (status ≡ 2) × R → HasStopped S F status
@@ -113,8 +112,7 @@ fault_stops R F G status how (inl one) fault = inl (inl (inl one))
 fault_stops R F G status how (inr three) fault = inr (three, how (fault three))
 
 pub one_stops : (R F : Type 0) (r : Result ℕ ℕ) → IfErr r (λ status. status ≡ 1) → IfErr r (HasStopped R F)
-one_stops R F (Ok status) one = tt
-one_stops R F (Err status) one = inl (inl (inl one))
+one_stops R F r = IfErr-weaker r (λ status. status ≡ 1) (HasStopped R F) (λ status one. inl (inl (inl one)))
 
 -- ---- what the runs of scenarios differ in
 
@@ -160,7 +158,7 @@ pub with_replies : {E : Type 0} (before after : Listed) (olds news : List LineCa
     → replies ≡ value.items → IfOk r (EndsAs ⊥ (EndsChanged (NeedsDiffer before after breaches replies)))
     → IfOk r (EndsAs ⊥ (EndsChanged (ResultsDiffer before after olds news breaches)))
 with_replies before after olds news was now breaches made value replies r olds_are news_are are is replies_are ends =
-    let changes : AreChanges was now value.items = subst (λ m. IfOk m (λ found. AreChanges was now found.items)) is are in
+    let changes : AreChanges was now value.items = IfOk-at_ok (λ (found : Vec ReplyChange Global). AreChanges was now found.items) is are in
     ok_as (NeedsDiffer before after breaches replies) (ResultsDiffer before after olds news breaches)
     (λ b needs. (replies, (was, now, olds_are, news_are, subst (λ (rs : List ReplyChange). AreChanges was now rs) (sym replies_are) changes), needs))
     r ends
@@ -172,7 +170,7 @@ pub with_needs : {E : Type 0} (before after : Listed) (had has : List ComponentN
     → lacks ≡ value.items → EndsAs ⊥ (EndsChanged (Differ before after breaches lacks replies)) status
     → EndsAs ⊥ (EndsChanged (NeedsDiffer before after breaches replies)) status
 with_needs before after had has breaches replies made value lacks status had_are has_are are is lacks_are ends =
-    let found : value.items ≡ shortfalls had has = subst (λ m. IfOk m (λ found. found.items ≡ shortfalls had has)) is are in
+    let found : value.items ≡ shortfalls had has = IfOk-at_ok (λ (v : Vec NeedChange Global). v.items ≡ shortfalls had has) is are in
     changed_as (Differ before after breaches lacks replies) (NeedsDiffer before after breaches replies)
     (λ b differ. (lacks, (had, has, had_are, has_are, lacks_are ∙ found), differ)) status ends
 

@@ -1,15 +1,15 @@
 -- The comparison of two start lists, and its exit status.
 use Rattle.std.proofs.Common.{Global, ◌≡◌, ◌≢◌, ℕ, Bool, true, false, not, List, [], ◌∷◌, map, length, nat_eq, refl, sym, subst, ap, ◌∙◌, arith, inl, inr}
-use Rattle.std.specs.Prelude.{◌⊎◌, if◌then◌else◌, IfOk, IfErr, Option, Some, None, Result, Ok, Err, is_err, All, Vec}
+use Rattle.std.specs.Prelude.{◌⊎◌, if◌then◌else◌, IfOk, IfErr, Option, Some, Result, Ok, Err, All, Vec}
 use Rattle.std.specs.IoError.{error_kind}
-use Rattle.std.specs.Option.{option_copied}
 use Rattle.std.specs.declared.io.Error.{Error}
 use Rattle.std.specs.declared.io.ErrorKind.TheVariants.{BrokenPipe}
 use Rattle.std.proofs.lemmas.Bool.Decides.{nat_tests}
+use Rattle.std.proofs.lemmas.Result.{IfOk-at_ok, IfOk-weaker}
 use Rattle.cli_base.specs.Files.{IsTextAt}
 use Rattle.cli_base.specs.PolicyVerdict.{HasNoPolicy}
 use Rattle.cli_base.specs.Statuses.{EndsAs, HasFailed, HasWritten}
-use Rattle.cli_lists.specs.Comparison.{AreAll, AreBreachesBy, AreBreachesOf, AreNewBreaches, AreSoFar, Differ, EndsChanged, EndsWith, HasPolicyFault, IsSideOf, IsTextOf, RefusesPolicy}
+use Rattle.cli_lists.specs.Comparison.{AreAll, AreBreachesBy, AreBreachesOf, AreNewBreaches, AreSoFar, EndsChanged, EndsWith, HasPolicyFault, IsSideOf, IsTextOf, RefusesPolicy}
 use Rattle.cli_lists.specs.declared.diff_policy.PolicyBreaches.{PolicyBreaches}
 use Rattle.cli_lists.specs.declared.diff_text.DiffText.{DiffText}
 use Rattle.list_diff.specs.Breaches.{breach_changes, change_at}
@@ -58,30 +58,9 @@ pub ends_text : (P : Bool → Type 0) (changed : Bool) (status : ℕ) → P chan
 ends_text P changed status differ (inl none) = inl none
 ends_text P changed status differ (inr (said, same, is)) = inr (said, subst P (sym same) differ, is)
 
--- what holds of a value that was made
-pub of_made : {T E : Type 0} (P : T → Type 0) (made : Result T E) (value : T) → made ≡ Ok value → IfOk made P → P value
-of_made P made value is holds = subst (λ m. IfOk m P) is holds
-
 -- what holds of the value that was made holds of the one that is returned
 pub on_made : {T E F : Type 0} (P : T → Type 0) (returned : Result T F) (made : Result T E) → IfOk returned (λ value. made ≡ Ok value) → IfOk made P → IfOk returned P
-on_made P (Ok value) made is holds = subst (λ m. IfOk m P) is holds
-on_made P (Err status) made is holds = tt
-
--- what follows of a value
-pub ok_more : {T E : Type 0} (P Q : T → Type 0) (made : Result T E) → ((value : T) → P value → Q value) → IfOk made P → IfOk made Q
-ok_more P Q (Ok value) more holds = more value holds
-ok_more P Q (Err fault) more holds = tt
-
--- what a value has is something else too
-pub ok_same : {T E X : Type 0} (f : T → X) (made : Result T E) (x y : X) → IfOk made (λ value. f value ≡ x) → x ≡ y → IfOk made (λ value. f value ≡ y)
-ok_same f (Ok value) x y is same = is ∙ same
-ok_same f (Err fault) x y is same = tt
-
--- out of memory
-pub out_of_memory : {T E : Type 0} (R : Type 0) (r : Result T ℕ) (made : Result T E) → IfErr r (λ status. (status ≡ 1) × (is_err made ≡ true))
-    → IfErr r (λ status. (status ≡ 1) ⊎ (status ≡ 2) × R)
-out_of_memory R (Ok value) made is = tt
-out_of_memory R (Err status) made is = inl is.0
+on_made P returned made is holds = IfOk-weaker returned (λ value. made ≡ Ok value) P (λ value made_is. IfOk-at_ok P made_is holds) is
 
 -- ---- all differences
 
@@ -177,7 +156,7 @@ made_breaches texts policy before after olds news made value breaches by are is 
   news,
   by,
   ap (λ (bs : List BreachChange). map change_at bs) breaches_are
-      ∙ of_made (λ (found : Vec BreachChange Global). map change_at found.items ≡ breach_changes olds news) made value is are,
+      ∙ IfOk-at_ok (λ (found : Vec BreachChange Global). map change_at found.items ≡ breach_changes olds news) is are,
 )
 
 -- the breaches of the lines that were read

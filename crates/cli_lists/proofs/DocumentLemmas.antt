@@ -1,20 +1,16 @@
 -- The exit status of a check whose results are documents.
 use Rattle.std.proofs.Common.{◌≡◌, ℕ, List, inl, inr, subst, sym}
-use Rattle.std.specs.Prelude.{◌⊎◌, is_some, true, IfOk, OnErr, OnOk, Result, Ok, Err}
+use Rattle.std.proofs.lemmas.Result.{IfOk-weaker}
+use Rattle.std.specs.Prelude.{◌⊎◌, is_some, true, IfOk, OnErr, Result, Ok, Err}
 use Rattle.list_faults.specs.Places.{fault_of}
 use Rattle.list_review.specs.declared.review.Review.{Review}
 use Rattle.cli_base.specs.Statuses.{EndsAs}
 use Rattle.cli_lists.specs.ListStatus.{EndsOnText, IsReviewOf}
 
--- what follows of a success
-pub on_success : {T E P Q : Type 0} (r : Result T E) → (P → Q) → OnOk r P → OnOk r Q
-on_success (Ok x) f p = f p
-on_success (Err e) f p = tt
-
 -- a status that is printed, or why it isn't
 printed_as : (R : Type 0) (P : ℕ → Type 0) (ended status : ℕ) → EndsAs R P ended → EndsAs ⊥ (λ e. e ≡ ended) status → EndsAs R P status
 printed_as R P ended status ends (inl (inl failed)) = inl (inl failed)
-printed_as R P ended status ends (inl (inr (two, no))) = absurd no
+printed_as R P ended status ends (inl (inr (two, never))) = absurd never
 printed_as R P ended status ends (inr is) = subst (λ s. EndsAs R P s) (sym is) ends
 
 printed_ends : {E : Type 0} (R : Type 0) (P : ℕ → Type 0) (added : Result ℕ E) (status : ℕ) → IfOk added (EndsAs R P)
@@ -32,8 +28,8 @@ module _ (text : List ℕ) (Refuses : Review → Type 0) (Ends : Review → ℕ 
 
   pub on_reviewed : {E : Type 0} (review : Review) (added : Result ℕ E) → IsReviewOf text review
       → IfOk added (EndsAs (Refuses review) (Ends review)) → IfOk added (EndsOnText text Refuses Ends)
-  on_reviewed review (Ok status) read ends = reviewed_as review status read ends
-  on_reviewed review (Err e) read ends = tt
+  on_reviewed review added read =
+      IfOk-weaker added (EndsAs (Refuses review) (Ends review)) (EndsOnText text Refuses Ends) (λ status. reviewed_as review status read)
 
   -- by its fault
   pub on_fault : (status : ℕ) → (status ≡ 1) ⊎ (status ≡ 2) × (is_some (fault_of text) ≡ true) → EndsOnText text Refuses Ends status
@@ -48,9 +44,3 @@ printed_text text other Refuses Ends added status same ends shown none =
     subst (λ (t : List ℕ). EndsOnText t Refuses Ends status) same
     (printed_ends ((is_some (fault_of other) ≡ true) ⊎ ((review : Review) × IsReviewOf other review × Refuses review))
     (λ ended. (review : Review) × IsReviewOf other review × Ends review ended) added status ends shown none)
-
--- a status by a policy, on a list that isn't refused
-pub kept_ends : {E : Type 0} (R Kept : Type 0) (P Q : ℕ → Type 0) (added : Result ℕ E) → Kept → ((ended : ℕ) → P ended → Q ended) → IfOk added P
-    → IfOk added (EndsAs R (λ ended. Kept × Q ended))
-kept_ends R Kept P Q (Ok status) kept more ends = inr (kept, more status ends)
-kept_ends R Kept P Q (Err e) kept more ends = tt

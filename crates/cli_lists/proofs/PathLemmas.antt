@@ -1,5 +1,5 @@
 -- Why there are no paths: of a request, and of scripts and servers that are named.
-use Rattle.std.proofs.Common.{◌≡◌, ℕ, Bool, true, false, List, ap, inl, inr, refl, subst, sym}
+use Rattle.std.proofs.Common.{◌≡◌, ℕ, true, false, List, ap, inl, inr, refl, subst, sym}
 use Rattle.std.specs.Prelude.{◌⊎◌, is_err, is_some, if◌then◌else◌, IfSome, Option, Some, None, Result, Ok, Err}
 use Rattle.list_reach.specs.Paths.{GivesReason, PathFault, fault_of, joined}
 use Rattle.list_reach.specs.RouteQuery.{IsWhy}
@@ -31,5 +31,5 @@ none_named numbers fault status reason is = by (fault_of fault) reason is
   where
     by : (o : Option PathFault) → IfSome o (λ why. numbers ≡ Err why) → status ≡ (if is_some o then 2 else 1)
         → (status ≡ 1) ⊎ (status ≡ 2) × (is_err numbers ≡ true)
-    by None no one = inl one
+    by None _ one = inl one
     by (Some why) why_is two = inr (two, ap (λ (r : Result (List ℕ) PathFault). is_err r) why_is)

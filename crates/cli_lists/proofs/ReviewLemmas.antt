@@ -1,5 +1,6 @@
 -- The exit status of a command on the list at a path.
 use Rattle.std.proofs.Common.{◌≡◌, ◌≢◌, ◌∙◌, ℕ, Bool, true, false, List, ap, inl, inr, refl, subst, sym}
+use Rattle.std.proofs.lemmas.Result.{IfErr-weaker}
 use Rattle.std.specs.Prelude.{◌⊎◌, is_err, is_some, if◌then◌else◌, IfErr, IfOk, IfSome, Option, Some, None, Result, Ok, Err}
 use Rattle.line_names.specs.declared.list_filling.UnknownName.{UnknownName}
 use Rattle.list_faults.specs.Places.{fault_in, fault_of}
@@ -26,12 +27,6 @@ refused_or_one R P status (inr (two, refused)) = inl (inr (two, refused))
 pub refused_as : (R S : Type 0) (status : ℕ) → (R → S) → (status ≡ 1) ⊎ (status ≡ 2) × R → (status ≡ 1) ⊎ (status ≡ 2) × S
 refused_as R S status why (inl one) = inl one
 refused_as R S status why (inr (two, refused)) = inr (two, why refused)
-
--- a status that a value is returned with
-pub if_refused : {T : Type 0} (R S : Type 0) (r : Result T ℕ) → (R → S) → IfErr r (λ status. (status ≡ 1) ⊎ (status ≡ 2) × R)
-    → IfErr r (λ status. (status ≡ 1) ⊎ (status ≡ 2) × S)
-if_refused R S (Ok value) why failed = tt
-if_refused R S (Err status) why failed = refused_as R S status why failed
 
 -- ---- lists that don't boot
 
@@ -65,8 +60,8 @@ module _ (texts : List ℕ → Option (List ℕ)) (settings : Settings) (path : 
     where
       by : (o : Option (List ℕ)) → IfSome o (λ bytes. IsNoList (list_filled settings (front bytes)))
           → IfSome o (λ bytes. IsNoBoot (list_filled settings (front bytes)))
-      by None no = tt
-      by (Some bytes) no = no_boot (list_filled settings (front bytes)) no
+      by None lacks = tt
+      by (Some bytes) lacks = no_boot (list_filled settings (front bytes)) lacks
 
   -- a text with a fault is that of a file that is no list that boots
   pub text_boots_not : (text : List ℕ) → IsFilled texts settings path text → is_some (fault_of text) ≡ true
@@ -92,8 +87,11 @@ module _ (texts : List ℕ → Option (List ℕ)) (settings : Settings) (path : 
       → IfErr r (λ status. (status ≡ 1) ⊎ (status ≡ 2) × (is_some (fault_of other) ≡ true))
       → IfErr r (λ status. (status ≡ 1) ⊎ (status ≡ 2) × HasNoBoot texts settings path)
   no_review_at text other r filled is =
-      if_refused (is_some (fault_of other) ≡ true) (HasNoBoot texts settings path) r
-      (λ has_fault. text_boots_not text filled (subst (λ (t : List ℕ). is_some (fault_of t) ≡ true) is has_fault))
+      IfErr-weaker r (λ status. (status ≡ 1) ⊎ (status ≡ 2) × (is_some (fault_of other) ≡ true))
+      (λ status. (status ≡ 1) ⊎ (status ≡ 2) × HasNoBoot texts settings path)
+      (λ status.
+      refused_as (is_some (fault_of other) ≡ true) (HasNoBoot texts settings path) status
+      (λ has_fault. text_boots_not text filled (subst (λ (t : List ℕ). is_some (fault_of t) ≡ true) is has_fault)))
 
   -- ---- a command on the list
 

@@ -145,7 +145,7 @@ fn compare_scenario<'a, H: Host>(
         Some(other) => compare_other(host, was, pair, other, settings),
         None => {
             let now = RunInput::new(pair.lists.after, path, &lines);
-            compare_runs(rt, RunPair::new(was, now, pair.breaches), settings)
+            compare_runs(host, RunPair::new(was, now, pair.breaches), settings)
         }
     }
 }
@@ -169,13 +169,13 @@ fn compare_other<'a, H: Host>(
     let text = scenario_file(host, path, settings.form)?;
     let lines = unfolded(rt, path, text.as_slice(), settings)?;
     let now = RunInput::new(pair.lists.after, path, &lines);
-    compare_runs(rt, RunPair::new(was, now, pair.breaches), settings)
+    compare_runs(host, RunPair::new(was, now, pair.breaches), settings)
 }
 
 // Runs the scenarios of both sides, and prints all differences. Returns the exit status; the error is 1, if a scenario can't be run
 // to its end.
-fn compare_runs<'a>(
-    rt: &'a HostRuntime,
+fn compare_runs<'a, H: Host>(
+    host: &'a H,
     runs: RunPair<'a>,
     settings: Settings<'_>,
 ) -> Result<u8, u8>
@@ -184,9 +184,9 @@ fn compare_runs<'a>(
         runs.entry.now.file.list.now (whole_view runs.entry.now.lines.now) runs.entry.breaches.now))) }
     ensures failed { IfErr result (λ status. status ≡ 1) }
 {
-    let olds = answers_on(rt, runs.was, settings)?;
-    let news = answers_on(rt, runs.now, settings)?;
-    compare_answers(rt, runs, olds.as_slice(), news.as_slice(), settings)
+    let olds = answers_on(host, runs.was, settings)?;
+    let news = answers_on(host, runs.now, settings)?;
+    compare_answers(host.rt(), runs, olds.as_slice(), news.as_slice(), settings)
 }
 
 // Compares the answered calls of both runs line by line, and prints all differences. Returns the exit status; the error is 1.

@@ -1,18 +1,18 @@
 //! The runs of scenarios on two start lists: needs that aren't covered any more, and replies that differ.
-ghost use Rattle.std.specs.Prelude.{◌≡◌, ◌++◌, map, IfErr, IfOk, OnOk};
+ghost use Rattle.std.specs.Prelude.{◌≡◌, ◌++◌, map, None, IfErr, IfOk, OnOk};
 ghost use Rattle.std.specs.List.{flat_map};
-ghost use Rattle.std.specs.Option.{option_map};
+ghost use Rattle.std.specs.Option.{option_copied, option_map};
 ghost use Rattle.budget_least.specs.Report.{accounts_of};
 ghost use Rattle.budget_meter.specs.Needs.{amounts_of};
 ghost use Rattle.budget_search.specs.BudgetIntervals.{lowest_of};
 ghost use Rattle.line_rounds.specs.Views.{whole_view};
 ghost use Rattle.list_diff.specs.LineResults.{call_in};
-ghost use Rattle.cli_lists.specs.ComparedRuns.{AreNeedsOn, answers_on, need_at, need_of, needs_by, quota_of, results_by};
+ghost use Rattle.cli_lists.specs.ComparedRuns.{AreNeedsOn, answers_on, need_at, need_if, need_of, needs_by, quota_of, results_by};
 
 use crate::diff_files::ListFile;
 use budget_least::{AccountBudgets, Budget, BudgetChoice, BudgetQuery, BudgetReport};
 use cli_base::{
-    Origin, OutputStream, Printing, Settings, Spot, StopMessage, UNWRITTEN, made_or_status,
+    Host, Origin, OutputStream, Printing, Settings, Spot, StopMessage, UNWRITTEN, made_or_status,
     plain_writer, report_error, spot_of, watched_reader,
 };
 use init_core::{BootFault, ListEntry, StartList};
@@ -23,9 +23,8 @@ use run_exchanges::Exchange;
 use run_lines::LineRunFault;
 use run_scenario::ScenarioInput;
 use std::alloc::{AllocError, Global};
-use std::fs::File;
 use view_diagnostics::DiagnosticForm;
-use view_runs::answers;
+use view_runs::{AnswerList, answers};
 
 /// What is run on one side: a scenario, by its path and its unfolded text, on a start list.
 #[derive(Clone, Copy)]
@@ -82,8 +81,8 @@ impl<'a> RunPair<'a> {
 
 /// Returns the calls of a scenario with their replies on a list that boots. If the scenario can't be run to its end, prints why and
 /// returns the exit status 1. Expectations of the scenario are ignored.
-pub(crate) fn answers_on<'a>(
-    rt: &'a HostRuntime,
+pub(crate) fn answers_on<'a, H: Host>(
+    host: &'a H,
     run: RunInput<'a>,
     settings: Settings<'_>,
 ) -> Result<Vec<Exchange>, u8>
@@ -91,13 +90,14 @@ pub(crate) fn answers_on<'a>(
         answers_on settings.entry run.entry.file.list.now (whole_view run.entry.lines.now)) }
     ensures failed { IfErr result (λ status. status ≡ 1) }
 {
+    let rt = host.rt();
     let start = settings.start_or_status(rt, run.lines.marks())?;
     let input = ScenarioInput {
         list: run.file.list,
         scenario: settings.subject(run.path),
         start,
     };
-    let origin: Origin<'_, File> = Origin::Held(run.lines.bytes());
+    let origin: Origin<'_, H::File> = Origin::Held(run.lines.bytes());
     let mut reader = watched_reader(rt, origin, Printing::Afterwards);
     let mut nowhere = plain_writer(rt, OutputStream::Dropped);
     let mut complaints = plain_writer(rt, OutputStream::Dropped);
@@ -109,11 +109,25 @@ pub(crate) fn answers_on<'a>(
         &mut nowhere,
         &mut complaints,
     ) {
-        Ok(answered) => match answered.ending.fault {
-            Some(fault) => Err(report_stopped(rt, form, run.path, answered.ending.lines, fault)),
-            None => Ok(answered.exchanges),
-        },
+        Ok(answered) => all_answered(rt, form, run.path, answered),
         Err(fault) => Err(report_unbooted(rt, form, run.file.path, &fault)),
+    }
+}
+
+// Returns the answered calls of a run to its end. If the run stopped before, prints why and returns the exit status 1.
+fn all_answered(
+    rt: &HostRuntime,
+    form: DiagnosticForm,
+    path: &str,
+    answered: AnswerList,
+) -> Result<Vec<Exchange>, u8>
+    ensures ended { IfOk result (λ found.
+        (answered.ending.fault ≡ None) × (found.items ≡ answered.exchanges.items)) }
+    ensures failed { IfErr result (λ status. status ≡ 1) }
+{
+    match answered.ending.fault {
+        Some(fault) => Err(report_stopped(rt, form, path, answered.ending.lines, fault)),
+        None => Ok(answered.exchanges),
     }
 }
 
@@ -186,10 +200,30 @@ fn add_need<'a>(
     ensures { OnOk result
         (map need_at needs.new.items ≡ map need_at needs.old.items ++ needs_by list.now account.now) }
 {
-    if let (None, Some(entry)) = (account.session(), list.entries().get(account.component())) {
-        needs.push(need_of(account, entry))?;
+    let entry = list.entries().get(account.component());
+    add_need_if(needs, account, account.session().is_some(), entry)
+}
+
+// Adds the need of a component by an account, if the component is there. Adds nothing if the account is that of a session.
+fn add_need_if<'a>(
+    needs: &mut Vec<ComponentNeed<'a>>,
+    account: &AccountBudgets,
+    is_session: bool,
+    entry: Option<&'a ListEntry>,
+) -> Result<(), AllocError>
+    ensures { OnOk result (map need_at needs.new.items ≡ map need_at needs.old.items
+        ++ need_if account.now is_session (option_copied entry.entry)) }
+{
+    if is_session {
+        return Ok(());
     }
-    Ok(())
+    match entry {
+        Some(entry) => {
+            needs.push(need_of(account, entry))?;
+            Ok(())
+        }
+        None => Ok(()),
+    }
 }
 
 // Returns the budget and the need of a component's account.

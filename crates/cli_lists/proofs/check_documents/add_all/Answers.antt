@@ -1,7 +1,8 @@
 -- The review of the text, or its fault.
 use Rattle.std.proofs.Common.{inl}
+use Rattle.std.proofs.lemmas.Result.{on_ok_weaker}
 use Rattle.cli_lists.specs.ListStatus.{EndsKept, HasRefused}
-use Rattle.cli_lists.proofs.DocumentLemmas.{on_fault, on_reviewed, on_success}
+use Rattle.cli_lists.proofs.DocumentLemmas.{on_fault, on_reviewed}
 use Rattle.cli_lists.proofs.ReviewLemmas.{fault_ends}
 use Rattle.cli_lists.proofs.check_documents.add_all.Goals as goal
 
@@ -13,11 +14,5 @@ returns-in-Ok-clause-status g c =
 
 pub returns-in-Ok-clause-listed : goal.returns-in-Ok-clause-listed
 returns-in-Ok-clause-listed g c =
-    on_success c.add_reviewed.result
+    on_ok_weaker c.add_reviewed.result
     (λ lists. inl (c.in-Ok.review, (c.in-Ok.ensures.list, c.in-Ok.ensures.boots, c.in-Ok.ensures.told), lists)) c.add_reviewed.ensures.listed
-
-pub returns-in-Err-clause-status : goal.returns-in-Err-clause-status
-returns-in-Err-clause-status g c =
-    let check = c.args.check.now in
-    on_fault c.args.text.now (HasRefused check) (EndsKept (g.H.Host.text_at c.args.host.now) check) c.boot_status.result
-    (fault_ends c.args.text.now c.in-Err.placed.fault c.boot_status.result c.in-Err.ensures.fault c.boot_status.ensures)

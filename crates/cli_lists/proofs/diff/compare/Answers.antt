@@ -1,6 +1,7 @@
 -- The policy is refused, or two lists are compared with the breaches that one of them alone has.
 use Rattle.std.proofs.Common.{inl, inr}
 use Rattle.std.specs.Option.{option_copied}
+use Rattle.std.proofs.lemmas.Result.{err_from_is_err_and}
 use Rattle.cli_lists.specs.ComparedRuns.{HasFaultIn, LacksScenario}
 use Rattle.cli_lists.specs.Comparison.{OfScenarios, PairRefused, RefusesPolicy}
 use Rattle.cli_lists.proofs.ChangeLemmas.{err_as, refusal_stops, with_breaches}
@@ -11,7 +12,8 @@ pub returns-in_err-breaches-clause-stopped : goal.returns-in_err-breaches-clause
 returns-in_err-breaches-clause-stopped g c =
     let texts = g.H.Host.text_at c.args.host.now in
     let asked = c.args.asked.now in
-    rw c.from_residual.ensures
+    let p = err_from_is_err_and c.from_residual.result c.from_residual.ensures.1 in
+    rw (p.1, p.2)
     (refusal_stops (RefusesPolicy texts (option_copied asked.policy) c.args.after.now) (PairRefused texts asked c.args.after.now)
     (OfScenarios (HasFaultIn texts c.args.settings) asked) _ (λ refused. inl refused) c.in_err-breaches.ensures.stopped)
 

@@ -2,6 +2,7 @@
 use Rattle.std.proofs.Common.{◌∙◌, Bool, ap}
 use Rattle.line_rounds.specs.Unfolding.{UnfoldedText}
 use Rattle.line_rounds.specs.Views.{whole_view}
+use Rattle.std.proofs.lemmas.Result.{err_from_is_err_and}
 use Rattle.cli_base.specs.Files.{IsUnknown}
 use Rattle.cli_base.specs.Unfolding.{HasRoundsFault}
 use Rattle.cli_lists.specs.ComparedRuns.{AreLinesAt, HasFaultAt}
@@ -13,7 +14,8 @@ pub returns-in_err-text-clause-stopped : goal.returns-in_err-text-clause-stopped
 returns-in_err-text-clause-stopped g c =
     let texts = g.H.Host.text_at c.args.host.now in
     let path = c.args.path.now in
-    rw c.from_residual.ensures
+    let p = err_from_is_err_and c.from_residual.result c.from_residual.ensures.1 in
+    rw (p.1, p.2)
     (refusal_stops (IsUnknown texts path) (IsUnknown texts path) (HasFaultAt texts c.args.settings path) _
     (λ unknown. unknown) c.in_err-text.ensures.failed)
 
@@ -21,7 +23,8 @@ pub returns-in_err-lines-clause-stopped : goal.returns-in_err-lines-clause-stopp
 returns-in_err-lines-clause-stopped g c =
     let texts = g.H.Host.text_at c.args.host.now in
     let path = c.args.path.now in
-    rw c.from_residual-in_err-lines.ensures
+    let p = err_from_is_err_and c.from_residual-in_err-lines.result c.from_residual-in_err-lines.ensures.1 in
+    rw (p.1, p.2)
     (fault_stops (IsUnknown texts path) (HasRoundsFault c.args.settings c.as_slice.result.now) (HasFaultAt texts c.args.settings path)
     _
     (fault_at_path texts c.args.settings path c.in_ok-text.text.items c.as_slice.result.now c.in_ok-text.ensures.text c.as_slice.ensures.value)

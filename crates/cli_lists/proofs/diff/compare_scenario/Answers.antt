@@ -3,6 +3,7 @@ use Rattle.std.proofs.Common.{◌≡◌, ◌∙◌, ap, inl, inr, subst, sym}
 use Rattle.std.specs.Prelude.{List, ℕ}
 use Rattle.std.specs.Option.{option_copied, unwrap_or}
 use Rattle.line_rounds.specs.Views.{whole_view}
+use Rattle.std.proofs.lemmas.Result.{err_from_is_err_and}
 use Rattle.cli_base.specs.Files.{IsUnknown}
 use Rattle.cli_base.specs.Unfolding.{HasRoundsFault}
 use Rattle.cli_lists.specs.ComparedRuns.{HasFaultAt, HasFaultIn, LacksScenario, path_after}
@@ -14,7 +15,8 @@ returns-in_err-text-clause-stopped g c =
     let texts = g.H.Host.text_at c.args.host.now in
     let path = c.args.path.now in
     let next = path_after c.args.other path in
-    rw c.from_residual.ensures
+    let p = err_from_is_err_and c.from_residual.result c.from_residual.ensures.1 in
+    rw (p.1, p.2)
     (refusal_stops (IsUnknown texts path) (LacksScenario texts path next) (HasFaultIn texts c.args.settings path next) _
     (λ unknown. inl unknown) c.in_err-text.ensures.failed)
 
@@ -23,7 +25,8 @@ returns-in_err-lines-clause-stopped g c =
     let texts = g.H.Host.text_at c.args.host.now in
     let path = c.args.path.now in
     let next = path_after c.args.other path in
-    rw c.from_residual-in_err-lines.ensures
+    let p = err_from_is_err_and c.from_residual-in_err-lines.result c.from_residual-in_err-lines.ensures.1 in
+    rw (p.1, p.2)
     (fault_stops (LacksScenario texts path next) (HasRoundsFault c.args.settings c.as_slice.result.now) (HasFaultIn texts c.args.settings path next)
     _
     (λ fault. inl (fault_at_path texts c.args.settings path c.in_ok-text.text.items c.as_slice.result.now c.in_ok-text.ensures.text c.as_slice.ensures.value fault))
@@ -53,8 +56,8 @@ returns-in-Some-clause-stopped g c =
     (λ fault. inr (subst (λ (p : List ℕ). HasFaultAt texts c.args.settings p) (sym after) fault))
     c.compare_other.result c.compare_other.ensures.stopped
 
-pub returns-in-None-clause-ended : goal.returns-in-None-clause-ended
-returns-in-None-clause-ended g c =
+pub returns-clause-ended : goal.returns-clause-ended
+returns-clause-ended g c =
     let texts = g.H.Host.text_at c.args.host.now in
     let path = c.args.path.now in
     let lines = whole_view c.in_ok-lines.lines in
@@ -68,8 +71,8 @@ returns-in-None-clause-ended g c =
     (ap whole_view (c.new.ensures.was ∙ c.new-was.ensures.lines)) (c.new.ensures.after ∙ c.new-now.ensures.list)
     (ap whole_view (c.new.ensures.now ∙ c.new-now.ensures.lines)) c.new.ensures.breaches c.compare_runs.ensures.ended)
 
-pub returns-in-None-clause-stopped : goal.returns-in-None-clause-stopped
-returns-in-None-clause-stopped g c =
+pub returns-clause-stopped : goal.returns-clause-stopped
+returns-clause-stopped g c =
     let texts = g.H.Host.text_at c.args.host.now in
     let path = c.args.path.now in
     let next = path_after c.args.other path in
