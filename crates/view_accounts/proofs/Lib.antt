@@ -1,6 +1,7 @@
 pub mod AccountViewLemmas
 pub mod AccountingLemmas
 pub mod ClosedLemmas
+pub mod ClosingLemmas
 pub mod HearLemmas
 pub mod KeptLemmas
 pub mod ListLemmas

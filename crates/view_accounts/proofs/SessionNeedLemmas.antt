@@ -16,16 +16,7 @@ use Rattle.budget_meter.specs.Sessions.{HasReached, IsServedBy}
 use Rattle.view_accounts.specs.SessionNeeds.{Asks, Begins, Change, ChangesAt, IsMeasured, Raises}
 use Rattle.view_accounts.specs.declared.session_needs.MeteredSession.{MeteredSession}
 
--- what is so of a success is so of it in other words
-pub on_success : {T E A B : Type 0} (r : Result T E) → (A → B) → OnOk r A → OnOk r B
-on_success (Ok x) f a = f a
-on_success (Err e) f a = tt
-
--- nothing is the image of nothing alone
-pub no_image : {X Y : Type 0} (f : X → Y) (o : Option X) → None ≡ option_map f o → o ≡ None
-no_image f None is = refl
-no_image f (Some x) is = absurd (none-some (f x) is)
-
+-- what an image is of
 pub some_image : {X Y : Type 0} (f : X → Y) (o : Option X) (y : Y) → Some y ≡ option_map f o → (x : X) × ((o ≡ Some x) × (y ≡ f x))
 some_image f None y is = absurd (none-some y (sym is))
 some_image f (Some x) y is = (x, (refl, same_Some y (f x) is))

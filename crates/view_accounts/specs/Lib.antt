@@ -1,6 +1,7 @@
 pub mod AccountDocuments
 pub mod AccountTable
 pub mod Accounting
+pub mod ClosedSessions
 pub mod Kept
 pub mod Meters
 pub mod Needs

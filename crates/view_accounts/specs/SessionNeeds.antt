@@ -7,8 +7,6 @@ use Rattle.own_model.specs.Call.Call.{Open, Upgrade, CallSession, Close, Exit}
 use Rattle.own_model.specs.OwnState.{NamedBuffer, bytes_of_buffer}
 use Rattle.own_model.specs.Session.{Session, Wish, new_session, served, too_small, upgraded}
 use Rattle.own_model.specs.World.{World}
-use Rattle.core_calls.specs.declared.outcome.Outcome.{Outcome}
-use Rattle.core_calls.specs.declared.outcome.Outcome.TheVariants.{Selected, Done}
 use Rattle.core_calls.specs.declared.quotas.Quotas.{Quotas}
 use Rattle.pd_core.specs.Answer.{quotas_account}
 use Rattle.budget_theorems.specs.Request.{donating}
@@ -18,6 +16,7 @@ use Rattle.budget_meter.specs.Sessions.{HasReached, IsServedBy}
 use Rattle.budget_meter.specs.declared.session.SessionMeter.{SessionMeter}
 use Rattle.view_accounts.specs.Peaks.{session_at}
 use Rattle.view_accounts.specs.declared.session_needs.MeteredSession.{MeteredSession}
+use Rattle.view_accounts.specs.declared.session_outcome.SessionOutcome.{SessionOutcome}
 
 -- what is kept under a selector of a component before a call and after it
 abbrev pub Change : Type 1
@@ -79,15 +78,7 @@ abbrev pub ChangesAt : ℕ → ℕ → Change → ℕ → ℕ → Change
 ChangesAt component selector change c q was is =
     ((c == component && q == selector) ≡ true → change was is) × ((c == component && q == selector) ≡ false → is ≡ was)
 
--- the selector of an outcome, and whether the call is done
-abbrev pub opened_in : Outcome → Option ℕ
-opened_in (Selected selector) = Some selector.0
-opened_in outcome = None
-
-abbrev pub is_done : Outcome → Bool
-is_done Done = true
-is_done outcome = false
-
+-- the session that a component opened, if it opened one
 abbrev pub Opens : World → ℕ → Option ℕ → ℕ → ℕ → Change
 Opens world component None c q was is = is ≡ was
 Opens world component (Some selector) c q was is =
@@ -98,12 +89,12 @@ abbrev pub EndsAll : ℕ → Bool → ℕ → Change
 EndsAll component done c was is = ((c == component) ≡ true → Ends done was is) × ((c == component) ≡ false → is ≡ was)
 
 -- what is kept under a selector changes so by a call of a component, with its outcome, its reply and the world after it
-abbrev pub HearsCall : World → ℕ → Call → Outcome → List ℕ → ℕ → ℕ → Change
-HearsCall world component (Open service text) outcome reply c q was is = Opens world component (opened_in outcome) c q was is
+abbrev pub HearsCall : World → ℕ → Call → SessionOutcome → List ℕ → ℕ → ℕ → Change
+HearsCall world component (Open service text) outcome reply c q was is = Opens world component outcome.opened c q was is
 HearsCall world component (Upgrade selector text) outcome reply c q was is =
     ChangesAt component selector (Raises (session_at component selector world)) c q was is
 HearsCall world component (CallSession selector request) outcome reply c q was is =
     ChangesAt component selector (Asks request reply (session_at component selector world)) c q was is
-HearsCall world component (Close selector) outcome reply c q was is = ChangesAt component selector (Ends (is_done outcome)) c q was is
-HearsCall world component Exit outcome reply c q was is = EndsAll component (is_done outcome) c was is
+HearsCall world component (Close selector) outcome reply c q was is = ChangesAt component selector (Ends outcome.is_done) c q was is
+HearsCall world component Exit outcome reply c q was is = EndsAll component outcome.is_done c was is
 HearsCall world component call outcome reply c q was is = is ≡ was

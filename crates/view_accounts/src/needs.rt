@@ -23,6 +23,7 @@ ghost use Rattle.run_scenario.specs.Observation.{IsAnsweredAfter};
 
 use crate::peaks::Peaks;
 use crate::session_needs::SessionNeeds;
+use crate::session_outcome::SessionOutcome;
 use budget_meter::{AccountMeter, Budget};
 use core_calls::{Answer, Call, Quotas};
 use list_parser::{Binary, ListEntry, StartList};
@@ -162,7 +163,9 @@ impl Needs {
             text: heard.answer.reply,
         };
         self.observe_own(component, call, reply, core.account(component));
-        self.sessions.hear(core, component, call, reply, peaks)
+        let outcome = SessionOutcome::of(core, component, heard.answer.outcome);
+        self.sessions
+            .hear(core, component, call, reply, outcome, peaks)
     }
 
     // Observes a call of a component, with its reply and the account after it.

@@ -1,15 +1,20 @@
 //! The needs of sessions, of open ones and of closed ones.
-ghost use Rattle.std.specs.Prelude.{◌≡◌, ◌<◌, ◌==◌, ℕ, length, true, false, None, OnOk};
+ghost use Rattle.std.specs.Prelude.{◌≡◌, ◌++◌, ◌<◌, ◌==◌, ℕ, List, Option, length, true, false, None, IfOk, OnOk};
+ghost use Rattle.std.specs.Option.{option_map};
 ghost use Rattle.core_calls.specs.Call.{model_call};
+ghost use Rattle.own_model.specs.Call.Call.{Close, Exit};
+ghost use Rattle.view_accounts.specs.ClosedSessions.{Closes, ClosesAll, closed_of, closing_of, closings, ended_at, ended_from};
+ghost use Rattle.view_accounts.specs.Kept.{found, noted_in};
 ghost use Rattle.view_accounts.specs.Meters.{needed_of_session};
 ghost use Rattle.view_accounts.specs.Peaks.{session_at};
-ghost use Rattle.view_accounts.specs.SessionNeeds.{Asks, Begins, ChangesAt, Ends, EndsAll, HearsCall, Opens, Raises, is_done, opened_in};
+ghost use Rattle.view_accounts.specs.SessionNeeds.{Asks, Begins, ChangesAt, Ends, EndsAll, HearsCall, Opens, Raises};
 ghost use Rattle.view_accounts.specs.SessionTable.{value_at};
 
 use crate::peaks::{Peaks, SessionPeak};
+use crate::session_outcome::SessionOutcome;
 use crate::session_table::SessionTable;
 use budget_meter::{Budget, SessionMeter};
-use core_calls::{Answer, Call, Outcome};
+use core_calls::{Answer, Call};
 use pd_core::{Core, Router};
 use std::alloc::{AllocError, Global};
 
@@ -72,29 +77,34 @@ impl SessionNeeds {
         }
     }
 
-    /// Observes a component's call that opens, calls, upgrades or ends a session, with its reply, the core after it, and the
-    /// peaks before it. The error is that the host is out of memory.
+    /// Observes a component's call that opens, calls, upgrades or ends a session, with its reply and its outcome, the core after
+    /// it, and the peaks before it. The error is that the host is out of memory.
+    #[tactic(auto, using(crate::proofs::ClosingLemmas::closed_still))]
     pub(crate) fn hear<R: Router + Drop>(
         &mut self,
         core: &Core<R>,
         component: usize,
         call: Call<'_>,
         reply: Answer<'_>,
+        outcome: SessionOutcome,
         peaks: &Peaks,
     ) -> Result<(), AllocError>
         requires { component < length core.now.entries }
-        ensures { OnOk result ((c q : ℕ) → HearsCall core.now component (model_call call.entry)
-            reply.entry.outcome reply.entry.text.now c q
+        ensures opened { OnOk result ((c q : ℕ) → HearsCall core.now component (model_call call.entry)
+            outcome reply.entry.text.now c q
             (value_at self.old.opened c q) (value_at self.new.opened c q)) }
+        ensures closed { OnOk result (Closes (found peaks.now.sessions component) self.old.opened component
+            (model_call call.entry) outcome.is_done
+            (closed_of self.old.closed.items) (closed_of self.new.closed.items)) }
     {
         match call {
-            Call::Open { .. } => self.begin(core, component, reply.outcome),
+            Call::Open { .. } => self.begin(core, component, outcome),
             Call::CallSession { selector, request } => {
                 self.ask(core, component, selector, request, reply)
             }
             Call::Upgrade { selector, .. } => self.raise(core, component, selector),
-            Call::Close(selector) => self.end(component, selector, reply.outcome, peaks),
-            Call::Exit => self.end_all(component, reply.outcome, peaks),
+            Call::Close(selector) => self.end(component, selector, outcome, peaks),
+            Call::Exit => self.end_all(component, outcome, peaks),
             _ => Ok(()),
         }
     }
@@ -104,17 +114,16 @@ impl SessionNeeds {
         &mut self,
         core: &Core<R>,
         component: usize,
-        outcome: Outcome,
+        outcome: SessionOutcome,
     ) -> Result<(), AllocError>
         requires { component < length core.now.entries }
-        ensures { OnOk result ((c q : ℕ) → Opens core.now component (opened_in outcome) c q
+        ensures opened { OnOk result ((c q : ℕ) → Opens core.now component outcome.opened c q
             (value_at self.old.opened c q) (value_at self.new.opened c q)) }
+        ensures closed { self.new.closed ≡ self.old.closed }
     {
-        match outcome {
-            Outcome::Selected(selector) => {
-                self.begin_under(core, component, u64::from(selector.0))
-            }
-            _ => Ok(()),
+        match outcome.opened {
+            Some(selector) => self.begin_under(core, component, selector),
+            None => Ok(()),
         }
     }
 
@@ -126,9 +135,10 @@ impl SessionNeeds {
         selector: u64,
     ) -> Result<(), AllocError>
         requires { component < length core.now.entries }
-        ensures { OnOk result ((c q : ℕ) → ChangesAt component selector
+        ensures opened { OnOk result ((c q : ℕ) → ChangesAt component selector
             (Begins (session_at component selector core.now)) c q
             (value_at self.old.opened c q) (value_at self.new.opened c q)) }
+        ensures closed { self.new.closed ≡ self.old.closed }
     {
         let Some(account) = core.session_account(component, selector) else {
             return Ok(());
@@ -154,9 +164,10 @@ impl SessionNeeds {
         reply: Answer<'_>,
     ) -> Result<(), AllocError>
         requires { component < length core.now.entries }
-        ensures { OnOk result ((c q : ℕ) → ChangesAt component selector
+        ensures opened { OnOk result ((c q : ℕ) → ChangesAt component selector
             (Asks request.now reply.entry.text.now (session_at component selector core.now)) c q
             (value_at self.old.opened c q) (value_at self.new.opened c q)) }
+        ensures closed { self.new.closed ≡ self.old.closed }
     {
         let Some(account) = core.session_account(component, selector) else {
             return Ok(());
@@ -177,9 +188,10 @@ impl SessionNeeds {
         selector: u64,
     ) -> Result<(), AllocError>
         requires { component < length core.now.entries }
-        ensures { OnOk result ((c q : ℕ) → ChangesAt component selector
+        ensures opened { OnOk result ((c q : ℕ) → ChangesAt component selector
             (Raises (session_at component selector core.now)) c q
             (value_at self.old.opened c q) (value_at self.new.opened c q)) }
+        ensures closed { self.new.closed ≡ self.old.closed }
     {
         let Some(account) = core.session_account(component, selector) else {
             return Ok(());
@@ -193,21 +205,32 @@ impl SessionNeeds {
     }
 
     // Keeps the session under a selector of a component as closed, if its call closed it.
+    #[tactic(auto, using(crate::proofs::ClosingLemmas::closes_one, crate::proofs::ClosingLemmas::closes_none))]
     fn end(
         &mut self,
         component: usize,
         selector: u64,
-        outcome: Outcome,
+        outcome: SessionOutcome,
         peaks: &Peaks,
     ) -> Result<(), AllocError>
-        ensures { OnOk result ((c q : ℕ) → ChangesAt component selector (Ends (is_done outcome)) c q
+        ensures opened { OnOk result ((c q : ℕ) → ChangesAt component selector (Ends outcome.is_done) c q
             (value_at self.old.opened c q) (value_at self.new.opened c q)) }
+        ensures closed { OnOk result (Closes (found peaks.now.sessions component) self.old.opened component
+            (Close selector) outcome.is_done
+            (closed_of self.old.closed.items) (closed_of self.new.closed.items)) }
     {
-        let Outcome::Done = outcome else {
+        if !outcome.is_done {
             return Ok(());
-        };
+        }
         match self.opened.take(component, selector) {
-            Some(session) => self.keep_closed(peaks.session(component, selector), session.need),
+            Some(session) => {
+                let ended = Ended {
+                    earlier: session.earlier,
+                    selector,
+                    need: session.need,
+                };
+                self.keep_closed(component, ended, peaks)
+            }
             None => Ok(()),
         }
     }
@@ -216,15 +239,18 @@ impl SessionNeeds {
     fn end_all(
         &mut self,
         component: usize,
-        outcome: Outcome,
+        outcome: SessionOutcome,
         peaks: &Peaks,
     ) -> Result<(), AllocError>
-        ensures { OnOk result ((c q : ℕ) → EndsAll component (is_done outcome) c
+        ensures opened { OnOk result ((c q : ℕ) → EndsAll component outcome.is_done c
             (value_at self.old.opened c q) (value_at self.new.opened c q)) }
+        ensures closed { OnOk result (Closes (found peaks.now.sessions component) self.old.opened component
+            Exit outcome.is_done
+            (closed_of self.old.closed.items) (closed_of self.new.closed.items)) }
     {
-        let Outcome::Done = outcome else {
+        if !outcome.is_done {
             return Ok(());
-        };
+        }
         let ended = ended_of(self.alloc, self.opened.take_all(component))?;
         self.keep_all_closed(component, ended, peaks)
     }
@@ -237,53 +263,103 @@ impl SessionNeeds {
         peaks: &Peaks,
     ) -> Result<(), AllocError>
         ensures same { self.new.opened ≡ self.old.opened }
+        ensures closed { OnOk result ((row : List (Option MeteredSession)) → ended.items ≡ ended_from 0 row →
+            ClosesAll (found peaks.now.sessions component) component row
+            (closed_of self.old.closed.items) (closed_of self.new.closed.items)) }
     {
         ended.sort_unstable_by_key(|session| session.earlier);
+        self.keep_each_closed(component, ended.as_slice(), peaks)
+    }
+
+    // Keeps sessions of a component as closed, in this order.
+    #[tactic(auto, using(crate::proofs::ClosingLemmas::closing_next))]
+    fn keep_each_closed(
+        &mut self,
+        component: usize,
+        ended: &[Ended],
+        peaks: &Peaks,
+    ) -> Result<(), AllocError>
+        ensures same { self.new.opened ≡ self.old.opened }
+        ensures closed { OnOk result (closed_of self.new.closed.items ≡ closed_of self.old.closed.items
+            ++ closings (found peaks.now.sessions component) component ended.now) }
+    {
         for session in ended {
-            self.keep_closed(peaks.session(component, session.selector), session.need)?;
+            self.keep_closed(component, *session, peaks)?;
         }
         Ok(())
     }
 
-    // Keeps a session as closed, as it was until then.
-    fn keep_closed(&mut self, session: Option<&SessionPeak>, need: Budget) -> Result<(), AllocError>
+    // Keeps a session of a component as closed, as it was until then.
+    #[tactic(auto, using(crate::proofs::ClosingLemmas::closed_more))]
+    fn keep_closed(
+        &mut self,
+        component: usize,
+        ended: Ended,
+        peaks: &Peaks,
+    ) -> Result<(), AllocError>
         ensures same { self.new.opened ≡ self.old.opened }
+        ensures closed { OnOk result (closed_of self.new.closed.items ≡ closed_of self.old.closed.items
+            ++ closing_of (found peaks.now.sessions component) component ended) }
     {
-        if let Some(session) = session {
-            self.closed.push(ClosedSession {
-                session: copied(self.alloc, session)?,
-                need,
-            })?;
-        }
+        let Some(session) = peaks.session(component, ended.selector) else {
+            return Ok(());
+        };
+        let session = copied(self.alloc, component, ended.selector, session)?;
+        self.closed.push(ClosedSession {
+            session,
+            need: ended.need,
+        })?;
         Ok(())
     }
 }
 
 // The sessions of a component that end, by what it has under its selectors.
-fn ended_of(
-    alloc: Global,
-    sessions: Vec<Option<MeteredSession>>,
-) -> Result<Vec<Ended>, AllocError> {
+#[tactic(auto, using(crate::proofs::ClosingLemmas::ended_next))]
+fn ended_of(alloc: Global, sessions: Vec<Option<MeteredSession>>) -> Result<Vec<Ended>, AllocError>
+    ensures { IfOk result (λ ended. ended.items ≡ ended_from 0 sessions.items) }
+{
     let mut ended = Vec::new(alloc);
     for (selector, session) in sessions.iter().enumerate() {
-        if let Some(session) = session {
-            ended.push(Ended {
-                earlier: session.earlier,
-                selector: selector as u64,
-                need: session.need,
-            })?;
-        }
+        add_ended(&mut ended, selector as u64, session.as_ref())?;
     }
     Ok(ended)
 }
 
-// A session once more, as a value of its own.
-fn copied(alloc: Global, session: &SessionPeak) -> Result<SessionPeak, AllocError> {
+// Adds the session that ends under a selector, if there is one.
+fn add_ended(
+    ended: &mut Vec<Ended>,
+    selector: u64,
+    session: Option<&MeteredSession>,
+) -> Result<(), AllocError>
+    ensures { OnOk result (ended.new.items
+        ≡ ended.old.items ++ ended_at selector (option_map (λ session. session.now) session.entry)) }
+{
+    if let Some(session) = session {
+        ended.push(Ended {
+            earlier: session.earlier,
+            selector,
+            need: session.need,
+        })?;
+    }
+    Ok(())
+}
+
+// The values of a session once more, under a selector of a component.
+fn copied(
+    alloc: Global,
+    component: usize,
+    selector: u64,
+    session: &SessionPeak,
+) -> Result<SessionPeak, AllocError>
+    ensures component { IfOk result (λ copy. copy.component ≡ component) }
+    ensures selector { IfOk result (λ copy. copy.selector ≡ selector) }
+    ensures noted { IfOk result (λ copy. noted_in copy ≡ noted_in session.now) }
+{
     let mut label = Vec::new(alloc);
     label.extend_from_slice(session.label.as_slice())?;
     Ok(SessionPeak {
-        component: session.component,
-        selector: session.selector,
+        component,
+        selector,
         server: session.server,
         label,
         peak: session.peak,

@@ -64,6 +64,7 @@ impl<T: Drop> SessionTable<T> {
 
     /// Takes all values of a component out, and returns them by their selectors.
     pub(crate) fn take_all(&mut self, component: usize) -> Vec<Option<T>>
+        ensures taken { result.items ≡ row_of self.old.rows.items component }
         ensures left { (c q : ℕ) → value_at self.new c q
             ≡ (if c == component then None else value_at self.old c q) }
     {

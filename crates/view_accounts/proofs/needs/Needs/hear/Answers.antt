@@ -9,6 +9,9 @@ use Rattle.view_accounts.proofs.needs.Needs.hear.Goals as goal
 pub account-requires : goal.account-requires
 account-requires g c = omega (arith, c.in-Some.ensures.inside, entries_listed c.args.list.now c.args.core.now c.requires.listed)
 
+pub of-outcome-requires : goal.of-outcome-requires
+of-outcome-requires g c = omega (arith, c.in-Some.ensures.inside, entries_listed c.args.list.now c.args.core.now c.requires.listed)
+
 pub hear-requires : goal.hear-requires
 hear-requires g c = omega (arith, c.in-Some.ensures.inside, entries_listed c.args.list.now c.args.core.now c.requires.listed)
 
