@@ -1,5 +1,5 @@
 -- The exit status of each command, and of a command line.
-use Rattle.std.specs.Prelude.{◌≡◌, ◌≢◌, ℕ, ◌||◌, ◌&&◌, Bool, false, List, [], ◌∷◌, codes, is_none, is_some, MatchBool, Option, Some, None, Result, Ok, Err}
+use Rattle.std.specs.Prelude.{◌≡◌, ◌≢◌, ℕ, ◌||◌, ◌&&◌, Bool, false, true, List, [], ◌∷◌, codes, is_none, is_some, MatchBool, Option, Some, None, Result, Ok, Err}
 use Rattle.std.specs.Borrow.{Bor}
 use Rattle.std.specs.Option.{option_map_or}
 use Rattle.std.specs.Str.{bytes_eq}
@@ -12,7 +12,11 @@ use Rattle.cli_options.specs.declared.command.Command.{Command}
 use Rattle.cli_options.specs.declared.command.Command.TheVariants as command
 use Rattle.cli_options.specs.declared.command.CommandLine.{CommandLine}
 use Rattle.cli_options.specs.declared.command_options.AloneOptions.{AloneOptions}
+use Rattle.cli_options.specs.declared.command_options.Color.{Color}
+use Rattle.cli_options.specs.declared.command_options.Color.TheVariants.{Unknown}
 use Rattle.cli_options.specs.declared.command_options.DiffOptions.{DiffOptions}
+use Rattle.cli_options.specs.declared.command_options.RunOptions.{RunOptions}
+use Rattle.cli_options.specs.declared.command_options.TestOptions.{TestOptions}
 use Rattle.line_names.specs.NameTable.{nothing}
 use Rattle.cli_base.specs.Statuses.{EndsAs, IsZero}
 use Rattle.cli_base.specs.Given.{given_by_all, names_of, HasNoSetting}
@@ -52,6 +56,18 @@ HelpEnds topic status =
 
 -- ---- commands
 
+-- a `--color` isn't auto, always or never
+abbrev pub is_unknown : Color → Bool
+is_unknown Unknown = true
+is_unknown color = false
+
+-- `run` and `test` refuse such a colour
+abbrev pub RunAnswers : (List ℕ → Option (List ℕ)) → RunOptions → Settings → ℕ → Type 0
+RunAnswers texts asked settings status = MatchBool (is_unknown asked.color) (status ≡ 2) (RunEnds texts asked settings status)
+
+abbrev pub TestAnswers : (List ℕ → Option (List ℕ)) → TestOptions → Settings → ℕ → Type 0
+TestAnswers texts asked settings status = MatchBool (is_unknown asked.color) (status ≡ 2) (TestsEnd texts asked settings status)
+
 -- `alone` takes a component and a scenario, or with `--all` a scenario
 abbrev pub AloneAnswers : (List ℕ → Option (List ℕ)) → AloneOptions → Settings → Option (Bor (List ℕ)) → ℕ → Type 0
 AloneAnswers texts asked settings (Some scenario) status =
@@ -67,7 +83,7 @@ DiffAnswers texts asked settings status = MatchBool (lacks_scenario asked) (stat
 
 -- a command with these settings ends with this status
 abbrev pub AnswersBy : (List ℕ → Option (List ℕ)) → Command → Settings → ℕ → Type 0
-AnswersBy texts (command.Run asked) settings status = RunEnds texts asked settings status
+AnswersBy texts (command.Run asked) settings status = RunAnswers texts asked settings status
 AnswersBy texts (command.Record asked) settings status = RecordEnds texts asked settings status
 AnswersBy texts (command.Check asked) settings status = CheckEnds texts asked settings status
 AnswersBy texts (command.Tree asked) settings status = TreeEnds texts asked settings status
@@ -78,7 +94,7 @@ AnswersBy texts (command.Accounts asked) settings status = AccountsEnd texts ask
 AnswersBy texts (command.Least asked) settings status = BudgetsEnd texts asked settings status
 AnswersBy texts (command.Alone asked) settings status = AloneAnswers texts asked settings asked.scenario status
 AnswersBy texts (command.Diff asked) settings status = DiffAnswers texts asked settings status
-AnswersBy texts (command.Test asked) settings status = TestsEnd texts asked settings status
+AnswersBy texts (command.Test asked) settings status = TestAnswers texts asked settings status
 AnswersBy texts (command.Help topic) settings status = HelpEnds topic status
 
 -- ---- command lines

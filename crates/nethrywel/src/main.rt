@@ -6,16 +6,14 @@ ghost use Rattle.std.specs.Prelude.{◌≡◌, ◌≢◌, ◌⊎◌, ◌&&◌, �
 ghost use Rattle.std.specs.Process.{exit_status};
 ghost use Rattle.clap.specs.Words.{kind_of};
 ghost use Rattle.cli_base.specs.Statuses.{EndsAs, IsZero};
-ghost use Rattle.nethrywel.specs.CommandStatus.{AloneAnswers, AnswersBy, AnswersRequest, AnswersWords, DiffAnswers, HelpEnds, Helps, RefusesBy, lacks_scenario};
-ghost use Rattle.cli_runs.specs.CommandStatus.{RunEnds};
-ghost use Rattle.cli_tests.specs.Outcome.{TestsEnd};
+ghost use Rattle.nethrywel.specs.CommandStatus.{AloneAnswers, AnswersBy, AnswersRequest, AnswersWords, DiffAnswers, HelpEnds, Helps, RefusesBy, RunAnswers, TestAnswers, is_unknown, lacks_scenario};
 
 use clap::Error;
 use cli_base::{Coloring, Host, REFUSED, Settings, Spot, names_given, report_error, status_of};
 use cli_budgets::print_minimum_budgets;
 use cli_lists::{check_list, compare_lists, show_reach, show_route, show_tree};
 use cli_options::{
-    AloneOptions, CALLS, Command, CommandLine, DiffOptions, RunOptions, TestOptions,
+    AloneOptions, CALLS, Color, Command, CommandLine, DiffOptions, RunOptions, TestOptions,
     alone_usage_error, color_value_error, diff_usage_error, missing_command_error, words_given,
 };
 use cli_runs::{
@@ -141,13 +139,13 @@ fn print_help_of(rt: &HostRuntime, arguments: &[&str]) -> u8
 
 // Runs a scenario, and returns the exit status.
 fn answer_run<'a, H: Host>(host: &H, asked: &'a RunOptions<'a>, settings: Settings<'a>) -> u8
-    ensures { RunEnds (H.text_at host.now) asked.now settings.entry result }
+    ensures { RunAnswers (H.text_at host.now) asked.now settings.entry result }
 {
     let rt = host.rt();
-    match Coloring::asked(rt, asked.color) {
-        Some(coloring) => run_scenario(host, asked, settings, coloring),
-        None => refuse_words(rt, color_value_error(rt.alloc())),
+    if is_unknown(asked.color) {
+        return refuse_words(rt, color_value_error(rt.alloc()));
     }
+    run_scenario(host, asked, settings, coloring(rt, asked.color))
 }
 
 // Prints the replies to a component, or to each script, in the whole run and alone. Returns the exit status.
@@ -191,11 +189,23 @@ fn lacks_scenario(asked: &DiffOptions<'_>) -> bool
 
 // Runs scenarios as tests, and returns the exit status.
 fn answer_test<'a, H: Host>(host: &H, asked: &'a TestOptions<'a>, settings: Settings<'a>) -> u8
-    ensures { TestsEnd (H.text_at host.now) asked.now settings.entry result }
+    ensures { TestAnswers (H.text_at host.now) asked.now settings.entry result }
 {
     let rt = host.rt();
-    match Coloring::asked(rt, asked.color) {
-        Some(coloring) => run_tests(host, asked, settings, coloring.out),
-        None => refuse_words(rt, color_value_error(rt.alloc())),
+    if is_unknown(asked.color) {
+        return refuse_words(rt, color_value_error(rt.alloc()));
     }
+    run_tests(host, asked, settings, coloring(rt, asked.color).out)
+}
+
+// Returns whether a `--color` isn't auto, always or never.
+fn is_unknown(color: Color) -> bool
+    ensures { result ≡ is_unknown color }
+{
+    matches!(color, Color::Unknown)
+}
+
+// Returns which streams are coloured.
+fn coloring(rt: &HostRuntime, color: Color) -> Coloring {
+    Coloring::asked(rt, color).unwrap_or(Coloring::NOWHERE)
 }
