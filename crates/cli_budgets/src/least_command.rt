@@ -102,7 +102,7 @@ fn least_on(
 ) -> u8
     ensures { EndsAs (LacksReport machine.now)
         (EndsUnfolded settings.entry text.now
-            (EndsMeasured asked.now settings.entry machine.now text.now)) result }
+        (EndsMeasured asked.now settings.entry machine.now text.now)) result }
 {
     let lines = match unfolded(rt, asked.scenario, text, settings) {
         Ok(lines) => lines,

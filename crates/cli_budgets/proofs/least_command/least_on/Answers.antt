@@ -45,7 +45,7 @@ returns-in-Ok-of c =
     let lines = whole_view c.in-Ok.lines in
     let report = c.in-Ok-of.report in
     let question : BudgetQuery =
-        record { list = c.list.result; scenario = c.bytes.result; choice = c.choice_asked.result; as_donated = asked.as_donated } in
+    record { list = c.list.result; scenario = c.bytes.result; choice = c.choice_asked.result; as_donated = asked.as_donated } in
     let asks : Asks asked c.args.machine.now lines question = (c.list.ensures, c.bytes.ensures, c.choice_asked.ensures, refl) in
     ends_lines Refused c.args.settings c.args.text.now Ends lines c.print_report.result c.in-Ok.ensures.lines
     (ends_by ⊥ Refused (λ ended. ended ≡ measured_status (length (unmeasured_of report))) (Ends lines) (λ never. absurd never)
