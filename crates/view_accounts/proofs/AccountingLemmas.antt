@@ -5,10 +5,11 @@ use Rattle.own_model.specs.World.{World}
 use Rattle.view_accounts.specs.Accounting.{SeesAccounts}
 use Rattle.view_accounts.specs.Kept.{SeesPeaks, peaked}
 use Rattle.view_accounts.specs.Meters.{SeesNeeds}
+use Rattle.view_accounts.specs.SessionRuns.{AreAfter, sessions_in}
 use Rattle.view_accounts.specs.declared.accounting.Accounting.{Accounting}
 
 pub sees_both : {T E : Type 0} (observer : Accounting) (listed : Listed) {start : World} {calls : List (List ℕ)} (r : Result T E) →
     OnOk r (SeesPeaks (peaked observer.peaks.init) observer.peaks.components.items observer.peaks.sessions listed start calls) → SeesNeeds observer.needs.meters.items start calls →
-    OnOk r (SeesAccounts observer listed start calls)
-sees_both observer listed (Ok done) peaks needs = record { peaks = peaks; needs = needs }
-sees_both observer listed (Err fault) peaks needs = tt
+    AreAfter listed start calls (sessions_in observer.needs.sessions) → OnOk r (SeesAccounts observer listed start calls)
+sees_both observer listed (Ok done) peaks needs sessions = record { peaks = peaks; needs = needs; sessions = sessions }
+sees_both observer listed (Err fault) peaks needs sessions = tt

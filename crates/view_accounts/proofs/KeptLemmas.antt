@@ -34,6 +34,7 @@ use Rattle.view_accounts.specs.Kept.{SeesPeaks, begun_with, found, grown, in_use
 use Rattle.view_accounts.specs.Peaks.{Noted, is_open, label_by, noted_of, peak_of, server_by, session_account_at, session_at, worlds}
 use Rattle.run_scenario.specs.Said.{said_in}
 use Rattle.run_scenario.specs.Observation.{IsAnsweredAfter}
+use Rattle.view_accounts.specs.SessionRuns.{IsOutcome}
 use Rattle.view_accounts.specs.declared.peaks.Peak.{Peak}
 use Rattle.view_accounts.specs.declared.peaks.SessionPeak.{SessionPeak as Kept}
 use Rattle.view_accounts.specs.declared.session_outcome.SessionOutcome.{SessionOutcome}
@@ -42,7 +43,7 @@ use Rattle.view_accounts.proofs.NeedLemmas.{steps_now}
 use Rattle.view_accounts.proofs.NotedLemmas.{noted_first, noted_last, noted_still}
 use Rattle.view_accounts.proofs.OpenLemmas.{closed_at_start, none_still}
 use Rattle.view_accounts.proofs.PeakLemmas.{peak-more, peak-same, worlds-more}
-use Rattle.view_accounts.proofs.SessionStepLemmas.{IsOutcome, noted_aside, noted_is, session_in}
+use Rattle.view_accounts.proofs.SessionStepLemmas.{noted_aside, noted_is, session_in}
 
 -- ---- what is kept of one session
 
@@ -161,7 +162,7 @@ module _ (world : World) (made : Made) where
   use_of_inits n = inits_use (entry_at world.entries made.component).home world.inits (state_at world.states made.component) next n
 
   -- another's state stays
-  aside : (place : ℕ) → place ≢ made.component → state_at left_by.states place ≡ state_at world.states place
+  pub aside : (place : ℕ) → place ≢ made.component → state_at left_by.states place ≡ state_at world.states place
   aside place apart = get_or-set_other world.states made.component place next nothing apart
 
   -- and so does what its account uses

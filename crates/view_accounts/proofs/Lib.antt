@@ -4,6 +4,7 @@ pub mod ClosedLemmas
 pub mod ClosingLemmas
 pub mod HearLemmas
 pub mod KeptLemmas
+pub mod LedLemmas
 pub mod ListLemmas
 pub mod NeedLemmas
 pub mod NotedLemmas
@@ -12,6 +13,7 @@ pub mod PeakLemmas
 pub mod RowLemmas
 pub mod RunRowLemmas
 pub mod SessionNeedLemmas
+pub mod SessionRunLemmas
 pub mod SessionStepLemmas
 pub mod SessionTableLemmas
 pub mod TableLemmas

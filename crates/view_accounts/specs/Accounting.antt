@@ -12,6 +12,7 @@ use Rattle.view_accounts.specs.Kept.{SeesPeaks, found, noted_in, peak_at, peaked
 use Rattle.view_accounts.specs.Meters.{SeesNeeds, needed_of, needs_of_sessions}
 use Rattle.view_accounts.specs.Needs.{Needs, needed_text, needs_after, needs_by}
 use Rattle.view_accounts.specs.PeakList.{beside_after, name_at, noted_text, peaks_beside}
+use Rattle.view_accounts.specs.SessionRuns.{AreAfter, sessions_in}
 use Rattle.run_scenario.specs.RunCalls.{calls_answered}
 use Rattle.run_scenario.specs.LineSteps.{LineStep}
 use Rattle.view_accounts.specs.declared.accounting.Accounting.{Accounting}
@@ -61,6 +62,7 @@ pub record SeesAccounts (observer : Accounting) (listed : Listed) (start : World
   pub peaks :
       SeesPeaks (peaked observer.peaks.init) observer.peaks.components.items observer.peaks.sessions listed start earlier
   pub needs : SeesNeeds observer.needs.meters.items start earlier
+  pub sessions : AreAfter listed start earlier (sessions_in observer.needs.sessions)
 
 abbrev pub beside_kept : Accounting → Listed → Beside
 beside_kept observer listed =

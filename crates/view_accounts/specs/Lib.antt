@@ -3,6 +3,7 @@ pub mod AccountTable
 pub mod Accounting
 pub mod ClosedSessions
 pub mod Kept
+pub mod LedSessions
 pub mod Meters
 pub mod Needs
 pub mod PeakList
@@ -10,6 +11,8 @@ pub mod Peaks
 pub mod Rows
 pub mod RunRows
 pub mod SessionNeeds
+pub mod SessionRuns
 pub mod SessionTable
+pub mod ShownSessions
 pub mod Table
 pub mod TableRows

@@ -18,6 +18,8 @@ ghost use Rattle.line_grammar.specs.Read.{IsReadAs};
 ghost use Rattle.budget_meter.specs.Metered.{HasObserved, HasReply};
 ghost use Rattle.budget_meter.specs.Needs.{amounts_of};
 ghost use Rattle.view_accounts.specs.Meters.{IsFresh, SeesNeeds, meter_at, metered, needed_in, needed_of, needs_of_sessions};
+ghost use Rattle.view_accounts.specs.Kept.{found};
+ghost use Rattle.view_accounts.specs.SessionRuns.{AreAfter, AreNone, noted_if_open, sessions_in};
 ghost use Rattle.view_accounts.specs.Needs.{added, counts_below, lies_below, limits, needed_running, needs_by, summed};
 ghost use Rattle.run_scenario.specs.Observation.{IsAnsweredAfter};
 
@@ -72,8 +74,9 @@ pub(crate) struct Needs {
 impl Needs {
     /// Returns the needs before the first line. The error is that the host is out of memory.
     pub(crate) fn new<R: Router + Drop>(alloc: Global, core: &Core<R>) -> Result<Needs, AllocError>
-        ensures { (listed : Listed) → core.now ≡ world_of listed →
+        ensures meters { (listed : Listed) → core.now ≡ world_of listed →
             IfOk result (λ needs. SeesNeeds needs.meters.items core.now []) }
+        ensures sessions { IfOk result (λ needs. AreNone (sessions_in needs.sessions)) }
     {
         let mut meters = Vec::new(alloc);
         for component in 0..core.count() {
@@ -150,10 +153,18 @@ impl Needs {
     ) -> Result<(), AllocError>
         requires listed { core.now.entries ≡ entries_of (start_list_of list.now) }
         requires read { IsReadAs heard.now.line.now heard.now.call }
-        ensures { (start : World) (earlier : List (List ℕ)) →
+        ensures meters { (start : World) (earlier : List (List ℕ)) →
             SeesNeeds self.old.meters.items start earlier →
             IsAnsweredAfter start earlier heard.now.line.now core.now heard.now.answer →
             OnOk result (SeesNeeds self.new.meters.items start (earlier ++ heard.now.line.now ∷ [])) }
+        ensures sessions { (start : World) (earlier : List (List ℕ)) →
+            ((component selector : ℕ) → component < length start.entries →
+            found peaks.now.sessions component selector
+            ≡ noted_if_open list.now start earlier component selector) →
+            AreAfter list.now start earlier (sessions_in self.old.sessions) →
+            IsAnsweredAfter start earlier heard.now.line.now core.now heard.now.answer →
+            OnOk result (AreAfter list.now start (earlier ++ heard.now.line.now ∷ [])
+            (sessions_in self.new.sessions)) }
     {
         let Some((component, call)) = made_in(list, heard.line, heard.call) else {
             return Ok(());

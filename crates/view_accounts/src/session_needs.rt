@@ -1,5 +1,5 @@
 //! The needs of sessions, of open ones and of closed ones.
-ghost use Rattle.std.specs.Prelude.{◌≡◌, ◌++◌, ◌<◌, ◌==◌, ℕ, List, Option, length, true, false, None, IfOk, OnOk};
+ghost use Rattle.std.specs.Prelude.{◌≡◌, ◌++◌, [], ◌<◌, ◌==◌, ℕ, List, Option, length, true, false, None, IfOk, OnOk};
 ghost use Rattle.std.specs.Option.{option_map};
 ghost use Rattle.core_calls.specs.Call.{model_call};
 ghost use Rattle.own_model.specs.Call.Call.{Close, Exit};
@@ -57,7 +57,8 @@ pub(crate) struct SessionNeeds {
 impl SessionNeeds {
     /// Returns the sessions before the first line: none.
     pub(crate) fn new(alloc: Global) -> SessionNeeds
-        ensures { (component selector : ℕ) → value_at result.opened component selector ≡ None }
+        ensures opened { (component selector : ℕ) → value_at result.opened component selector ≡ None }
+        ensures closed { result.closed.items ≡ [] }
     {
         SessionNeeds {
             alloc,
