@@ -1,9 +1,10 @@
 -- Accounts component by component, while inits get what their lists need.
 use Rattle.std.proofs.Common.{arith, ◌≡◌, ℕ, zero, suc, ◌+◌, true, false, List, [], ◌∷◌, ◌++◌, length, nat_eq, refl, sym, ap, subst, ◌∙◌}
 use Rattle.std.proofs.lemmas.Bool.Decides.{nat_tests}
-use Rattle.std.specs.Prelude.{if◌then◌else◌, is_some, Option, Some, None, Vec}
-use Rattle.std.specs.List.{slice_get}
-use Rattle.std.specs.Option.{option_map_or}
+use Rattle.std.proofs.lemmas.Option.{slice_get-map}
+use Rattle.std.specs.Prelude.{if◌then◌else◌, map, Option, Some, None, Vec}
+use Rattle.std.specs.List.{slice_get, AllByRecursion}
+use Rattle.std.specs.Option.{option_map, option_map_or, unwrap_or}
 use Rattle.own_model.specs.Amounts.{Amounts}
 use Rattle.own_model.specs.Listed.{Binary, Listed, ListedEntry, kind_of}
 use Rattle.own_model.specs.Listed.Binary.{Script as AScript, Server as AServer, Init as AnInit}
@@ -11,27 +12,69 @@ use Rattle.own_model.specs.StartList.Kind.{Script}
 use Rattle.list_parser.specs.Depth.{is_init, runs_init}
 use Rattle.budget_meter.specs.Needs.{amounts_of}
 use Rattle.budget_search.proofs.AlikeLemmas.{entry_named}
-use Rattle.budget_search.specs.AccountNeeds.{need_rows, AreSessionAccounts, IsChanged, IsIdle, IsSessionAccount}
+use Rattle.budget_search.proofs.CountLemmas.{accounts_own}
+use Rattle.budget_search.proofs.SeenLemmas.{Seen, seen, accounts_still}
+use Rattle.budget_search.specs.AccountNeeds.{need_rows, IsChanged, IsIdle}
 use Rattle.budget_search.specs.Alike.{most_in, own_entry}
 use Rattle.budget_search.specs.BudgetIntervals.{lowest_of, safe_of}
 use Rattle.budget_search.specs.Own.{suffices_with, AreExact}
+use Rattle.budget_search.specs.SessionAccounts.{AreSessionAccounts}
 use Rattle.budget_search.specs.Sufficient.{HasLeast, HasSafe}
 use Rattle.budget_search.specs.declared.account_budgets.AccountBudgets.{AccountBudgets}
 use Rattle.budget_search.specs.declared.component_line.ComponentLine.{ComponentLine}
 use Rattle.budget_search.specs.declared.script_search.ScriptSessions.{ScriptSessions}
-use Rattle.budget_least.specs.ComponentAccounts.{steps_at, AreAccounts, AreAccountsOf, AreSessionsFrom, IsMeasured, IsOwnOf, IsSessionsOf}
+use Rattle.budget_least.specs.ComponentAccounts.{steps_at, AreAccounts, AreAccountsOf, AreSessionsFrom, AreSessionsOf, IsMeasured, IsOwnOf, IsSessionsOf}
+use Rattle.budget_least.specs.ComponentLines.{lines_of, ReadLine}
 use Rattle.budget_least.specs.InitNeeds.{is_init_at, AreChanged}
 
 -- ---- sessions of one component more
 
-pub one_more : (list : Listed) (first : ℕ) (scripts : List (Option ScriptSessions)) (script : Option ScriptSessions) → AreSessionsFrom list first scripts →
-    IsSessionsOf list (first + length scripts) script → AreSessionsFrom list first (scripts ++ script ∷ [])
-one_more list first [] script are is =
+pub one_more : {Z : Type 0} (list : Listed) (steps : List (Vec ComponentLine Z)) (first : ℕ) (scripts : List (Option ScriptSessions)) (script : Option ScriptSessions) →
+    AreSessionsFrom list steps first scripts → IsSessionsOf list (first + length scripts) (steps_at steps (first + length scripts)) script →
+    AreSessionsFrom list steps first (scripts ++ script ∷ [])
+one_more list steps first [] script are is =
     let none : first + 0 ≡ first = omega arith in
-    (subst (λ n. IsSessionsOf list n script) none is, tt)
-one_more list first (one ∷ scripts) script are is =
+    (subst (λ n. IsSessionsOf list n (steps_at steps n) script) none is, tt)
+one_more list steps first (one ∷ scripts) script are is =
     let next : first + length (one ∷ scripts) ≡ suc first + length scripts = omega arith in
-    (are.0, one_more list (suc first) scripts script are.1 (subst (λ n. IsSessionsOf list n script) next is))
+    (are.0, one_more list steps (suc first) scripts script are.1 (subst (λ n. IsSessionsOf list n (steps_at steps n) script) next is))
+
+-- ---- lines that donate otherwise
+
+abbrev seen_back : ReadLine → Seen
+seen_back line = record { number = line.number; left_out = line.left_out; text = line.text }
+
+seen_lines : (steps : List ComponentLine) → map seen steps ≡ map seen_back (lines_of steps)
+seen_lines [] = refl
+seen_lines (step ∷ steps) = ap (λ lines. seen step ∷ lines) (seen_lines steps)
+
+read_at : {Z : Type 0} (steps : List (Vec ComponentLine Z)) (component : ℕ) →
+    lines_of (steps_at steps component) ≡ unwrap_or (slice_get (map (λ (lines : Vec ComponentLine Z). lines_of lines.items) steps) component) []
+read_at {Z} steps component =
+    of_option (slice_get steps component) ∙ ap (λ o. unwrap_or o []) (sym (slice_get-map (λ (lines : Vec ComponentLine Z). lines_of lines.items) steps component))
+  where
+    of_option : (o : Option (Vec ComponentLine Z)) →
+        lines_of (unwrap_or (option_map (λ (lines : Vec ComponentLine Z). lines.items) o) []) ≡ unwrap_or (option_map (λ (lines : Vec ComponentLine Z). lines_of lines.items) o) []
+    of_option None = refl
+    of_option (Some lines) = refl
+
+-- the same lines in all else open the same sessions
+module _ {Z : Type 0} (list : Listed) (olds news : List (Vec ComponentLine Z))
+    (same : map (λ (lines : Vec ComponentLine Z). lines_of lines.items) news ≡ map (λ (lines : Vec ComponentLine Z). lines_of lines.items) olds) where
+  seen_at : (component : ℕ) → map seen (steps_at olds component) ≡ map seen (steps_at news component)
+  seen_at component =
+      seen_lines (steps_at olds component)
+      ∙ ap (map seen_back) (read_at olds component ∙ ap (λ lines. unwrap_or (slice_get lines component) []) (sym same) ∙ sym (read_at news component))
+      ∙ sym (seen_lines (steps_at news component))
+
+  session_still : (component : ℕ) (script : Option ScriptSessions) → IsSessionsOf list component (steps_at olds component) script →
+      IsSessionsOf list component (steps_at news component) script
+  session_still component None is = is
+  session_still component (Some found) is = (is.0, accounts_still list component (steps_at olds component) (steps_at news component) (seen_at component) found.accounts.items is.1)
+
+  pub sessions_still : (component : ℕ) (scripts : List (Option ScriptSessions)) → AreSessionsFrom list olds component scripts → AreSessionsFrom list news component scripts
+  sessions_still component [] are = tt
+  sessions_still component (script ∷ scripts) are = (session_still component script are.0, sessions_still (suc component) scripts are.1)
 
 -- ---- an init is no script
 
@@ -126,25 +169,39 @@ module _ (list : Listed) (place : ℕ) (need : Option Amounts) (starts : is_init
             }
       ] refl
 
-  session_kept : (component : ℕ) (old new : AccountBudgets) → IsChanged place need old new → IsSessionAccount component old → IsSessionAccount component new
-  session_kept component old new is session = record {
-    same = is.same ∙ session.same;
-    session = ap (λ s. is_some s) is.session ∙ session.session;
-    reserve = ap amounts_of is.reserve ∙ session.reserve;
-  }
+  -- no session is one of an init
+  session_kept : (component : ℕ) (old new : AccountBudgets) → (own_entry list component).kind ≡ Script → IsChanged place need old new → old.component ≡ component → new ≡ old
+  session_kept component old new script is its =
+      elim (nat_eq old.component place) as (λ b. nat_eq old.component place ≡ b → new ≡ old) [
+        | true ↦ λ here.
+            let at : old.component ≡ place = grind (arith, nat_tests, here) in
+            absurd (no_script list component (subst (λ c. is_init_at list c ≡ true) (sym at ∙ its) starts) script)
+        | false ↦ λ other. is.others other
+      ] refl
 
-  sessions_kept : (component : ℕ) (olds news : List AccountBudgets) → AreChanged place need olds news → AreSessionAccounts component olds → AreSessionAccounts component news
-  sessions_kept component [] [] are before = tt
-  sessions_kept component [] (new ∷ news) are before = absurd are
-  sessions_kept component (old ∷ olds) [] are before = absurd are
-  sessions_kept component (old ∷ olds) (new ∷ news) are before = (session_kept component old new are.0 before.0, sessions_kept component olds news are.1 before.1)
+  same_kept : (component : ℕ) (olds news : List AccountBudgets) → (own_entry list component).kind ≡ Script → AreChanged place need olds news →
+      AllByRecursion (λ (account : AccountBudgets). account.component ≡ component) olds → news ≡ olds
+  same_kept component [] [] script are its = refl
+  same_kept component [] (new ∷ news) script are its = absurd are
+  same_kept component (old ∷ olds) [] script are its = absurd are
+  same_kept component (old ∷ olds) (new ∷ news) script are its =
+      λ i. session_kept component old new script are.0 its.0 i ∷ same_kept component olds news script are.1 its.1 i
 
   none_kept : (news : List AccountBudgets) → AreChanged place need [] news → news ≡ []
   none_kept [] are = refl
   none_kept (new ∷ news) are = absurd are
 
+  sessions_kept : (component : ℕ) (steps : List ComponentLine) (olds news : List AccountBudgets) → AreChanged place need olds news →
+      AreSessionsOf list component steps olds → AreSessionsOf list component steps news
+  sessions_kept component steps olds news are before = record {
+    script = λ kind.
+        let sessions = before.script kind in
+        subst (AreSessionAccounts list component steps) (sym (same_kept component olds news kind are (accounts_own list component steps olds sessions))) sessions;
+    other = λ kind. none_kept news (subst (λ l. AreChanged place need l news) (before.other kind) are);
+  }
+
   with_own : (component : ℕ) (steps : List ComponentLine) (olds : List AccountBudgets) (old : AccountBudgets) (front back news : List AccountBudgets) → news ≡ front ++ back →
-      AreChanged place need olds front → AreChanged place need (old ∷ []) back → AreSessionAccounts component olds → IsOwnOf list component steps old →
+      AreChanged place need olds front → AreChanged place need (old ∷ []) back → AreSessionsOf list component steps olds → IsOwnOf list component steps old →
       AreAccountsOf list component steps news
   with_own component steps olds old front [] news these are last sessions own = absurd last
   with_own component steps olds old front (new ∷ back) news these are last sessions own =
@@ -153,7 +210,7 @@ module _ (list : Listed) (place : ℕ) (need : Option Amounts) (starts : is_init
         sessions = front;
         own = new;
         these = these ∙ ap (λ l. front ++ new ∷ l) only;
-        sessions_are = sessions_kept component olds front are sessions;
+        sessions_are = sessions_kept component steps olds front are sessions;
         own_is = own_kept component steps old new last.0 own;
       }
 
@@ -197,9 +254,10 @@ module _ {Z : Type 0} (list : Listed) (steps : List (Vec ComponentLine Z)) where
       subst (λ n. AreAccounts list steps n all) next more
 
 -- sessions of components from the next one on
-pub sessions_after : (list : Listed) (component : ℕ) (script : Option ScriptSessions) (scripts rest : List (Option ScriptSessions)) → scripts ≡ script ∷ rest →
-    AreSessionsFrom list component scripts → IsSessionsOf list component script × AreSessionsFrom list (component + 1) rest
-sessions_after list component script scripts rest these are =
+pub sessions_after : {Z : Type 0} (list : Listed) (steps : List (Vec ComponentLine Z)) (component : ℕ) (script : Option ScriptSessions) (scripts rest : List (Option ScriptSessions)) →
+    scripts ≡ script ∷ rest → AreSessionsFrom list steps component scripts →
+    IsSessionsOf list component (steps_at steps component) script × AreSessionsFrom list steps (component + 1) rest
+sessions_after list steps component script scripts rest these are =
     let next : suc component ≡ component + 1 = omega arith in
-    let both : AreSessionsFrom list component (script ∷ rest) = subst (λ l. AreSessionsFrom list component l) these are in
-    (both.0, subst (λ n. AreSessionsFrom list n rest) next both.1)
+    let both : AreSessionsFrom list steps component (script ∷ rest) = subst (λ l. AreSessionsFrom list steps component l) these are in
+    (both.0, subst (λ n. AreSessionsFrom list steps n rest) next both.1)

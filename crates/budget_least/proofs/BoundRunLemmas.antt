@@ -1,12 +1,14 @@
 -- Runs that bind names, call by call.
-use Rattle.std.proofs.Common.{arith, ◌≡◌, ℕ, zero, suc, ◌<◌, List, [], ◌∷◌, length, set, refl, sym, ap, subst, ◌∙◌}
-use Rattle.std.specs.Prelude.{Option, Some, None}
+use Rattle.std.proofs.lemmas.Bool.Decides.{nat_tests}
+use Rattle.std.proofs.Common.{arith, ◌≡◌, ℕ, zero, suc, ◌<◌, ◌≤◌, Bool, true, false, List, [], ◌∷◌, length, set, refl, sym, ap, subst, ◌∙◌}
+use Rattle.std.specs.Prelude.{if◌then◌else◌, nat_le, Option, Some, None}
+use Rattle.own_model.specs.Amounts.{Amounts}
 use Rattle.own_model.specs.Call.{Call}
 use Rattle.line_names.specs.Filling.{FilledLine}
 use Rattle.line_names.specs.Learning.{learnt}
 use Rattle.list_parser.specs.Budgets.{changed_at}
 use Rattle.budget_search.specs.AmpleCalls.{Client}
-use Rattle.budget_least.specs.BoundRuns.{answered_by, made_in, with_client, without_client, BoundRun}
+use Rattle.budget_least.specs.BoundRuns.{answered_by, budget_or, made_in, with_client, without_client, BoundRun}
 use Rattle.budget_least.specs.declared.binding_run.BindingBudgets.{BindingBudgets}
 
 -- an element that is written, and written again
@@ -51,3 +53,14 @@ answered_is component filled old taken bound new client text take told learn put
       position = record old.position { known = learnt old.position.known filled client.text };
       clients = rewritten None (Some client) old.clients component i;
     })
+
+-- the budget of a run is no more than the most
+pub within_most : (most : Amounts) (written : Option Amounts) → ((budget_or most written).ram ≤ most.ram) × ((budget_or most written).caps ≤ most.caps)
+within_most most None = (omega arith, omega arith)
+within_most most (Some budget) = by (nat_le budget.caps most.caps) (nat_le budget.ram most.ram) refl refl
+  where
+    by : (few less : Bool) → nat_le budget.caps most.caps ≡ few → nat_le budget.ram most.ram ≡ less →
+        ((if few then (if less then budget else most) else most).ram ≤ most.ram) × ((if few then (if less then budget else most) else most).caps ≤ most.caps)
+    by true true few less = (grind (arith, nat_tests, less), grind (arith, nat_tests, few))
+    by true false few less = (omega arith, omega arith)
+    by false less few is = (omega arith, omega arith)

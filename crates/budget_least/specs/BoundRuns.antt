@@ -36,10 +36,10 @@ written_budget Ample component = None
 written_budget AsDonated component = None
 written_budget (Chosen choice accounts steps) component = own_budget choice accounts.now component
 
--- with that budget a component makes its calls, if a machine has so much, and otherwise with all that a machine has
+-- with that budget a component makes its calls, if it isn't more than the most, and otherwise with the most
 abbrev pub budget_or : Amounts → Option Amounts → Amounts
 budget_or most None = most
-budget_or most (Some budget) = if nat_le budget.caps 4096 then (if nat_le budget.ram 16777216 then budget else most) else most
+budget_or most (Some budget) = if nat_le budget.caps most.caps then (if nat_le budget.ram most.ram then budget else most) else most
 
 abbrev pub budget_in : Listed → BindingBudgets → ℕ → Amounts
 budget_in list budgets component = budget_or (most_in list component) (written_budget budgets component)

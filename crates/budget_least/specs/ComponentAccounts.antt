@@ -5,10 +5,11 @@ use Rattle.std.specs.Option.{option_map, unwrap_or}
 use Rattle.own_model.specs.Listed.{Listed}
 use Rattle.own_model.specs.StartList.Kind.{Script}
 use Rattle.budget_meter.specs.Needs.{amounts_of}
-use Rattle.budget_search.specs.AccountNeeds.{AreSessionAccounts, IsIdle}
+use Rattle.budget_search.specs.AccountNeeds.{IsIdle}
 use Rattle.budget_search.specs.Alike.{given_in, most_in, own_entry, reserve_in}
 use Rattle.budget_search.specs.BudgetIntervals.{lowest_of, safe_of}
 use Rattle.budget_search.specs.Own.{suffices_with, AreExact}
+use Rattle.budget_search.specs.SessionAccounts.{AreSessionAccounts}
 use Rattle.budget_search.specs.Sufficient.{HasLeast, HasSafe}
 use Rattle.budget_search.specs.declared.account_budgets.AccountBudgets.{AccountBudgets}
 use Rattle.budget_search.specs.declared.component_line.ComponentLine.{ComponentLine}
@@ -37,12 +38,17 @@ pub record IsOwnOf (list : Listed) (component : ℕ) (steps : List ComponentLine
   pub script : (own_entry list component).kind ≡ Script → IsMeasured list component steps account
   pub server : (own_entry list component).kind ≢ Script → is_init_at list component ≡ false → IsIdle component (given_in list component) account
 
+-- these are the accounts of the sessions that a script's lines open; another component has none
+pub record AreSessionsOf (list : Listed) (component : ℕ) (steps : List ComponentLine) (accounts : List AccountBudgets) : Type 0 where
+  pub script : (own_entry list component).kind ≡ Script → AreSessionAccounts list component steps accounts
+  pub other : (own_entry list component).kind ≢ Script → accounts ≡ []
+
 -- the accounts of a component: those of its sessions, and then its own
 pub record AreAccountsOf (list : Listed) (component : ℕ) (steps : List ComponentLine) (accounts : List AccountBudgets) : Type 0 where
   pub sessions : List AccountBudgets
   pub own : AccountBudgets
   pub these : accounts ≡ sessions ++ own ∷ []
-  pub sessions_are : AreSessionAccounts component sessions
+  pub sessions_are : AreSessionsOf list component steps sessions
   pub own_is : IsOwnOf list component steps own
 
 -- some accounts, and then others
@@ -68,12 +74,13 @@ pub record IsGiven (search : ScriptSearch) : Type 0 where
   pub given : amounts_of search.given ≡ given_in search.list.now search.component
 
 -- the accounts of a script's sessions, or none of another component
-abbrev pub IsSessionsOf : Listed → ℕ → Option ScriptSessions → Type 0
-IsSessionsOf list component None = (own_entry list component).kind ≢ Script
-IsSessionsOf list component (Some found) =
-    ((own_entry list component).kind ≡ Script) × AreSessionAccounts component found.accounts.items
+abbrev pub IsSessionsOf : Listed → ℕ → List ComponentLine → Option ScriptSessions → Type 0
+IsSessionsOf list component steps None = (own_entry list component).kind ≢ Script
+IsSessionsOf list component steps (Some found) =
+    ((own_entry list component).kind ≡ Script) × AreSessionAccounts list component steps found.accounts.items
 
 -- those of the components from a place on
-abbrev pub AreSessionsFrom : Listed → ℕ → List (Option ScriptSessions) → Type 0
-AreSessionsFrom list component [] = ⊤
-AreSessionsFrom list component (sessions ∷ rest) = IsSessionsOf list component sessions × AreSessionsFrom list (suc component) rest
+abbrev pub AreSessionsFrom : {Z : Type 0} → Listed → List (Vec ComponentLine Z) → ℕ → List (Option ScriptSessions) → Type 0
+AreSessionsFrom list steps component [] = ⊤
+AreSessionsFrom list steps component (sessions ∷ rest) =
+    IsSessionsOf list component (steps_at steps component) sessions × AreSessionsFrom list steps (suc component) rest

@@ -9,9 +9,7 @@ ghost use Rattle.budget_search.specs.Steps.{with_args};
 ghost use Rattle.budget_least.specs.BoundRuns.{args_at, is_own, own_budget};
 
 use budget_meter::Budget;
-use budget_search::{
-    AccountBudgets, AmpleClient, BudgetChoice, ComponentLine, LARGEST, ample, funded,
-};
+use budget_search::{AccountBudgets, AmpleClient, BudgetChoice, ComponentLine, funded, most_of};
 use core_calls::{Call, Reply};
 use init_core::{RouteTable, boot};
 use line_names::{Directive, FilledLine, NameTable};
@@ -19,7 +17,6 @@ use line_steps::RunPosition;
 use list_parser::{BootFault, StartList};
 use std::alloc::{AllocError, Global};
 use std::marker::Model;
-use trade_base::PAGE;
 
 /// The budgets of a run that binds names.
 #[derive(Clone, Copy)]
@@ -40,8 +37,10 @@ pub(crate) enum BindingBudgets<'b> {
 }
 
 impl BindingBudgets<'_> {
-    ghost use Rattle.std.specs.Prelude.{◌≡◌, ◌<◌, length, IfOk, OnOk};
+    ghost use Rattle.std.specs.Prelude.{◌≡◌, ◌<◌, ◌^◌, length, true, None, IfOk, OnOk};
     ghost use Rattle.std.specs.Option.{option_map};
+    ghost use Rattle.list_parser.specs.Quota.{quota_fault};
+    ghost use Rattle.budget_search.specs.NoBudgets.{has_room};
     ghost use Rattle.budget_meter.specs.Needs.{amounts_of};
     ghost use Rattle.budget_search.specs.Alike.{IsFunded};
     ghost use Rattle.core_calls.specs.Call.{model_call, IsWellFormed};
@@ -55,19 +54,33 @@ impl BindingBudgets<'_> {
         component: usize,
     ) -> Result<StartList, AllocError>
         requires { component < length list.now.entries }
-        ensures { IfOk result (λ machine.
+        ensures funded { IfOk result (λ machine.
             IsFunded machine list.now component (budget_in list.now self.entry component)) }
+        ensures boots { IfOk result (λ machine.
+            has_room list.now component (budget_in list.now self.entry component) ≡ true →
+            quota_fault machine ≡ None) }
     {
-        let Some(budget) = self.budget(component) else {
-            return ample(alloc, list, component);
-        };
-        if budget.caps > u64::from(LARGEST) {
-            return ample(alloc, list, component);
-        }
-        if budget.ram > u64::from(LARGEST) * PAGE {
-            return ample(alloc, list, component);
-        }
+        let budget = self.budget_on(list, component);
         funded(alloc, list, component, budget)
+    }
+
+    // Returns the budget with which a component makes its calls: the one that is written, unless it is more than the most.
+    fn budget_on(self, list: &StartList, component: usize) -> Budget
+        requires { component < length list.now.entries }
+        ensures budget { amounts_of result ≡ budget_in list.now self.entry component }
+        ensures few { result.caps < 2 ^ 32 }
+    {
+        let most = most_of(list, component);
+        let Some(budget) = self.budget(component) else {
+            return most;
+        };
+        if budget.caps > most.caps {
+            return most;
+        }
+        if budget.ram > most.ram {
+            return most;
+        }
+        budget
     }
 
     // Returns the budget of a component's own account that is written, if the run has it.
@@ -187,7 +200,9 @@ impl<'a, 'b, 'm> Model for BindingRun<'a, 'b, 'm> {
 }
 
 impl<'a, 'b, 'm> BindingRun<'a, 'b, 'm> {
-    ghost use Rattle.std.specs.Prelude.{◌≡◌, ◌<◌, length, replicate, IfOk, None, OnOk};
+    ghost use Rattle.std.specs.Prelude.{◌≡◌, ◌≢◌, ◌<◌, length, replicate, IfErr, IfOk, None, OnOk};
+    ghost use Rattle.list_parser.specs.declared.fault.BootFault.TheVariants.{NoMemory};
+    ghost use Rattle.budget_search.specs.NoBudgets.{LacksBudgets};
     ghost use Rattle.core_calls.specs.Call.{model_call, IsWellFormed};
     ghost use Rattle.line_names.specs.Learning.{learnt};
     ghost use Rattle.line_names.specs.Views.{directive_view, filled_view};
@@ -269,8 +284,10 @@ impl<'a, 'b, 'm> BindingRun<'a, 'b, 'm> {
     ) -> Result<(), BootFault>
         requires there { component < length self.old.list.entries }
         requires call { IsWellFormed call }
-        ensures { OnOk result (IsAnsweredIf self.old.binds component place (model_call call.entry)
+        ensures answered { OnOk result (IsAnsweredIf self.old.binds component place (model_call call.entry)
             (filled_view filled.now) self.old self.new) }
+        ensures fault { IfErr result
+            (λ fault. fault ≢ NoMemory → LacksBudgets self.old.list fault) }
     {
         if !self.binds() {
             return Ok(());
@@ -289,8 +306,10 @@ impl<'a, 'b, 'm> BindingRun<'a, 'b, 'm> {
     ) -> Result<(), BootFault>
         requires there { component < length self.old.list.entries }
         requires call { IsWellFormed call }
-        ensures { OnOk result (IsAnswered component place (model_call call.entry)
+        ensures answered { OnOk result (IsAnswered component place (model_call call.entry)
             (filled_view filled.now) self.old self.new) }
+        ensures fault { IfErr result
+            (λ fault. fault ≢ NoMemory → LacksBudgets self.old.list fault) }
     {
         let mut client = self.take_client(alloc, component)?;
         self.budgets()
@@ -334,6 +353,8 @@ impl<'a, 'b, 'm> BindingRun<'a, 'b, 'm> {
         requires { component < length self.old.list.entries }
         ensures client { IfOk result (IsClient self.old component) }
         ensures taken { OnOk result (self.new ≡ without_client component self.old) }
+        ensures fault { IfErr result
+            (λ fault. fault ≢ NoMemory → LacksBudgets self.old.list fault) }
     {
         match self.take_known(component) {
             Some(client) => Ok(client),
@@ -362,7 +383,9 @@ impl<'a, 'b, 'm> BindingRun<'a, 'b, 'm> {
     // Returns the client of a component that has made no call.
     fn boot(&self, alloc: Global, component: usize) -> Result<AmpleClient<RouteTable>, BootFault>
         requires { component < length self.now.list.entries }
-        ensures { IfOk result (HasBooted self.now.list self.now.budgets component) }
+        ensures booted { IfOk result (HasBooted self.now.list self.now.budgets component) }
+        ensures fault { IfErr result
+            (λ fault. fault ≢ NoMemory → LacksBudgets self.now.list fault) }
     {
         let reply = Reply::boot(alloc)?;
         let list = self.budgets().machine(alloc, self.list(), component)?;

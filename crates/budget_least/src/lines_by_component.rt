@@ -31,7 +31,9 @@ pub(crate) struct LinesByComponent {
 }
 
 impl LinesByComponent {
-    ghost use Rattle.std.specs.Prelude.{◌≡◌, ◌++◌, ◌∷◌, [], ◌<◌, ◌==◌, false, length, map, replicate, IfOk, OnOk};
+    ghost use Rattle.std.specs.Prelude.{◌≡◌, ◌≢◌, ◌++◌, ◌∷◌, [], ◌<◌, ◌==◌, false, length, map, replicate, IfErr, IfOk, OnOk};
+    ghost use Rattle.list_parser.specs.declared.fault.BootFault.TheVariants.{NoMemory};
+    ghost use Rattle.budget_search.specs.NoBudgets.{LacksBudgets};
     ghost use Rattle.std.specs.List.{slice_get, slice_split};
     ghost use Rattle.std.specs.Option.{option_copied, unwrap_or};
     ghost use Rattle.core_calls.specs.Call.{model_call, IsWellFormed};
@@ -51,7 +53,9 @@ impl LinesByComponent {
         start: RunPosition<'_>,
         budgets: BindingBudgets<'_>,
     ) -> Result<LinesByComponent, BootFault>
-        ensures { IfOk result (HasRead list.now text.now start.entry budgets.entry) }
+        ensures read { IfOk result (HasRead list.now text.now start.entry budgets.entry) }
+        ensures fault { IfErr result
+            (λ fault. fault ≢ NoMemory → LacksBudgets list.now fault) }
     {
         let mut run = BindingRun::new(alloc, list, start, budgets, has_names(text))?;
         let mut lines = LinesByComponent::empty(alloc, list.count())?;
@@ -138,8 +142,10 @@ impl LinesByComponent {
         run: &mut BindingRun<'_, '_, '_>,
         text: &[u8],
     ) -> Result<(), BootFault>
-        ensures { OnOk result (AreRead (slice_split (λ b. b == 10) text.now)
+        ensures read { OnOk result (AreRead (slice_split (λ b. b == 10) text.now)
             (reading run.old self.old) (reading run.new self.new)) }
+        ensures fault { IfErr result
+            (λ fault. fault ≢ NoMemory → LacksBudgets run.old.list fault) }
     {
         let lines = lines_of(alloc, text)?;
         self.add_lines(alloc, run, lines.as_slice())
@@ -152,8 +158,10 @@ impl LinesByComponent {
         run: &mut BindingRun<'_, '_, '_>,
         lines: &[&[u8]],
     ) -> Result<(), BootFault>
-        ensures { OnOk result (AreRead (map (λ line. line.now) lines.now)
+        ensures read { OnOk result (AreRead (map (λ line. line.now) lines.now)
             (reading run.old self.old) (reading run.new self.new)) }
+        ensures fault { IfErr result
+            (λ fault. fault ≢ NoMemory → LacksBudgets run.old.list fault) }
     {
         let mut buffers = LineBuffers::new();
         for line in lines {
@@ -170,7 +178,10 @@ impl LinesByComponent {
         line: &[u8],
         buffers: &mut LineBuffers,
     ) -> Result<(), BootFault>
-        ensures { OnOk result (IsRead line.now (reading run.old self.old) (reading run.new self.new)) }
+        ensures read { OnOk result (IsRead line.now (reading run.old self.old) (reading run.new self.new)) }
+        ensures list { OnOk result (run.new.list ≡ run.old.list) }
+        ensures fault { IfErr result
+            (λ fault. fault ≢ NoMemory → LacksBudgets run.old.list fault) }
     {
         let number = run.pass();
         let resolved = resolve(None, run.known(), line, buffers);
@@ -189,8 +200,10 @@ impl LinesByComponent {
         resolved: ResolvedLine<'_>,
     ) -> Result<(), BootFault>
         requires { HasParsedCall resolved }
-        ensures { OnOk result (IsTaken number (resolved_view resolved.entry)
+        ensures taken { OnOk result (IsTaken number (resolved_view resolved.entry)
             (reading run.old self.old) (reading run.new self.new)) }
+        ensures fault { IfErr result
+            (λ fault. fault ≢ NoMemory → LacksBudgets run.old.list fault) }
     {
         match resolved.unread() {
             Some(why) => self.leave(alloc, run.list(), line, number, why),
@@ -209,6 +222,7 @@ impl LinesByComponent {
     ) -> Result<(), BootFault>
         ensures unmeasured { OnOk result (numbers_in self.new ≡ numbers_in self.old ++ number ∷ []) }
         ensures lines { self.new.steps ≡ self.old.steps }
+        ensures fault { IfErr result (λ fault. fault ≡ NoMemory) }
     {
         let (name, _) = next_word(trimmed_line(line));
         let token = token_at(line, why.column());
@@ -233,8 +247,10 @@ impl LinesByComponent {
     ) -> Result<(), BootFault>
         requires parsed { HasParsedCall resolved }
         requires read { is_unread (resolved_view resolved) ≡ false }
-        ensures { OnOk result (IsTaken number (resolved_view resolved.entry)
+        ensures taken { OnOk result (IsTaken number (resolved_view resolved.entry)
             (reading run.old self.old) (reading run.new self.new)) }
+        ensures fault { IfErr result
+            (λ fault. fault ≢ NoMemory → LacksBudgets run.old.list fault) }
     {
         match resolved {
             ResolvedLine::Directive(directive) => {
@@ -262,9 +278,11 @@ impl LinesByComponent {
         call: &ScenarioCall<'_>,
     ) -> Result<(), BootFault>
         requires { IsReadAs call.now.line.now call.now.call }
-        ensures { OnOk result (IsAdded number (filled_view call.now.filled) call.now.line.now
+        ensures added { OnOk result (IsAdded number (filled_view call.now.filled) call.now.line.now
             (expects_refusal (option_copied call.now.reply)) (said_in call.now.line.now)
             (reading run.old self.old) (reading run.new self.new)) }
+        ensures fault { IfErr result
+            (λ fault. fault ≢ NoMemory → LacksBudgets run.old.list fault) }
     {
         let Some(said) = call.call else {
             return Ok(());
@@ -288,9 +306,11 @@ impl LinesByComponent {
     ) -> Result<(), BootFault>
         requires there { component < length run.old.list.entries }
         requires formed { IsWellFormed said }
-        ensures { OnOk result (IsAddedTo number (filled_view call.now.filled) call.now.line.now
+        ensures added { OnOk result (IsAddedTo number (filled_view call.now.filled) call.now.line.now
             (expects_refusal (option_copied call.now.reply)) (model_call said.entry) component
             (reading run.old self.old) (reading run.new self.new)) }
+        ensures fault { IfErr result
+            (λ fault. fault ≢ NoMemory → LacksBudgets run.old.list fault) }
     {
         let is_left_out = expects_refusal(call.reply);
         if !is_left_out {

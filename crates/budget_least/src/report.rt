@@ -1,5 +1,7 @@
 //! What all accounts of a scenario need.
-ghost use Rattle.std.specs.Prelude.{◌≡◌, ◌+◌, ◌<◌, ℕ, true, false, [], length, suc, IfOk, OnOk};
+ghost use Rattle.std.specs.Prelude.{◌≡◌, ◌≢◌, ◌+◌, ◌<◌, ℕ, true, false, [], length, suc, IfErr, IfOk, OnOk};
+ghost use Rattle.list_parser.specs.declared.fault.BootFault.TheVariants.{NoMemory};
+ghost use Rattle.budget_search.specs.NoBudgets.{LacksBudgets};
 ghost use Rattle.std.specs.List.{list_all};
 ghost use Rattle.std.specs.Option.{option_map};
 ghost use Rattle.own_model.specs.Amounts.{more_of};
@@ -61,8 +63,10 @@ impl BudgetQuery<'_> {
         start: &RunPosition<'_>,
         budgets: BindingBudgets<'_>,
     ) -> Result<LinesByComponent, BootFault>
-        ensures { IfOk result
+        ensures read { IfOk result
             (HasRead self.entry.list.now self.entry.scenario.now start.now budgets.entry) }
+        ensures fault { IfErr result
+            (λ fault. fault ≢ NoMemory → LacksBudgets self.entry.list.now fault) }
     {
         let start = start.copy(alloc)?;
         LinesByComponent::read(alloc, self.list, self.scenario, start, budgets)
@@ -82,8 +86,9 @@ pub struct BudgetReport<'a> {
 impl<'a> BudgetReport<'a> {
     /// Returns the answer to a question. Names denote the given values, and those that a run from the start with the budgets that
     /// are written binds.
-    /// The list needn't boot. Fails with `QuotaExceeded` if a script's own budget is larger than the largest machine's, and with
-    /// `NoMemory` if the host is out of memory.
+    /// The list needn't boot. Fails with `QuotaExceeded` if the largest machine doesn't have a script's own budget in addition to the
+    /// script's reserve, with `BadConfig start` if the run of a session isn't like that of its lines, and with `NoMemory` if the host
+    /// is out of memory.
     pub fn of(
         alloc: Global,
         question: BudgetQuery<'a>,
@@ -92,6 +97,8 @@ impl<'a> BudgetReport<'a> {
         ensures report { IfOk result (IsReportOf question.entry start.entry) }
         ensures needed { IfOk result (λ report.
             AreNeeded report.choice report.list.now report.accounts.items) }
+        ensures fault { IfErr result
+            (λ fault. fault ≢ NoMemory → LacksBudgets question.entry.list.now fault) }
     {
         let mut report = BudgetReport::first(alloc, question, &start)?;
         if !has_names(question.scenario) {
@@ -107,8 +114,10 @@ impl<'a> BudgetReport<'a> {
         question: BudgetQuery<'a>,
         start: &RunPosition<'_>,
     ) -> Result<BudgetReport<'a>, BootFault>
-        ensures { IfOk result (λ report.
+        ensures draft { IfOk result (λ report.
             IsDraftAt question.entry start.now 0 (numbers_in report.scene) report) }
+        ensures fault { IfErr result
+            (λ fault. fault ≢ NoMemory → LacksBudgets question.entry.list.now fault) }
     {
         let lines = question.lines(alloc, start, question.ample())?;
         let report = BudgetReport::with(alloc, question, lines)?;
@@ -121,9 +130,11 @@ impl<'a> BudgetReport<'a> {
         question: BudgetQuery<'a>,
         lines: LinesByComponent,
     ) -> Result<BudgetReport<'a>, BootFault>
-        ensures { IfOk result (λ report. (start : RunPosition) (budgets : BindingBudgets) →
+        ensures draft { IfOk result (λ report. (start : RunPosition) (budgets : BindingBudgets) →
             HasRead question.entry.list.now question.entry.scenario.now start budgets lines →
             IsDraft question.entry start budgets (numbers_in report.scene) report) }
+        ensures fault { IfErr result
+            (λ fault. fault ≢ NoMemory → LacksBudgets question.entry.list.now fault) }
     {
         let mut report = BudgetReport {
             list: question.list,
@@ -145,7 +156,9 @@ impl<'a> BudgetReport<'a> {
         start: &RunPosition<'_>,
     ) -> Result<(), BootFault>
         requires { IsDraftAt question start.now 0 (numbers_in self.old.scene) self.old }
-        ensures { OnOk result (IsReportIf true question.entry start.now self.new) }
+        ensures report { OnOk result (IsReportIf true question.entry start.now self.new) }
+        ensures fault { IfErr result
+            (λ fault. fault ≢ NoMemory → LacksBudgets question.entry.list.now fault) }
     {
         for number in 0..LAST_DRAFT {
             if self.settles(alloc, question, start)? {
@@ -170,6 +183,8 @@ impl<'a> BudgetReport<'a> {
         ensures next { IfOk result (λ settles. settles ≡ false → (number : ℕ) →
             IsDraftAt question.entry start.now number (numbers_in self.old.scene) self.old →
             IsDraftAt question.entry start.now (number + 1) (numbers_in self.new.scene) self.new) }
+        ensures fault { IfErr result
+            (λ fault. fault ≢ NoMemory → LacksBudgets question.entry.list.now fault) }
     {
         let lines = self.filled(alloc, question, start)?;
         let changed = self.scene.changed(alloc, &lines)?;
@@ -188,9 +203,11 @@ impl<'a> BudgetReport<'a> {
         question: BudgetQuery<'a>,
         start: &RunPosition<'_>,
     ) -> Result<(), BootFault>
-        ensures { OnOk result ((number : ℕ) → number < 8 →
+        ensures report { OnOk result ((number : ℕ) → number < 8 →
             IsDraftAt question.entry start.now number (numbers_in self.old.scene) self.old →
             IsReportIf true question.entry start.now self.new) }
+        ensures fault { IfErr result
+            (λ fault. fault ≢ NoMemory → LacksBudgets question.entry.list.now fault) }
     {
         let lines = self.filled(alloc, question, start)?;
         let changed = self.scene.changed(alloc, &lines)?;
@@ -205,7 +222,9 @@ impl<'a> BudgetReport<'a> {
         question: BudgetQuery<'a>,
         start: &RunPosition<'_>,
     ) -> Result<LinesByComponent, BootFault>
-        ensures { IfOk result (AreFilledBy question.entry start.now self.now) }
+        ensures filled { IfOk result (AreFilledBy question.entry start.now self.now) }
+        ensures fault { IfErr result
+            (λ fault. fault ≢ NoMemory → LacksBudgets question.entry.list.now fault) }
     {
         let accounts = self.accounts.as_slice();
         let steps = self.scene.steps.as_slice();

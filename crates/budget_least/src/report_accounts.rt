@@ -1,8 +1,10 @@
 //! The accounts of a report, component by component.
-ghost use Rattle.std.specs.Prelude.{◌≡◌, ◌≢◌, ◌++◌, ◌∷◌, ◌<◌, [], List, length, IfOk, OnOk};
+ghost use Rattle.std.specs.Prelude.{◌≡◌, ◌≢◌, ◌++◌, ◌∷◌, ◌<◌, [], List, length, IfErr, IfOk, OnOk};
+ghost use Rattle.list_parser.specs.declared.fault.BootFault.TheVariants.{NoMemory};
+ghost use Rattle.budget_search.specs.NoBudgets.{LacksBudgets};
 ghost use Rattle.own_model.specs.StartList.Kind.{Script as AScript};
 ghost use Rattle.budget_search.specs.Alike.{own_entry};
-ghost use Rattle.budget_search.specs.AccountNeeds.{AreSessionAccounts};
+ghost use Rattle.budget_search.specs.SessionAccounts.{AreSessionAccounts};
 ghost use Rattle.budget_search.specs.declared.component_line.ComponentLine.{ComponentLine};
 ghost use Rattle.budget_least.specs.ComponentAccounts.{AreAccountsOf, IsGiven, IsSessionsOf};
 
@@ -13,8 +15,10 @@ use list_parser::{BootFault, StartList};
 use std::alloc::{AllocError, Global};
 
 impl BudgetReport<'_> {
-    ghost use Rattle.std.specs.Prelude.{◌≡◌, ◌+◌, ◌<◌, [], length, IfOk, OnOk};
-    ghost use Rattle.budget_least.specs.ComponentAccounts.{AreSessionsFrom, IsSessionsOf};
+    ghost use Rattle.std.specs.Prelude.{◌≡◌, ◌+◌, ◌<◌, [], length, IfOk, OnOk, ◌≢◌, IfErr};
+    ghost use Rattle.budget_least.specs.ComponentAccounts.{steps_at, AreSessionsFrom, IsSessionsOf};
+    ghost use Rattle.list_parser.specs.declared.fault.BootFault.TheVariants.{NoMemory};
+    ghost use Rattle.budget_search.specs.NoBudgets.{LacksBudgets};
     ghost use Rattle.budget_least.specs.ComponentLines.{lines_in};
     ghost use Rattle.budget_least.specs.ReportOf.{HasAccounts};
 
@@ -28,6 +32,8 @@ impl BudgetReport<'_> {
         ensures lines { OnOk result (lines_in self.new.scene ≡ lines_in self.old.scene) }
         ensures accounts { OnOk result
             (HasAccounts self.new (length self.new.list.now.entries)) }
+        ensures fault { IfErr result
+            (λ fault. fault ≢ NoMemory → LacksBudgets self.old.list.now fault) }
     {
         let mut donations = LineDonations::new(alloc, self.choice);
         let scripts = self.sessions(alloc, &mut donations)?;
@@ -43,9 +49,11 @@ impl BudgetReport<'_> {
         donations: &mut LineDonations,
     ) -> Result<Vec<Option<ScriptSessions>>, BootFault>
         ensures sessions { IfOk result (λ scripts.
-            AreSessionsFrom self.now.list.now 0 scripts.items) }
+            AreSessionsFrom self.now.list.now self.now.scene.steps.items 0 scripts.items) }
         ensures count { IfOk result (λ scripts.
             length scripts.items ≡ length self.now.list.now.entries) }
+        ensures fault { IfErr result
+            (λ fault. fault ≢ NoMemory → LacksBudgets self.now.list.now fault) }
     {
         let list = self.list;
         let mut scripts = Vec::new(alloc);
@@ -69,6 +77,7 @@ impl BudgetReport<'_> {
         ensures accounts { self.new.accounts ≡ self.old.accounts }
         ensures unmeasured { self.new.scene.unmeasured ≡ self.old.scene.unmeasured }
         ensures lines { OnOk result (lines_in self.new.scene ≡ lines_in self.old.scene) }
+        ensures fault { IfErr result (λ fault. fault ≡ NoMemory) }
     {
         if as_donated {
             return Ok(());
@@ -83,7 +92,7 @@ impl BudgetReport<'_> {
         alloc: Global,
         scripts: Vec<Option<ScriptSessions>>,
     ) -> Result<(), BootFault>
-        requires sessions { AreSessionsFrom self.old.list.now 0 scripts.items }
+        requires sessions { AreSessionsFrom self.old.list.now self.old.scene.steps.items 0 scripts.items }
         requires count { length scripts.items ≡ length self.old.list.now.entries }
         requires none { self.old.accounts.items ≡ [] }
         ensures list { self.new.list ≡ self.old.list }
@@ -91,6 +100,8 @@ impl BudgetReport<'_> {
         ensures scene { self.new.scene ≡ self.old.scene }
         ensures accounts { OnOk result
             (HasAccounts self.new (length self.new.list.now.entries)) }
+        ensures fault { IfErr result
+            (λ fault. fault ≢ NoMemory → LacksBudgets self.old.list.now fault) }
     {
         let _few = self.list.count();
         let mut component = 0;
@@ -109,12 +120,15 @@ impl BudgetReport<'_> {
         sessions: Option<ScriptSessions>,
     ) -> Result<(), BootFault>
         requires there { component < length self.old.list.now.entries }
-        requires sessions { IsSessionsOf self.old.list.now component sessions }
+        requires sessions { IsSessionsOf self.old.list.now component
+            (steps_at self.old.scene.steps.items component) sessions }
         requires before { HasAccounts self.old component }
         ensures list { self.new.list ≡ self.old.list }
         ensures choice { self.new.choice ≡ self.old.choice }
         ensures scene { self.new.scene ≡ self.old.scene }
         ensures accounts { OnOk result (HasAccounts self.new (component + 1)) }
+        ensures fault { IfErr result
+            (λ fault. fault ≢ NoMemory → LacksBudgets self.old.list.now fault) }
     {
         let steps = self.scene.of(component);
         let accounts = accounts_of(alloc, self.list, component, steps, sessions)?;
@@ -152,7 +166,8 @@ fn sessions_of(
     steps: &[ComponentLine],
 ) -> Result<Option<ScriptSessions>, BootFault>
     requires { component < length list.now.entries }
-    ensures { IfOk result (IsSessionsOf list.now component) }
+    ensures sessions { IfOk result (IsSessionsOf list.now component steps.now) }
+    ensures fault { IfErr result (λ fault. fault ≢ NoMemory → LacksBudgets list.now fault) }
 {
     match ScriptSearch::of(list, component) {
         Some(search) => {
@@ -172,8 +187,9 @@ fn accounts_of(
     sessions: Option<ScriptSessions>,
 ) -> Result<Vec<AccountBudgets>, BootFault>
     requires there { component < length list.now.entries }
-    requires sessions { IsSessionsOf list.now component sessions }
-    ensures { IfOk result (λ accounts. AreAccountsOf list.now component steps.now accounts.items) }
+    requires sessions { IsSessionsOf list.now component steps.now sessions }
+    ensures accounts { IfOk result (λ accounts. AreAccountsOf list.now component steps.now accounts.items) }
+    ensures fault { IfErr result (λ fault. fault ≢ NoMemory → LacksBudgets list.now fault) }
 {
     let Some(sessions) = sessions else {
         return server_accounts(alloc, list, component);
@@ -192,9 +208,12 @@ fn script_accounts(
     sessions: ScriptSessions,
 ) -> Result<Vec<AccountBudgets>, BootFault>
     requires given { IsGiven search.now }
-    requires sessions { AreSessionAccounts search.now.component sessions.accounts.items }
-    ensures { IfOk result (λ accounts.
+    requires sessions { AreSessionAccounts search.now.list.now search.now.component steps.now
+        sessions.accounts.items }
+    ensures accounts { IfOk result (λ accounts.
         AreAccountsOf search.now.list.now search.now.component steps.now accounts.items) }
+    ensures fault { IfErr result
+        (λ fault. fault ≢ NoMemory → LacksBudgets search.now.list.now fault) }
 {
     let own = search.own(alloc, steps, &sessions.given)?;
     let mut accounts = sessions.accounts;
@@ -210,8 +229,9 @@ fn server_accounts(
 ) -> Result<Vec<AccountBudgets>, BootFault>
     requires there { component < length list.now.entries }
     requires other { (own_entry list.now component).kind ≢ AScript }
-    ensures { IfOk result (λ accounts. (steps : List ComponentLine) →
+    ensures accounts { IfOk result (λ accounts. (steps : List ComponentLine) →
         AreAccountsOf list.now component steps accounts.items) }
+    ensures fault { IfErr result (λ fault. fault ≡ NoMemory) }
 {
     let given = budget_of(&list.entries()[component]);
     let idle = AccountBudgets::idle(alloc, component, given)?;

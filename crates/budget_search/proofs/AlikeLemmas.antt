@@ -1,5 +1,5 @@
 -- What a start list tells of a component's calls hangs on no budget.
-use Rattle.std.proofs.Common.{◌≡◌, ℕ, zero, suc, ◌+◌, ◌<◌, ◌==◌, cond, ◌&&◌, Bool, false, true, List, [], ◌∷◌, ◌++◌, inl, inr, length, map, refl, sym, ap, arith, ◌∙◌}
+use Rattle.std.proofs.Common.{◌≡◌, ℕ, zero, suc, ◌+◌, ◌<◌, ◌==◌, cond, ◌&&◌, Bool, false, true, List, [], ◌∷◌, ◌++◌, inl, inr, length, map, refl, sym, subst, ap, arith, ◌∙◌}
 use Rattle.std.proofs.lemmas.List.{length-map}
 use Rattle.std.proofs.lemmas.Option.{none-some, same_Some, slice_get-map, slice_get_cases, unwrap_or-slice_get}
 use Rattle.std.proofs.lemmas.List.Sums.{sum_by-cons}
@@ -18,6 +18,7 @@ use Rattle.own_model.specs.Amounts.{Amounts, no_amounts}
 use Rattle.own_model.specs.StartList.{StartEntry, of_component, start_state}
 use Rattle.own_model.specs.StartList.Kind.{Script}
 use Rattle.own_model.specs.Transcript.{nobody, nothing}
+use Rattle.own_model.specs.World.{World, start_world}
 use Rattle.budget_theorems.specs.Need.{budgeted}
 use Rattle.list_parser.specs.Depth.{runs_script}
 use Rattle.budget_meter.specs.Needs.{amounts_of}
@@ -25,6 +26,7 @@ use Rattle.budget_meter.specs.declared.budget.Budget.{Budget}
 use Rattle.list_parser.specs.Budgets.{bare, but_budgets, entry_with_budget, entry_with_reserve, with_budget, with_reserve}
 use Rattle.list_parser.proofs.BudgetLemmas.{budget_aside, changed_there, reserve_aside}
 use Rattle.budget_search.specs.Alike.{budget_at, given_in, IsFunded, own_entry, own_state}
+use Rattle.budget_search.specs.OpenedSessions.{IsReadyFor}
 use Rattle.budget_search.specs.Run.{Begins}
 
 -- ---- lists that a function makes
@@ -218,6 +220,28 @@ module _ (machine list : Listed) (component : ℕ) (budget : Amounts) (there : c
 
   pub funded_begins : (own_entry list component).kind ≡ Script → Begins (start_list_of machine) component budget (own_state list component)
   funded_begins script = begins machine list component (entry_with_budget budget given.0) given.0 has given.1 funded.alike script budget refl refl refl
+
+  -- where the list has just booted, the component has called nothing, if it is a script
+  pub ready_first : (own_entry list component).kind ≡ Script → (core : World) → core ≡ start_world (start_list_of machine) → (client : ℕ) → client ≡ component →
+      IsReadyFor (own_entry list component) core client
+  ready_first script core booted client is =
+      subst (λ n. IsReadyFor (own_entry list component) core n) (sym is)
+      (subst (λ w. IsReadyFor (own_entry list component) w component) (sym booted) (record {
+        ready = record {
+          script = ap (λ entry. entry.kind) funded_entry ∙ script;
+          entry = omega (arith, within, length-map (start_list_of machine).starts (λ (start : StartEntry). start.entry), length-map machine.entries (start_of machine));
+          there = omega (arith, within, length-map (start_list_of machine).starts start_state, length-map machine.entries (start_of machine));
+          here = ap (λ s. s.gone) started;
+          selectors = ap (λ s. s.selectors) started;
+        };
+        same = funded_entry;
+      }))
+    where
+      within : component < length machine.entries
+      within = omega (arith, there, same_count machine list funded.alike)
+
+      started : own_state machine component ≡ start_state (start_of machine (entry_with_budget budget given.0))
+      started = state_named machine component (entry_with_budget budget given.0) has
 
 -- once all is taken away, and the inits are given enough, the component is given what it had but for its budget
 pub is_funded : (machine list : Listed) (component : ℕ) (budget : Amounts) (entry : ListedEntry) → slice_get list.entries component ≡ Some entry →

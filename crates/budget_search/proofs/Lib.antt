@@ -9,3 +9,7 @@ pub mod AlikeLemmas
 pub mod HeldLemmas
 pub mod SessionLemmas
 pub mod AskLemmas
+pub mod CountLemmas
+pub mod SeenLemmas
+pub mod FundedLemmas
+pub mod FaultLemmas

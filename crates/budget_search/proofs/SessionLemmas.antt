@@ -1,7 +1,7 @@
 -- The run of a session on a core, by a client that has no other.
 use Rattle.std.proofs.lemmas.List.{drop_all}
 use Rattle.std.proofs.lemmas.Option.{none-some, same_Some}
-use Rattle.std.proofs.Common.{arith, cond, ◌||◌, ◌≡◌, ℕ, ◌+◌, ◌<◌, ◌≤◌, Bool, true, false, List, [], ◌∷◌, length, drop, get_or, drop-cons, add-one, refl, sym, ap, ◌∙◌, subst, get_or-set_same, length-set}
+use Rattle.std.proofs.Common.{arith, cond, ◌||◌, ◌≡◌, ℕ, ◌+◌, ◌<◌, ◌≤◌, Bool, true, false, true≢false, List, [], ◌∷◌, length, drop, get_or, drop-cons, add-one, refl, sym, ap, ◌∙◌, subst, get_or-set_same, length-set}
 use Rattle.std.specs.Prelude.{Option, Some, None, is_some, slice_get, codes, IfOk, OnOk, Result, Ok, Err}
 use Rattle.std.specs.FinMap as map
 use Rattle.std.specs.FinMap.{get}
@@ -28,9 +28,9 @@ use Rattle.core_calls.specs.declared.quotas.Quotas.{Quotas}
 use Rattle.budget_meter.proofs.HeardLemmas.{there}
 use Rattle.budget_meter.proofs.SessionLemmas.{all_left, none_left}
 use Rattle.budget_meter.specs.Metered.{is_script}
-use Rattle.budget_theorems.specs.Test.{arguments_tests}
+use Rattle.budget_theorems.specs.Test.{arguments_tests, test_of}
 use Rattle.budget_meter.specs.NeededAmounts.{amount_tests}
-use Rattle.budget_meter.specs.Needs.{shown_by, shown_in}
+use Rattle.budget_meter.specs.Needs.{amounts_of, shown_by, shown_in}
 use Rattle.budget_meter.specs.SessionRuns.{Sent, opens_none, opening_need, run_needs, run_in_want, opened_needs, opened_in_want}
 use Rattle.budget_meter.specs.SessionRuns.Sent.{Asks, Raises}
 use Rattle.budget_meter.specs.Sessions.{IsLeft, IsServedBy, HasReached, Shows}
@@ -220,6 +220,81 @@ none_closes world after client reply told stepped ready =
     = ap (λ (x : Outcome). x.next) (answered world after client (Close 1) reply told stepped map.empty ready) ∙ ap (λ session. (session_closed 1 session t).next) nothing_named in
     moved world after client (Close 1) reply told stepped map.empty ready map.empty (ap (λ x. x.gone) is ∙ ready.here) (ap (λ x. x.selectors) is ∙ ready.selectors)
 
+-- ---- a request that is routed
+
+-- a session is there only if a server is found
+found_there : (label : List ℕ) (arguments : Arguments) (s : OwnState) → s.selectors ≡ map.empty → (server : Option ServerAt) →
+    is_some (session_named (get (opened_by (routed_request label arguments server) s).next.selectors 1)) ≡ true → is_some server ≡ true
+found_there label arguments s none (Some server) there = refl
+found_there label arguments s none None there =
+    absurd (true≢false (sym there ∙ ap (λ m. is_some (session_named (get m 1))) none ∙ ap (λ o. is_some (session_named o)) (get-empty 1)))
+
+-- and so a donation is too small
+found_small : (label : List ℕ) (arguments : Arguments) (s : OwnState) (server : Option ServerAt) →
+    is_too_small (reply_text (opened_by (routed_request label arguments server) s).reply) ≡ true → is_some server ≡ true
+found_small label arguments s (Some server) small = refl
+found_small label arguments s None small = absurd (true≢false (sym small))
+
+made_found : (label : List ℕ) (arguments : Arguments) (server : Option ServerAt) → is_some server ≡ true → is_some (made_by (routed_request label arguments server)) ≡ true
+made_found label arguments (Some server) found = refl
+made_found label arguments None found = absurd (true≢false (sym found))
+
+module _ (entry : Entry) (service given text : List ℕ) (donation : Amounts) (s : OwnState) (none : s.selectors ≡ map.empty) where
+  abbrev requested : Arguments → Arguments
+  requested arguments = record { ram = donation.ram; caps = donation.caps; label = arguments.label }
+
+  abbrev Reads : Option Arguments → Type 0
+  Reads o = (arguments : Arguments) → o ≡ Some arguments → arguments_of text ≡ Some (requested arguments)
+
+  -- a session is there: the request with the given arguments is routed
+  pub routed_there : (o : Option Arguments) → is_some o ≡ true → Reads o →
+      is_some (session_named (get (opened_by (wish entry.label entry.routes service text) s).next.selectors 1)) ≡ true →
+      is_some (made_by (resolved_request entry.label entry.routes service o)) ≡ true
+  routed_there None some reads there = absurd (true≢false (sym some))
+  routed_there (Some arguments) some reads there =
+      let server = provider entry.routes service arguments.label in
+      made_found entry.label arguments server
+      (found_there entry.label (requested arguments) s none server
+      (sym (ap (λ a. is_some (session_named (get (opened_by (resolved_request entry.label entry.routes service a) s).next.selectors 1))) (reads arguments refl)) ∙ there))
+
+  -- or its donation is too small
+  pub routed_small : (o : Option Arguments) → is_some o ≡ true → Reads o →
+      is_too_small (reply_text (opened_by (wish entry.label entry.routes service text) s).reply) ≡ true →
+      is_some (made_by (resolved_request entry.label entry.routes service o)) ≡ true
+  routed_small None some reads small = absurd (true≢false (sym some))
+  routed_small (Some arguments) some reads small =
+      let server = provider entry.routes service arguments.label in
+      made_found entry.label arguments server
+      (found_small entry.label (requested arguments) s server
+      (sym (ap (λ a. is_too_small (reply_text (opened_by (resolved_request entry.label entry.routes service a) s).reply)) (reads arguments refl)) ∙ small))
+
+module _ (world after : World) (client : ℕ) (service given text reply : List ℕ) (donation : Amounts) (told : reply ≡ reply_text (outcome_at world client (Open service text)).reply)
+    (stepped : after ≡ with_state world client (outcome_at world client (Open service text)).next) (ready : IsReady world client)
+    (some : is_some (arguments_of given) ≡ true)
+    (reads : (arguments : Arguments) → arguments_of given ≡ Some arguments → arguments_of text ≡ Some (record { ram = donation.ram; caps = donation.caps; label = arguments.label })) where
+  abbrev caller : Entry
+  caller = entry_at world.entries client
+
+  abbrev before : OwnState
+  before = state_at world.states client
+
+  asks : own_step caller (Open service text) before ≡ opened_by (wish caller.label caller.routes service text) before
+  asks = answered world after client (Open service text) reply told stepped map.empty ready
+
+  -- the session is open, so it was routed
+  pub routed_open : (account : Quotas) → Some (quotas_account account) ≡ option_map (λ (x : Session). x.account) (session_named (get (state_at after.states client).selectors 1)) →
+      is_some (made_by (wish caller.label caller.routes service given)) ≡ true
+  routed_open account is =
+      routed_there caller service given text donation before ready.selectors (arguments_of given) some reads
+      (sym (ap is_some is ∙ mapped (λ (x : Session). x.account) (session_named (get (state_at after.states client).selectors 1))
+      ∙ ap (λ t. is_some (session_named (get t.selectors 1))) (stands world after client (Open service text) reply told stepped map.empty ready ∙ ap (λ (x : Outcome). x.next) asks)))
+
+  -- or its donation is too small, so it was too
+  pub routed_few : is_too_small reply ≡ true → is_some (made_by (wish caller.label caller.routes service given)) ≡ true
+  routed_few small =
+      routed_small caller service given text donation before ready.selectors (arguments_of given) some reads
+      (sym (ap is_too_small (told ∙ ap (λ (x : Outcome). reply_text x.reply) asks)) ∙ small)
+
 -- ---- the opening
 
 module _ (world after : World) (client : ℕ) (service text reply : List ℕ) (told : reply ≡ reply_text (outcome_at world client (Open service text)).reply)
@@ -373,9 +448,16 @@ pub no_arguments : (o : Option Arguments) → amount_tests None ≡ arguments_te
 no_arguments None is = refl
 no_arguments (Some more) is = absurd (cc)
 
-pub some_arguments : (asked : Budget) (o : Option Arguments) → amount_tests (Some asked) ≡ arguments_tests o → (more : Arguments) × (o ≡ Some more)
-some_arguments asked None is = absurd (cc)
-some_arguments asked (Some more) is = (more, refl)
+-- the arguments donate what was found
+pub arguments_named : (asked : Budget) (o : Option Arguments) → amount_tests (Some asked) ≡ arguments_tests o →
+    (more : Arguments) × ((o ≡ Some more) × (amounts_of asked ≡ record { ram = more.ram; caps = more.caps }))
+arguments_named asked None is = absurd (cc)
+arguments_named asked (Some more) is =
+    (more, (refl, λ i. record { ram = (get_or (is i) 0 (test_of 0 0)).ram; caps = (get_or (is i) 0 (test_of 0 0)).caps }))
+
+pub some_is : {X : Type 0} (o : Option X) → is_some o ≡ true → (x : X) × (o ≡ Some x)
+some_is (Some x) some = (x, refl)
+some_is None some = absurd (true≢false (sym some))
 
 -- what is so of an answer, where that is given
 pub each_ok : {X E : Type 0} {P Q : X → Type 0} (r : Result X E) → ((x : X) → P x → Q x) → IfOk r P → IfOk r Q

@@ -1,6 +1,5 @@
 -- Accounts that need nothing, or so much for others.
-use Rattle.std.specs.Prelude.{◌≡◌, ℕ, true, List, [], ◌∷◌, nat_eq, is_some, if◌then◌else◌, Option, Some, None}
-use Rattle.std.specs.List.{AllByRecursion}
+use Rattle.std.specs.Prelude.{◌≡◌, ℕ, false, List, [], ◌∷◌, nat_eq, if◌then◌else◌, Option, Some, None}
 use Rattle.own_model.specs.Amounts.{Amounts, no_amounts}
 use Rattle.budget_meter.specs.Needs.{amounts_of}
 use Rattle.budget_search.specs.declared.account_budgets.AccountBudgets.{AccountBudgets}
@@ -12,7 +11,7 @@ abbrev pub need_rows : Option Amounts → List BudgetInterval
 need_rows None = []
 need_rows (Some need) = record { ram_from = need.ram; ram_below = None; caps_from = need.caps; likeness = Same } ∷ []
 
--- the accounts of a component have the intervals of what it needs, and all else of each account stays
+-- the accounts of a component have the intervals of what it needs, and all else of each account stays; so do other accounts
 pub record IsChanged (component : ℕ) (need : Option Amounts) (old new : AccountBudgets) : Type 0 where
   pub same : new.component ≡ old.component
   pub session : new.session ≡ old.session
@@ -23,6 +22,7 @@ pub record IsChanged (component : ℕ) (need : Option Amounts) (old new : Accoun
   pub left_out : new.found.left_out.items ≡ old.found.left_out.items
   pub refused : new.found.refused ≡ old.found.refused
   pub rows : new.found.rows.items ≡ (if nat_eq old.component component then need_rows need else old.found.rows.items)
+  pub others : nat_eq old.component component ≡ false → new ≡ old
 
 -- the own account of a component that makes no calls, with the budget that is given: every budget suffices, and no line is short
 -- of quota or left out
@@ -37,12 +37,3 @@ pub record IsIdle (component : ℕ) (given : Amounts) (account : AccountBudgets)
   pub gaps : account.found.holes.items ≡ []
   pub left_out : account.found.left_out.items ≡ []
   pub refused : account.found.refused ≡ None
-
--- an account is that of a session of a component, and has no reserve
-pub record IsSessionAccount (component : ℕ) (account : AccountBudgets) : Type 0 where
-  pub same : account.component ≡ component
-  pub session : is_some account.session ≡ true
-  pub reserve : amounts_of account.reserve ≡ no_amounts
-
-abbrev pub AreSessionAccounts : ℕ → List AccountBudgets → Type 0
-AreSessionAccounts component accounts = AllByRecursion (λ account. IsSessionAccount component account) accounts

@@ -1,5 +1,5 @@
 -- Components of start lists, and lists in which one has another budget.
-use Rattle.std.specs.Prelude.{◌≡◌, ◌-◌, ℕ}
+use Rattle.std.specs.Prelude.{◌≡◌, ◌≢◌, ◌+◌, ◌-◌, ◌*◌, ◌≤◌, ℕ, Some}
 use Rattle.std.specs.List.{slice_get}
 use Rattle.std.specs.Option.{option_map, unwrap_or}
 use Rattle.own_model.specs.Amounts.{Amounts, no_amounts}
@@ -7,7 +7,7 @@ use Rattle.own_model.specs.Listed.{Listed, ListedEntry, reserve_of, start_list_o
 use Rattle.own_model.specs.OwnState.{OwnState}
 use Rattle.own_model.specs.StartList.{Entry, entries_of, start_states}
 use Rattle.own_model.specs.Transcript.{entry_at, state_at}
-use Rattle.list_parser.specs.Budgets.{but_budgets, with_budget}
+use Rattle.list_parser.specs.Budgets.{bare, but_budgets, with_budget}
 
 -- a component of a list, and how it starts
 abbrev pub own_entry : Listed → ℕ → Entry
@@ -43,3 +43,11 @@ most_in list component = record {
 pub record IsFunded (machine list : Listed) (component : ℕ) (budget : Amounts) : Type 0 where
   pub alike : but_budgets machine ≡ but_budgets list
   pub given : slice_get machine.entries component ≡ slice_get (with_budget list component budget).entries component
+
+-- nothing but a component has a budget or a reserve, and it has no more than this in all, of which the machine has as much
+pub record HasAlone (list : Listed) (component : ℕ) (most : Amounts) : Type 0 where
+  pub others : (place : ℕ) (entry : ListedEntry) → place ≢ component → slice_get list.entries place ≡ Some entry → entry ≡ bare entry
+  pub own_ram : (entry : ListedEntry) → slice_get list.entries component ≡ Some entry → entry.ram + (reserve_of entry).ram ≤ most.ram
+  pub own_caps : (entry : ListedEntry) → slice_get list.entries component ≡ Some entry → entry.caps + (reserve_of entry).caps ≤ most.caps
+  pub ram : most.ram ≤ list.pages * 4096
+  pub caps : most.caps ≤ list.caps

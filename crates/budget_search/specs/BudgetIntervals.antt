@@ -3,12 +3,14 @@ use Rattle.std.specs.Prelude.{◌≡◌, ◌≤◌, ◌<◌, ℕ, suc, ◌&&◌,
 use Rattle.std.specs.List.{AllByRecursion, list_any}
 use Rattle.std.specs.Str.{bytes_eq}
 use Rattle.own_model.specs.Amounts.{Amounts}
+use Rattle.list_parser.specs.declared.fault.BootFault.{BootFault}
 use Rattle.budget_theorems.specs.Need.{Need, IsBelow}
 use Rattle.budget_theorems.specs.Intervals.{is_covered, stretches}
 use Rattle.budget_meter.specs.Needs.{shown_by, shown_in}
 use Rattle.budget_search.specs.declared.budget_intervals.BudgetChoice.{BudgetChoice}
 use Rattle.budget_search.specs.declared.budget_intervals.BudgetChoice.TheVariants.{Minimum, Safe}
 use Rattle.budget_search.specs.declared.budget_intervals.BudgetInterval.{BudgetInterval}
+use Rattle.budget_search.specs.declared.budget_intervals.BudgetIntervals.{BudgetIntervals}
 use Rattle.budget_search.specs.declared.budget_intervals.Likeness.{Likeness}
 use Rattle.budget_search.specs.declared.budget_intervals.Likeness.TheVariants.{Same, Mixed, Other}
 use Rattle.budget_search.specs.declared.trial.BudgetTrial.{BudgetTrial}
@@ -115,6 +117,15 @@ pub data IsAdded (told : Likeness) (old new : List BudgetInterval) : Type 0 wher
   in_one : (row above : BudgetInterval) (rest : List BudgetInterval) → row.likeness ≡ told → old ≡ rest ++ above ∷ [] →
       new ≡ rest ++ joined_with above row ∷ [] → IsAdded told old new
 
+-- ---- what is found
+
+-- the same is found: the intervals and the gaps between them, the lines that are left out, and the refused line
+pub record IsFoundAlike (one other : BudgetIntervals) : Type 0 where
+  pub rows : one.rows.items ≡ other.rows.items
+  pub gaps : one.holes.items ≡ other.holes.items
+  pub left_out : one.left_out.items ≡ other.left_out.items
+  pub refused : one.refused ≡ other.refused
+
 -- ---- runs
 
 -- a run from this RAM, of at most so much, has an interval that ends directly above it, or has no end
@@ -139,3 +150,9 @@ pub record Follows (each : Amounts → List Need) (want : Amounts → Bool) (cap
   pub within : IfSome next (λ n. n ≤ top)
   pub covers : (budget : Amounts) → budget.ram ≤ top → (runs : ℕ) →
       covered_with each want caps new runs next budget ≡ covered_with each want caps old (suc runs) (Some ram) budget
+
+-- a run from no more than this RAM has this error
+pub record FailsWithin (fails : ℕ → BootFault → Type 0) (top : ℕ) (fault : BootFault) : Type 0 where
+  pub ram : ℕ
+  pub within : ram ≤ top
+  pub its : fails ram fault

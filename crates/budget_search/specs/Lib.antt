@@ -11,5 +11,7 @@ pub mod Alike
 pub mod Own
 pub mod OpenedSessions
 pub mod ReachedSessions
+pub mod SessionAccounts
 pub mod Shortages
 pub mod Replies
+pub mod NoBudgets

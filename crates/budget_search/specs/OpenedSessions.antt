@@ -90,6 +90,11 @@ pub record HasSelectors (world : World) (client : ℕ) (which : NatMap Object) :
 abbrev pub IsReady : World → ℕ → Type 0
 IsReady world client = HasSelectors world client map.empty
 
+-- and its list has this entry for it
+pub record IsReadyFor (entry : Entry) (world : World) (client : ℕ) : Type 0 where
+  pub ready : IsReady world client
+  pub same : entry_at world.entries client ≡ entry
+
 -- of what it sends to its session in a run from a donation this is left, and nothing that its meter observed was short of quota
 pub record HasLeft (world : World) (client : ℕ) (heard : SessionMeter) (sent rest : List Sent) (session : Session) (donation : Amounts) : Type 0 where
   pub now : Session

@@ -2,6 +2,7 @@
 use Rattle.std.specs.Prelude.{◌≡◌, ◌≢◌, ◌⊎◌, ◌+◌, ◌&&◌, ℕ, Bool, true, false, not, List, [], ◌∷◌, ◌++◌, codes, length, map, replicate, slice_get, if◌then◌else◌, Option, Some, None, IfSome, IfNone}
 use Rattle.std.specs.Option.{option_and_then}
 use Rattle.std.specs.Str.{bytes_eq}
+use Rattle.own_model.specs.Amounts.{Amounts, no_amounts}
 use Rattle.own_model.specs.Call.{Call, is_exit}
 use Rattle.own_model.specs.Call.Call.{Open, CallSession, Upgrade, Close}
 use Rattle.own_model.specs.Listed.{Listed}
@@ -9,20 +10,30 @@ use Rattle.own_model.specs.Reply.{reply_text}
 use Rattle.own_model.specs.Reply.Reply.{Selected}
 use Rattle.own_model.specs.SessionArgs.{Arguments, arguments_of}
 use Rattle.list_parser.specs.Budgets.{changed_at}
-use Rattle.budget_search.specs.AmpleCalls.{Client, first_client, made_with_enough}
+use Rattle.budget_meter.specs.Needs.{amounts_of}
+use Rattle.budget_search.specs.AmpleCalls.{Client, first_client, made_with_enough, of_word}
 use Rattle.budget_search.specs.Steps.{call_said}
 use Rattle.budget_search.specs.declared.component_line.ComponentLine.{ComponentLine}
 use Rattle.budget_search.specs.declared.opened_sessions.OpenedSession.{OpenedSession}
 use Rattle.budget_search.specs.declared.opened_sessions.OpenedSessions.{OpenedSessions}
 
--- a session: the place of the line that opens it, its selector, and the places of the lines that reach it
+-- a session: the place of the line that opens it, its selector, the donation of its opening, what its upgrades donate in all, and
+-- the places of the lines that reach it
 pub record Reached : Type 0 where
   pub opening : ℕ
   pub selector : ℕ
+  pub donation : Amounts
+  pub raised : Amounts
   pub places : List ℕ
 
 abbrev pub reached_of : OpenedSession → Reached
-reached_of opened = record { opening = opened.step; selector = opened.selector; places = opened.steps.items }
+reached_of opened = record {
+  opening = opened.step;
+  selector = opened.selector;
+  donation = amounts_of opened.donation;
+  raised = amounts_of opened.raised;
+  places = opened.steps.items;
+}
 
 -- the sessions of a component, in the order of their openings, and which of them each selector names
 pub record Sessions : Type 0 where
@@ -48,16 +59,41 @@ reached_by (Some session) place opened = changed_at (λ one. record one { places
 abbrev pub reaches : ℕ → ℕ → Sessions → Sessions
 reaches selector place sessions = record sessions { opened = reached_by (named_in sessions selector) place sessions.opened }
 
+-- the upgrades of a session donate so much more, at most 2^64 - 1 in all
+abbrev pub raised_with : Arguments → Reached → Reached
+raised_with more one = record one {
+  raised = record { ram = of_word (one.raised.ram + more.ram); caps = of_word (one.raised.caps + more.caps) };
+}
+
+-- what arguments donate is one more upgrade of the session that a selector names
+abbrev pub raised_by : Option ℕ → Option Arguments → List Reached → List Reached
+raised_by None more opened = opened
+raised_by (Some session) None opened = opened
+raised_by (Some session) (Some more) opened = changed_at (raised_with more) opened session
+
+abbrev pub upgrades : ℕ → Option Arguments → Sessions → Sessions
+upgrades selector more sessions = record sessions { opened = raised_by (named_in sessions selector) more sessions.opened }
+
 -- a selector names this session from now on, or none
 abbrev pub names : ℕ → Option ℕ → Sessions → Sessions
 names selector owner sessions = record sessions { owners = changed_at (λ other. owner) sessions.owners selector }
+
+-- a session that the line at a place has just opened
+abbrev pub first_reached : ℕ → ℕ → Arguments → Reached
+first_reached place selector named = record {
+  opening = place;
+  selector = selector;
+  donation = record { ram = named.ram; caps = named.caps };
+  raised = no_amounts;
+  places = [];
+}
 
 -- the line at a place opens one session more, if its arguments are in the grammar, and the reply has a selector
 abbrev pub opens : ℕ → Option Arguments → Option ℕ → Sessions → Sessions
 opens place None given sessions = sessions
 opens place (Some named) None sessions = sessions
 opens place (Some named) (Some selector) sessions = record {
-  opened = sessions.opened ++ record { opening = place; selector = selector; places = [] } ∷ [];
+  opened = sessions.opened ++ first_reached place selector named ∷ [];
   owners = changed_at (λ other. Some (length sessions.opened)) sessions.owners selector;
 }
 
@@ -79,7 +115,8 @@ pub record IsShown (text : List ℕ) (came : Came) : Type 0 where
 abbrev pub after_call : Came → ℕ → Call → Sessions → Sessions
 after_call what place (Open service text) sessions = opens place (arguments_of text) what.selector sessions
 after_call what place (CallSession selector request) sessions = reaches selector place sessions
-after_call what place (Upgrade selector text) sessions = if what.done then reaches selector place sessions else sessions
+after_call what place (Upgrade selector text) sessions =
+    if what.done then reaches selector place (upgrades selector (arguments_of text) sessions) else sessions
 after_call what place (Close selector) sessions = if what.done then names selector None sessions else sessions
 after_call what place call sessions = sessions
 

@@ -1,11 +1,12 @@
 //! The budgets of one account.
 
-ghost use Rattle.std.specs.Prelude.{◌≡◌, IfOk, OnOk};
+ghost use Rattle.std.specs.Prelude.{◌≡◌, ◌↔◌, IsTrue, IfOk, OnOk};
 ghost use Rattle.std.specs.Option.{option_map};
 ghost use Rattle.own_model.specs.Amounts.{Amounts};
 ghost use Rattle.budget_meter.specs.Needs.{amounts_of};
 ghost use Rattle.budget_search.specs.BudgetIntervals.{chosen_of, lowest_of, safe_of, serves, AreOrdered};
 ghost use Rattle.budget_search.specs.AccountNeeds.{need_rows, IsChanged, IsIdle};
+ghost use Rattle.budget_search.specs.SessionAccounts.{IsAlike};
 ghost use Rattle.budget_search.specs.Sufficient.{HasLeast, HasSafe};
 
 use crate::budget_intervals::{BudgetChoice, BudgetGap, BudgetInterval, BudgetIntervals, Likeness};
@@ -117,7 +118,9 @@ impl AccountBudgets {
     }
 
     /// Returns whether two sessions are opened by one line and alike in all that a report has of them, except their selectors.
-    pub(crate) fn is_alike(&self, other: &AccountBudgets) -> bool {
+    pub(crate) fn is_alike(&self, other: &AccountBudgets) -> bool
+        ensures { IsTrue result ↔ IsAlike self.now other.now }
+    {
         let (Some(one), Some(two)) = (self.session, other.session) else {
             return false;
         };

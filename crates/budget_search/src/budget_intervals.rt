@@ -1,11 +1,14 @@
 //! All budgets under which an account isn't short of quota, from a few runs.
-ghost use Rattle.std.specs.Prelude.{◌≡◌, ◌≤◌, ◌||◌, ◌∷◌, [], nat_le, suc, ℕ, Bool, List, None, true, reverse, IfOk, IfSome, OnOk};
+ghost use Rattle.std.specs.Prelude.{◌≡◌, ◌≤◌, ◌↔◌, ◌||◌, ◌∷◌, [], IsTrue, nat_le, suc, ℕ, Bool, List, None, true, reverse, IfOk, IfSome, OnOk, ◌≢◌, IfErr};
+ghost use Rattle.list_parser.specs.declared.fault.BootFault.{BootFault as Fault};
+ghost use Rattle.list_parser.specs.declared.fault.BootFault.TheVariants.{NoMemory};
+ghost use Rattle.std.specs.List.{AllByRecursion};
 ghost use Rattle.std.specs.Option.{option_copied, option_map};
 ghost use Rattle.own_model.specs.Amounts.{Amounts};
 ghost use Rattle.budget_theorems.specs.Need.{Need, IsBelow};
 ghost use Rattle.budget_theorems.specs.Intervals.{is_covered, interval_of, stretches};
 ghost use Rattle.budget_meter.specs.Needs.{amounts_of};
-ghost use Rattle.budget_search.specs.BudgetIntervals.{both_alike, chosen_of, covers, is_below, joined_with, likeness_of, lowest_of, safe_before, safe_of, serves, AreOrdered, ArePast, AreRows, BeginFrom, EndsAbove, Follows, IsAdded, IsRowWithin, IsRun};
+ghost use Rattle.budget_search.specs.BudgetIntervals.{both_alike, chosen_of, covers, is_below, joined_with, likeness_of, lowest_of, safe_before, safe_of, serves, AreOrdered, ArePast, AreRows, BeginFrom, EndsAbove, Follows, IsAdded, IsFoundAlike, IsRowWithin, IsRun, FailsWithin};
 
 use crate::trial::{BudgetTrial, RefusedLine, SkippedLine};
 use budget_meter::Budget;
@@ -115,8 +118,16 @@ pub(crate) trait BudgetTrials {
     // The capabilities that each run begins with.
     ghost caps: { Self → ℕ };
 
+    // What the runs leave as it is.
+    ghost Rest: { Type 0 };
+
+    ghost rest: { Self → Rest };
+
     // The need of the run from a budget, and whether it is short of quota.
     ghost AreRuns: { Self → (Amounts → List Need) → (Amounts → Bool) → Type 0 };
+
+    // The errors of the run from so much RAM, except that the host is out of memory.
+    ghost fails: { Self → ℕ → Fault → Type 0 };
 
     /// Runs the calls from this RAM in bytes. The error is that of the run.
     fn run(&mut self, alloc: Global, ram: u64) -> Result<BudgetTrial, BootFault>
@@ -127,7 +138,13 @@ pub(crate) trait BudgetTrials {
             (record { ram = ram; caps = caps self.old }) trial) }
         ensures still { OnOk result ((each : Amounts → List Need) (want : Amounts → Bool) →
             AreRuns self.old each want → AreRuns self.new each want) }
-        ensures caps { caps self.new ≡ caps self.old };
+        ensures caps { caps self.new ≡ caps self.old }
+        ensures rest { rest self.new ≡ rest self.old }
+        ensures fault { IfErr result (λ fault. fault ≢ NoMemory →
+            (each : Amounts → List Need) (want : Amounts → Bool) →
+            AreRuns self.old each want → fails self.old ram fault) }
+        ensures same { (ram : ℕ) (fault : Fault) → fails self.new ram fault →
+            fails self.old ram fault };
 }
 
 /// All budgets under which an account isn't short of quota.
@@ -160,6 +177,12 @@ impl BudgetIntervals {
         ensures ordered { IfOk result (λ found. (each : Amounts → List Need)
             (want : Amounts → Bool) → T.AreRuns trials.old each want →
             AreOrdered (T.caps trials.old) top found.rows.items) }
+        ensures still { OnOk result ((each : Amounts → List Need) (want : Amounts → Bool) →
+            T.AreRuns trials.old each want → T.AreRuns trials.new each want) }
+        ensures rest { T.rest trials.new ≡ T.rest trials.old }
+        ensures fault { IfErr result (λ fault. fault ≢ NoMemory →
+            (each : Amounts → List Need) (want : Amounts → Bool) →
+            T.AreRuns trials.old each want → FailsWithin (T.fails trials.old) top fault) }
     {
         let mut found = BudgetIntervals {
             rows: Vec::new(alloc),
@@ -189,6 +212,14 @@ impl BudgetIntervals {
         ensures ordered { OnOk result ((each : Amounts → List Need) (want : Amounts → Bool) →
             T.AreRuns trials.old each want →
             AreOrdered (T.caps trials.old) top (reverse self.new.rows.items)) }
+        ensures still { OnOk result ((each : Amounts → List Need) (want : Amounts → Bool) →
+            T.AreRuns trials.old each want → T.AreRuns trials.new each want) }
+        ensures rest { T.rest trials.new ≡ T.rest trials.old }
+        ensures same { (ram : ℕ) (fault : Fault) → T.fails trials.new ram fault →
+            T.fails trials.old ram fault }
+        ensures fault { IfErr result (λ fault. fault ≢ NoMemory →
+            (each : Amounts → List Need) (want : Amounts → Bool) →
+            T.AreRuns trials.old each want → FailsWithin (T.fails trials.old) top fault) }
     {
         let mut ram = top;
         // Each run has less RAM than the one before.
@@ -225,6 +256,12 @@ impl BudgetIntervals {
         ensures still { OnOk result ((each : Amounts → List Need) (want : Amounts → Bool) →
             T.AreRuns trials.old each want → T.AreRuns trials.new each want) }
         ensures caps { T.caps trials.new ≡ T.caps trials.old }
+        ensures rest { T.rest trials.new ≡ T.rest trials.old }
+        ensures same { (ram : ℕ) (fault : Fault) → T.fails trials.new ram fault →
+            T.fails trials.old ram fault }
+        ensures fault { IfErr result (λ fault. fault ≢ NoMemory →
+            (each : Amounts → List Need) (want : Amounts → Bool) →
+            T.AreRuns trials.old each want → T.fails trials.old ram fault) }
     {
         let trial = trials.run(alloc, ram)?;
         let choice = trial.meter.choice;
@@ -259,6 +296,7 @@ impl BudgetIntervals {
         ensures likeness { OnOk result (trial.refused ≡ None →
             IsAdded (likeness_of trial.replies.items (option_copied given.entry))
             self.old.rows.items self.new.rows.items) }
+        ensures fault { IfErr result (λ fault. fault ≡ NoMemory) }
     {
         if trial.refused.is_some() {
             if ram == top {
@@ -291,6 +329,7 @@ impl BudgetIntervals {
             × BeginFrom row.ram_from (reverse self.new.rows.items)) }
         ensures likeness { OnOk result
             (IsAdded row.likeness self.old.rows.items self.new.rows.items) }
+        ensures fault { IfErr result (λ fault. fault ≡ NoMemory) }
     {
         if let Some(above) = self.rows.pop() {
             if let Some(both) = above.joined(row) {
@@ -309,7 +348,14 @@ impl BudgetIntervals {
         alloc: Global,
         trials: &mut T,
     ) -> Result<(), BootFault>
-        ensures { self.new.rows ≡ self.old.rows }
+        ensures rows { self.new.rows ≡ self.old.rows }
+        ensures still { OnOk result ((each : Amounts → List Need) (want : Amounts → Bool) →
+            T.AreRuns trials.old each want → T.AreRuns trials.new each want) }
+        ensures rest { T.rest trials.new ≡ T.rest trials.old }
+        ensures fault { IfErr result (λ fault. fault ≢ NoMemory → (top : ℕ) →
+            AllByRecursion (λ row. row.ram_from ≤ top) self.old.rows.items →
+            (each : Amounts → List Need) (want : Amounts → Bool) →
+            T.AreRuns trials.old each want → FailsWithin (T.fails trials.old) top fault) }
     {
         let mut end = None;
         for row in self.rows.as_slice() {
@@ -354,10 +400,12 @@ impl BudgetIntervals {
     }
 
     /// Returns whether all that is found is the same.
-    pub(crate) fn is_alike(&self, other: &BudgetIntervals) -> bool {
-        self.rows.as_slice() == other.rows.as_slice()
-            && self.holes.as_slice() == other.holes.as_slice()
-            && self.left_out.as_slice() == other.left_out.as_slice()
+    pub(crate) fn is_alike(&self, other: &BudgetIntervals) -> bool
+        ensures { IsTrue result ↔ IsFoundAlike self.now other.now }
+    {
+        are_same_intervals(self.rows.as_slice(), other.rows.as_slice())
+            && are_same_gaps(self.holes.as_slice(), other.holes.as_slice())
+            && are_same_lines(self.left_out.as_slice(), other.left_out.as_slice())
             && self.refused == other.refused
     }
 
@@ -370,6 +418,27 @@ impl BudgetIntervals {
             BudgetChoice::Safe => self.safe(),
         }
     }
+}
+
+// Returns whether intervals are the same as others.
+fn are_same_intervals(intervals: &[BudgetInterval], others: &[BudgetInterval]) -> bool
+    ensures { IsTrue result ↔ (intervals.now ≡ others.now) }
+{
+    intervals == others
+}
+
+// Returns whether gaps are the same as others.
+fn are_same_gaps(gaps: &[BudgetGap], others: &[BudgetGap]) -> bool
+    ensures { IsTrue result ↔ (gaps.now ≡ others.now) }
+{
+    gaps == others
+}
+
+// Returns whether lines that are left out are the same as others.
+fn are_same_lines(lines: &[SkippedLine], others: &[SkippedLine]) -> bool
+    ensures { IsTrue result ↔ (lines.now ≡ others.now) }
+{
+    lines == others
 }
 
 // Returns the end of an interval up to this RAM: none, if the RAM is the maximum of the search.

@@ -1,5 +1,5 @@
 //! Donations as the arguments of sessions.
-ghost use Rattle.std.specs.Prelude.{◌≡◌, true, Some, IfOk};
+ghost use Rattle.std.specs.Prelude.{◌≡◌, true, is_some, Some, IfOk};
 ghost use Rattle.own_model.specs.SessionArgs.{Arguments, arguments_of};
 ghost use Rattle.budget_meter.specs.Needs.{amounts_of};
 ghost use Rattle.budget_search.specs.Donations.{donated_text};
@@ -21,7 +21,8 @@ pub(crate) fn args_with(alloc: Global, donation: Budget, args: &[u8]) -> Result<
 
 /// Returns whether arguments have this donation, and the same label as other arguments.
 pub(crate) fn donates(args: &[u8], donation: Budget, given: &[u8]) -> bool
-    ensures { result ≡ true → (arguments : Arguments) →
+    ensures read { result ≡ true → is_some (arguments_of given.now) ≡ true }
+    ensures named { result ≡ true → (arguments : Arguments) →
         arguments_of given.now ≡ Some arguments →
         arguments_of args.now
         ≡ Some (record { ram = donation.ram; caps = donation.caps; label = arguments.label }) }

@@ -1,8 +1,10 @@
 //! Machines on which one component alone has a budget.
-ghost use Rattle.std.specs.Prelude.{◌≡◌, ◌-◌, ◌<◌, ◌^◌, length, IfOk};
+ghost use Rattle.std.specs.Prelude.{◌≡◌, ◌-◌, ◌<◌, ◌^◌, true, length, slice_get, IfOk, None};
 ghost use Rattle.budget_meter.specs.Needs.{amounts_of};
-ghost use Rattle.list_parser.specs.Budgets.{but_budgets};
-ghost use Rattle.budget_search.specs.Alike.{most_in, reserve_in, IsFunded};
+ghost use Rattle.list_parser.specs.Budgets.{but_budgets, with_size};
+ghost use Rattle.list_parser.specs.Quota.{quota_fault};
+ghost use Rattle.budget_search.specs.Alike.{most_in, reserve_in, HasAlone, IsFunded};
+ghost use Rattle.budget_search.specs.NoBudgets.{has_room};
 
 use budget_meter::Budget;
 use list_parser::StartList;
@@ -13,7 +15,8 @@ use trade_base::{Caps, PAGE, Ram};
 pub const LARGEST: u32 = 4096;
 
 /// Returns a copy of a list on the largest machine, in which a component has a budget, its reserve as it was, and each init above
-/// it so much in all. No other component has a budget or a reserve.
+/// it so much in all. No other component has a budget or a reserve. The copy boots if the largest machine has the budget and the
+/// reserve.
 pub fn funded(
     alloc: Global,
     list: &StartList,
@@ -22,28 +25,30 @@ pub fn funded(
 ) -> Result<StartList, AllocError>
     requires there { component < length list.now.entries }
     requires few { budget.caps < 2 ^ 32 }
-    ensures { IfOk result
+    ensures funded { IfOk result
         (λ machine. IsFunded machine list.now component (amounts_of budget)) }
+    ensures boots { IfOk result (λ machine.
+        has_room list.now component (amounts_of budget) ≡ true → quota_fault machine ≡ None) }
 {
     let entry = &list.entries()[component];
     let (ram, caps) = (Ram(budget.ram), Caps(budget.caps as u32));
     let beside = entry.reserve_at_start();
     let mut machine = list.copy(alloc)?;
     take_all(&mut machine);
+    machine.set_budget(component, ram, caps);
+    machine.set_reserve(component, entry.reserve());
     fund_inits(
         &mut machine,
         component,
         Ram(ram.0.saturating_add(beside.ram.0)),
         Caps(caps.0.saturating_add(beside.caps.0)),
     );
-    machine.set_budget(component, ram, caps);
-    machine.set_reserve(component, entry.reserve());
     Ok(machine)
 }
 
 // Takes all budgets and reserves away, and makes the machine the largest.
 fn take_all(machine: &mut StartList)
-    ensures { but_budgets machine.new ≡ but_budgets machine.old }
+    ensures { machine.new ≡ with_size (but_budgets machine.old) 4096 4096 }
 {
     machine.set_size(LARGEST, LARGEST);
     let count = machine.count();
@@ -56,7 +61,10 @@ fn take_all(machine: &mut StartList)
 // Gives each init above a component so much.
 fn fund_inits(machine: &mut StartList, component: usize, ram: Ram, caps: Caps)
     requires { component < length machine.old.entries }
-    ensures { but_budgets machine.new ≡ but_budgets machine.old }
+    ensures alike { but_budgets machine.new ≡ but_budgets machine.old }
+    ensures own { slice_get machine.new.entries component ≡ slice_get machine.old.entries component }
+    ensures boots { HasAlone machine.old component (record { ram = ram.0; caps = caps.0 }) →
+        quota_fault machine.new ≡ None }
 {
     let mut init = machine.home(component);
     while init > 0 {
@@ -69,11 +77,22 @@ fn fund_inits(machine: &mut StartList, component: usize, ram: Ram, caps: Caps)
 /// has a budget or a reserve.
 pub fn ample(alloc: Global, list: &StartList, component: usize) -> Result<StartList, AllocError>
     requires { component < length list.now.entries }
-    ensures { IfOk result
+    ensures funded { IfOk result
         (λ machine. IsFunded machine list.now component (most_in list.now component)) }
+    ensures boots { IfOk result (λ machine.
+        has_room list.now component (most_in list.now component) ≡ true → quota_fault machine ≡ None) }
 {
-    let most = most_beside(reserve_of(list, component));
+    let most = most_of(list, component);
     funded(alloc, list, component, most)
+}
+
+/// Returns the most that a component of a list can have in addition to its reserve: the largest machine's.
+pub fn most_of(list: &StartList, component: usize) -> Budget
+    requires { component < length list.now.entries }
+    ensures amounts { amounts_of result ≡ most_in list.now component }
+    ensures few { result.caps < 2 ^ 32 }
+{
+    most_beside(reserve_of(list, component))
 }
 
 /// Returns the most that a component can have in addition to its reserve: the largest machine's.

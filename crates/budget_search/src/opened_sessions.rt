@@ -1,8 +1,10 @@
 //! The lines of a component that reach each of its sessions, if every account is ample.
-ghost use Rattle.std.specs.Prelude.{◌≡◌, ◌∷◌, ◌+◌, true, false, length, replicate, List, if◌then◌else◌, None, OnOk, IfOk};
+ghost use Rattle.std.specs.Prelude.{◌≡◌, ◌∷◌, ◌+◌, true, false, length, replicate, List, if◌then◌else◌, None, OnOk, IfOk, ◌≢◌, IfErr, Some};
+ghost use Rattle.list_parser.specs.Quota.{quota_fault};
+ghost use Rattle.list_parser.specs.declared.fault.BootFault.TheVariants.{NoMemory};
 ghost use Rattle.core_calls.specs.Call.{model_call, IsWellFormed};
 ghost use Rattle.own_model.specs.SessionArgs.{arguments_of};
-ghost use Rattle.budget_search.specs.ReachedSessions.{after_call, after_left_out, came_with, followed, followed_from, named_in, names, opens, reaches, sessions_of, unopened, IsFollowed, Reach, Sessions};
+ghost use Rattle.budget_search.specs.ReachedSessions.{after_call, after_left_out, came_with, followed, followed_from, named_in, names, opens, reaches, sessions_of, upgrades, unopened, IsFollowed, Reach, Sessions};
 ghost use Rattle.budget_search.specs.declared.component_line.ComponentLine.{ComponentLine};
 
 use crate::ample_client::AmpleClient;
@@ -50,8 +52,10 @@ impl OpenedSessions {
         component: usize,
         steps: &[ComponentLine],
     ) -> Result<OpenedSessions, BootFault>
-        ensures { IfOk result (λ sessions.
+        ensures reached { IfOk result (λ sessions.
             Reach steps.now 0 (followed_from list.now component) (sessions_of sessions)) }
+        ensures fault { IfErr result
+            (λ fault. fault ≢ NoMemory → quota_fault list.now ≡ Some fault) }
     {
         let mut sessions = OpenedSessions::none(alloc)?;
         let reply = Reply::boot(alloc)?;
@@ -78,8 +82,9 @@ impl OpenedSessions {
         client: &mut AmpleClient<R>,
         steps: &[ComponentLine],
     ) -> Result<(), BootFault>
-        ensures { OnOk result (Reach steps.now 0 (followed client.old (sessions_of self.old))
+        ensures sessions { OnOk result (Reach steps.now 0 (followed client.old (sessions_of self.old))
             (sessions_of self.new)) }
+        ensures fault { IfErr result (λ fault. fault ≡ NoMemory) }
     {
         for place in 0..steps.len() {
             if !self.goes_on(alloc, client, &steps[place], place)? {
@@ -105,6 +110,7 @@ impl OpenedSessions {
             (steps : List ComponentLine) →
             Reach (step.now ∷ steps) place (followed client.old (sessions_of self.old))
             (sessions_of self.new)) }
+        ensures fault { IfErr result (λ fault. fault ≡ NoMemory) }
     {
         let Some(call) = step.said() else {
             return Ok(true);
@@ -129,9 +135,10 @@ impl OpenedSessions {
         place: usize,
     ) -> Result<(), BootFault>
         requires { IsWellFormed call }
-        ensures { OnOk result (IsFollowed false place (model_call call.entry)
+        ensures sessions { OnOk result (IsFollowed false place (model_call call.entry)
             (followed client.old (sessions_of self.old))
             (followed client.new (sessions_of self.new))) }
+        ensures fault { IfErr result (λ fault. fault ≡ NoMemory) }
     {
         client.make(alloc, call)?;
         let (selector, is_done) = (client.selector(), client.is_done());
@@ -148,8 +155,9 @@ impl OpenedSessions {
         place: usize,
     ) -> Result<(), BootFault>
         requires { IsWellFormed call }
-        ensures { OnOk result (sessions_of self.new
+        ensures sessions { OnOk result (sessions_of self.new
             ≡ after_call (came_with selector is_done) place (model_call call.entry) (sessions_of self.old)) }
+        ensures fault { IfErr result (λ fault. fault ≡ NoMemory) }
     {
         match call {
             Call::Open { args, .. } => self.open(alloc, selector, args, place),
@@ -171,8 +179,11 @@ impl OpenedSessions {
         args: &[u8],
         place: usize,
     ) -> Result<(), BootFault>
-        ensures { OnOk result (sessions_of self.new
-            ≡ (if is_done then reaches selector place (sessions_of self.old) else sessions_of self.old)) }
+        ensures sessions { OnOk result (sessions_of self.new
+            ≡ (if is_done
+            then reaches selector place (upgrades selector (arguments_of args.now) (sessions_of self.old))
+            else sessions_of self.old)) }
+        ensures fault { IfErr result (λ fault. fault ≡ NoMemory) }
     {
         if !is_done {
             return Ok(());
@@ -194,8 +205,9 @@ impl OpenedSessions {
     // Records a request that isn't made.
     fn leave_out(&mut self, call: Call<'_>, place: usize) -> Result<(), BootFault>
         requires { IsWellFormed call }
-        ensures { OnOk result (sessions_of self.new
+        ensures sessions { OnOk result (sessions_of self.new
             ≡ after_left_out place (model_call call.entry) (sessions_of self.old)) }
+        ensures fault { IfErr result (λ fault. fault ≡ NoMemory) }
     {
         match call {
             Call::CallSession { selector, .. } => self.reach(selector, place),
@@ -211,8 +223,9 @@ impl OpenedSessions {
         args: &[u8],
         step: usize,
     ) -> Result<(), BootFault>
-        ensures { OnOk result (sessions_of self.new
+        ensures sessions { OnOk result (sessions_of self.new
             ≡ opens step (arguments_of args.now) selector (sessions_of self.old)) }
+        ensures fault { IfErr result (λ fault. fault ≡ NoMemory) }
     {
         let Some(donation) = named_by(args) else {
             return Ok(());
@@ -258,8 +271,9 @@ impl OpenedSessions {
 
     // Records that a line reaches the session that a selector names.
     fn reach(&mut self, selector: u64, place: usize) -> Result<(), BootFault>
-        ensures { OnOk result (sessions_of self.new
+        ensures sessions { OnOk result (sessions_of self.new
             ≡ reaches selector place (sessions_of self.old)) }
+        ensures fault { IfErr result (λ fault. fault ≡ NoMemory) }
     {
         let Some(owner) = self.owner(selector) else {
             return Ok(());
@@ -274,9 +288,13 @@ impl OpenedSessions {
 
     // Records the donation of an upgrade for the session that a selector names.
     fn raise(&mut self, selector: u64, args: &[u8])
-        ensures { sessions_of self.new ≡ sessions_of self.old }
+        ensures { sessions_of self.new
+            ≡ upgrades selector (arguments_of args.now) (sessions_of self.old) }
     {
-        let (Some(owner), Some(more)) = (self.owner(selector), named_by(args)) else {
+        let Some(owner) = self.owner(selector) else {
+            return;
+        };
+        let Some(more) = named_by(args) else {
             return;
         };
         if owner >= self.opened.len() {

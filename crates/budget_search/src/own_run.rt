@@ -1,5 +1,7 @@
 //! A run of a component's own calls from a budget.
-ghost use Rattle.std.specs.Prelude.{◌≡◌, ◌<◌, ◌∷◌, [], ℕ, List, false, true, is_some, length, IfOk, IfSome, OnOk, Some, None};
+ghost use Rattle.std.specs.Prelude.{◌≡◌, ◌≢◌, ◌<◌, ◌∷◌, [], ℕ, List, false, true, is_some, length, IfErr, IfOk, IfSome, OnOk, Some, None};
+ghost use Rattle.list_parser.specs.Quota.{quota_fault};
+ghost use Rattle.list_parser.specs.declared.fault.BootFault.TheVariants.{NoMemory};
 ghost use Rattle.own_model.specs.Amounts.{Amounts};
 ghost use Rattle.own_model.specs.Call.{Call as Said, is_exit};
 ghost use Rattle.own_model.specs.Listed.{start_list_of};
@@ -33,10 +35,12 @@ impl BudgetTrial {
         start: Budget,
     ) -> Result<BudgetTrial, BootFault>
         requires { component < length list.now.entries }
-        ensures { IfOk result (λ trial. (s : OwnState) →
+        ensures shows { IfOk result (λ trial. (s : OwnState) →
             Begins (start_list_of list.now) component (amounts_of start) s →
             Shows (entry_at (entries_of (start_list_of list.now)) component) (calls_of steps.now) s
             (amounts_of start) (is_some trial.refused) trial.meter) }
+        ensures fault { IfErr result
+            (λ fault. fault ≢ NoMemory → quota_fault list.now ≡ Some fault) }
     {
         let mut core = boot(alloc, list)?;
         let heard = AccountMeter::new(core.account(component), true);
@@ -65,10 +69,11 @@ impl<'a, R: Router + Drop> OwnRun<'a, R> {
         start: Budget,
     ) -> Result<BudgetTrial, BootFault>
         requires { component < length core.old.entries }
-        ensures { IfOk result (λ trial. (calls : List Said) (budget : Amounts) (s : OwnState) →
-            HasLeft core.old component heard calls (calls_of steps.now) budget s →
+        ensures shows { IfOk result (λ trial. (calls : List Said) (budget : Amounts)
+            (s : OwnState) → HasLeft core.old component heard calls (calls_of steps.now) budget s →
             Shows (entry_at core.old.entries component) calls s budget
             (is_some trial.refused) trial.meter) }
+        ensures fault { IfErr result (λ fault. fault ≡ NoMemory) }
     {
         let mut run = OwnRun {
             core,
@@ -92,6 +97,7 @@ impl<'a, R: Router + Drop> OwnRun<'a, R> {
             budget s →
             Shows (entry_at self.old.core.now.entries self.old.component) calls s budget
             (is_some self.new.trial.refused) self.new.heard.meter) }
+        ensures fault { IfErr result (λ fault. fault ≡ NoMemory) }
     {
         for step in steps {
             if !self.goes_on(step)? {
@@ -119,6 +125,7 @@ impl<'a, R: Router + Drop> OwnRun<'a, R> {
             (calls_with step.now.is_left_out (call_of step.now) rest) budget s →
             Shows (entry_at self.old.core.now.entries self.old.component) calls s budget
             (is_some self.new.trial.refused) self.new.heard.meter) }
+        ensures fault { IfErr result (λ fault. fault ≡ NoMemory) }
     {
         let Some(call) = step.call() else {
             return Ok(true);
@@ -155,6 +162,7 @@ impl<'a, R: Router + Drop> OwnRun<'a, R> {
             (model_call call.entry ∷ rest) budget s →
             Shows (entry_at self.old.core.now.entries self.old.component) calls s budget
             (is_some self.new.trial.refused) self.new.heard.meter) }
+        ensures fault { IfErr result (λ fault. fault ≡ NoMemory) }
     {
         self.core.step(self.component, call, &mut self.reply);
         let after = self.core.account(self.component);

@@ -1,10 +1,13 @@
 //! Runs of a script's own calls from any budget.
-ghost use Rattle.std.specs.Prelude.{◌≡◌, ◌<◌, ◌^◌, length, is_some, IfOk};
+ghost use Rattle.std.specs.Prelude.{◌≡◌, ◌≢◌, ◌<◌, ◌^◌, length, is_some, IfErr, IfOk};
+ghost use Rattle.list_parser.specs.declared.fault.BootFault.TheVariants.{NoMemory};
+ghost use Rattle.budget_search.specs.NoBudgets.{IsUnbooted};
+ghost use Rattle.own_model.specs.StartList.{Entry};
 ghost use Rattle.own_model.specs.StartList.Kind.{Script};
 ghost use Rattle.budget_meter.specs.Needs.{amounts_of};
 ghost use Rattle.budget_meter.specs.Run.{Shows};
 ghost use Rattle.budget_search.specs.Alike.{own_entry, own_state};
-ghost use Rattle.budget_search.specs.BudgetIntervals.{AreOrdered};
+ghost use Rattle.budget_search.specs.BudgetIntervals.{AreOrdered, FailsWithin};
 ghost use Rattle.budget_search.specs.Own.{AreExact, AreOwnRuns};
 ghost use Rattle.budget_search.specs.Steps.{calls_of};
 
@@ -26,9 +29,11 @@ pub(crate) fn funded_trial(
 ) -> Result<BudgetTrial, BootFault>
     requires there { component < length list.now.entries }
     requires few { budget.caps < 2 ^ 32 }
-    ensures { IfOk result (λ trial. (own_entry list.now component).kind ≡ Script →
+    ensures shows { IfOk result (λ trial. (own_entry list.now component).kind ≡ Script →
         Shows (own_entry list.now component) (calls_of steps.now) (own_state list.now component)
         (amounts_of budget) (is_some trial.refused) trial.meter) }
+    ensures fault { IfErr result (λ fault. fault ≢ NoMemory →
+        IsUnbooted list.now component (amounts_of budget) fault) }
 {
     let machine = funded(alloc, list, component, budget)?;
     let trial = BudgetTrial::of_account(alloc, &machine, component, steps, budget)?;
@@ -50,6 +55,10 @@ pub(crate) fn own_rows(
         AreExact list.now component steps.now most.caps most.ram found.rows.items) }
     ensures ordered { IfOk result (λ found. (own_entry list.now component).kind ≡ Script →
         AreOrdered most.caps most.ram found.rows.items) }
+    ensures fault { IfErr result (λ fault. fault ≢ NoMemory →
+        (own_entry list.now component).kind ≡ Script →
+        FailsWithin (λ ram its. IsUnbooted list.now component (record { ram = ram; caps = most.caps }) its)
+        most.ram fault) }
 {
     let mut trials = OwnTrials {
         caps: most.caps,
@@ -75,8 +84,15 @@ struct OwnTrials<'a> {
 impl BudgetTrials for OwnTrials<'_> {
     ghost caps = { λ trials. trials.caps };
 
+    ghost Rest = { Entry };
+
+    ghost rest = { λ trials. own_entry trials.list.now trials.component };
+
     ghost AreRuns = { λ trials each want.
         AreOwnRuns trials.list.now trials.component trials.steps.now each want };
+
+    ghost fails = { λ trials ram fault.
+        IsUnbooted trials.list.now trials.component (record { ram = ram; caps = trials.caps }) fault };
 
     fn run(&mut self, alloc: Global, ram: u64) -> Result<BudgetTrial, BootFault> {
         let caps = self.caps;

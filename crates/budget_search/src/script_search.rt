@@ -1,5 +1,6 @@
 //! The accounts of a script: its sessions', and its own.
 ghost use Rattle.std.specs.Prelude.{◌≡◌, ◌-◌, ◌<◌, ◌^◌, length, IfOk};
+ghost use Rattle.budget_search.specs.SessionAccounts.{number_at};
 
 use crate::account_budgets::{AccountBudgets, GivenBudget, SessionKey};
 use crate::component_line::ComponentLine;
@@ -38,16 +39,23 @@ pub struct ScriptSessions {
 }
 
 impl ScriptSearch<'_> {
-    ghost use Rattle.std.specs.Prelude.{◌≡◌, ◌≢◌, ◌<◌, length, is_some, None, IfNone, IfOk, IfSome, OnOk};
+    ghost use Rattle.std.specs.Prelude.{◌≡◌, ◌≢◌, ◌<◌, ◌∷◌, [], true, length, map, is_some, List, None, IfNone, IfOk, IfSome, OnOk, ◌⊎◌, IfErr, Some};
+    ghost use Rattle.list_parser.specs.Quota.{quota_fault};
+    ghost use Rattle.list_parser.specs.declared.fault.BootFault.TheVariants.{BadConfig, NoMemory};
+    ghost use Rattle.list_parser.specs.declared.fault.ConfigField.TheVariants.{Start};
+    ghost use Rattle.budget_search.specs.NoBudgets.{HasUnlike, LacksBudgets};
     ghost use Rattle.budget_meter.specs.Needs.{amounts_of};
     ghost use Rattle.own_model.specs.StartList.Kind.{Script as AScript};
     ghost use Rattle.budget_meter.specs.Run.{Shows};
-    ghost use Rattle.budget_search.specs.AccountNeeds.{AreSessionAccounts, IsSessionAccount};
-    ghost use Rattle.budget_search.specs.Alike.{given_in, most_in, own_entry, own_state, reserve_in};
+    ghost use Rattle.budget_search.specs.Alike.{given_in, most_in, own_entry, own_state, reserve_in, IsFunded};
     ghost use Rattle.budget_search.specs.BudgetIntervals.{lowest_of, safe_of};
+    ghost use Rattle.budget_search.specs.OpenedSessions.{IsReadyFor};
     ghost use Rattle.budget_search.specs.Own.{suffices_with, AreExact};
+    ghost use Rattle.budget_search.specs.ReachedSessions.{reached_of, Reached};
+    ghost use Rattle.budget_search.specs.SessionAccounts.{AreCounted, AreSessionAccounts, HaveLines, IsAccountOf};
     ghost use Rattle.budget_search.specs.Steps.{calls_of};
     ghost use Rattle.budget_search.specs.Sufficient.{HasLeast, HasSafe};
+    ghost use Rattle.budget_search.specs.declared.account_budgets.AccountBudgets.{AccountBudgets};
 
     /// Returns the search for the budgets of a component of a list, if it is a script.
     pub fn of(list: &StartList, component: usize) -> Option<ScriptSearch<'_>>
@@ -82,7 +90,12 @@ impl ScriptSearch<'_> {
             (own_state self.now.list.now self.now.component) (amounts_of self.now.given)
             (is_some found.given.refused) found.given.meter) }
         ensures accounts { IfOk result (λ found.
-            AreSessionAccounts self.now.component found.accounts.items) }
+            (own_entry self.now.list.now self.now.component).kind ≡ AScript →
+            AreSessionAccounts self.now.list.now self.now.component steps.now found.accounts.items) }
+        ensures fault { IfErr result (λ fault. fault ≢ NoMemory →
+            (own_entry self.now.list.now self.now.component).kind ≡ AScript →
+            amounts_of self.now.given ≡ given_in self.now.list.now self.now.component →
+            LacksBudgets self.now.list.now fault) }
     {
         let given = funded_trial(alloc, self.list, self.component, steps, self.given)?;
         let accounts = self.session_accounts(alloc, steps)?;
@@ -95,7 +108,12 @@ impl ScriptSearch<'_> {
         alloc: Global,
         steps: &[ComponentLine],
     ) -> Result<Vec<AccountBudgets>, BootFault>
-        ensures { IfOk result (λ found. AreSessionAccounts self.now.component found.items) }
+        ensures accounts { IfOk result (λ found.
+            (own_entry self.now.list.now self.now.component).kind ≡ AScript →
+            AreSessionAccounts self.now.list.now self.now.component steps.now found.items) }
+        ensures fault { IfErr result (λ fault. fault ≢ NoMemory →
+            (own_entry self.now.list.now self.now.component).kind ≡ AScript →
+            LacksBudgets self.now.list.now fault) }
     {
         let ample = ample(alloc, self.list, self.component)?;
         let opened = OpenedSessions::of(alloc, &ample, self.component, steps)?;
@@ -110,7 +128,17 @@ impl ScriptSearch<'_> {
         steps: &[ComponentLine],
         sessions: &[OpenedSession],
     ) -> Result<Vec<AccountBudgets>, BootFault>
-        ensures { IfOk result (λ found. AreSessionAccounts self.now.component found.items) }
+        ensures accounts { IfOk result (λ found.
+            (own_entry self.now.list.now self.now.component).kind ≡ AScript →
+            IsFunded ample.now self.now.list.now self.now.component
+            (most_in self.now.list.now self.now.component) →
+            AreCounted self.now.list.now self.now.component steps.now (map reached_of sessions.now) []
+            found.items) }
+        ensures fault { IfErr result (λ fault. fault ≢ NoMemory →
+            (own_entry self.now.list.now self.now.component).kind ≡ AScript →
+            IsFunded ample.now self.now.list.now self.now.component
+            (most_in self.now.list.now self.now.component) →
+            (quota_fault ample.now ≡ Some fault) ⊎ HasUnlike (map reached_of sessions.now) fault) }
     {
         let reply = Reply::boot(alloc)?;
         let core = boot(alloc, ample)?;
@@ -126,7 +154,13 @@ impl ScriptSearch<'_> {
         steps: &[ComponentLine],
         sessions: &[OpenedSession],
     ) -> Result<Vec<AccountBudgets>, BootFault>
-        ensures { IfOk result (λ found. AreSessionAccounts self.now.component found.items) }
+        ensures accounts { IfOk result (λ found.
+            IsReadyFor (own_entry self.now.list.now self.now.component) client.core client.client →
+            AreCounted self.now.list.now self.now.component steps.now (map reached_of sessions.now) []
+            found.items) }
+        ensures fault { IfErr result (λ fault. fault ≢ NoMemory →
+            IsReadyFor (own_entry self.now.list.now self.now.component) client.core client.client →
+            HasUnlike (map reached_of sessions.now) fault) }
     {
         let mut client = client;
         let mut accounts = SessionAccounts::new(alloc);
@@ -145,8 +179,20 @@ impl ScriptSearch<'_> {
         opened: &OpenedSession,
         accounts: &mut SessionAccounts,
     ) -> Result<(), BootFault>
-        ensures { OnOk result (AreSessionAccounts self.now.component accounts.old.accounts.items →
-            AreSessionAccounts self.now.component accounts.new.accounts.items) }
+        ensures ready { OnOk result
+            (IsReadyFor (own_entry self.now.list.now self.now.component) client.old.core client.old.client →
+            IsReadyFor (own_entry self.now.list.now self.now.component) client.new.core client.new.client) }
+        ensures lines { OnOk result (HaveLines accounts.old → HaveLines accounts.new) }
+        ensures counted { OnOk result
+            (IsReadyFor (own_entry self.now.list.now self.now.component) client.old.core client.old.client →
+            HaveLines accounts.old → (rest : List Reached) (end : List AccountBudgets) →
+            AreCounted self.now.list.now self.now.component steps.now rest accounts.new.accounts.items
+            end →
+            AreCounted self.now.list.now self.now.component steps.now (reached_of opened.now ∷ rest)
+            accounts.old.accounts.items end) }
+        ensures fault { IfErr result (λ fault. fault ≢ NoMemory →
+            IsReadyFor (own_entry self.now.list.now self.now.component) client.old.core client.old.client →
+            fault ≡ BadConfig Start) }
     {
         let account = self.session(alloc, client, steps, opened)?;
         accounts.add(account)?;
@@ -181,6 +227,9 @@ impl ScriptSearch<'_> {
             HasSafe (suffices_with self.now.list.now self.now.component steps.now)
             (most_in self.now.list.now self.now.component)
             (safe_of account.found.rows.items)) }
+        ensures fault { IfErr result (λ fault. fault ≢ NoMemory →
+            (own_entry self.now.list.now self.now.component).kind ≡ AScript →
+            LacksBudgets self.now.list.now fault) }
     {
         let reserve = reserve_of(self.list, self.component);
         let most = most_beside(reserve);
@@ -213,7 +262,16 @@ impl ScriptSearch<'_> {
         steps: &[ComponentLine],
         opened: &OpenedSession,
     ) -> Result<AccountBudgets, BootFault>
-        ensures { IfOk result (IsSessionAccount self.now.component) }
+        ensures account { IfOk result (λ account.
+            IsReadyFor (own_entry self.now.list.now self.now.component) client.old.core client.old.client →
+            IsAccountOf self.now.list.now self.now.component steps.now (reached_of opened.now) account) }
+        ensures key { IfOk result (λ account. is_some account.session ≡ true) }
+        ensures ready { OnOk result
+            (IsReadyFor (own_entry self.now.list.now self.now.component) client.old.core client.old.client →
+            IsReadyFor (own_entry self.now.list.now self.now.component) client.new.core client.new.client) }
+        ensures fault { IfErr result (λ fault. fault ≢ NoMemory →
+            IsReadyFor (own_entry self.now.list.now self.now.component) client.old.core client.old.client →
+            fault ≡ BadConfig Start) }
     {
         let reached = SessionLines { steps, opened };
         let given = reached.trial(alloc, client, opened.donation)?;
@@ -253,7 +311,9 @@ pub fn budget_of(entry: &ListEntry) -> Budget
 }
 
 // Returns the number of the scenario's line for a line of a script.
-fn number_of(steps: &[ComponentLine], place: usize) -> u64 {
+fn number_of(steps: &[ComponentLine], place: usize) -> u64
+    ensures { result ≡ number_at steps.now place }
+{
     match steps.get(place) {
         Some(step) => step.number,
         None => 0,

@@ -1,10 +1,13 @@
 //! Runs of a session from any donation.
-ghost use Rattle.std.specs.Prelude.{◌≡◌, Some, slice_get, IfOk};
+ghost use Rattle.std.specs.Prelude.{◌≡◌, Some, slice_get, IfOk, OnOk, ◌≢◌, IfErr};
+ghost use Rattle.list_parser.specs.declared.fault.BootFault.TheVariants.{BadConfig, NoMemory};
+ghost use Rattle.list_parser.specs.declared.fault.ConfigField.TheVariants.{Start};
 ghost use Rattle.own_model.specs.Session.{Session};
+ghost use Rattle.own_model.specs.StartList.{Entry};
 ghost use Rattle.own_model.specs.Transcript.{entry_at};
 ghost use Rattle.budget_meter.specs.Needs.{amounts_of};
 ghost use Rattle.budget_search.specs.BudgetIntervals.{lowest_of, safe_of};
-ghost use Rattle.budget_search.specs.OpenedSessions.{AreExactOf, AreSessionRuns, IsReady, opened_with, sent_at, suffices_of};
+ghost use Rattle.budget_search.specs.OpenedSessions.{AreExactOf, AreSessionRuns, IsReady, IsReadyFor, opened_with, sent_at, suffices_of};
 ghost use Rattle.budget_search.specs.Sufficient.{HasLeast, HasSafe};
 
 use crate::budget_intervals::{BudgetIntervals, BudgetTrials};
@@ -42,34 +45,65 @@ pub(crate) fn session_rows<R: Router + Drop>(
         (slice_get reached.entry.steps.now reached.entry.opened.now.step) ≡ Some session →
         HasSafe (suffices_of (sent_at reached.entry.steps.now reached.entry.opened.now.steps.items) session)
         (amounts_of most) (safe_of found.rows.items)) }
+    ensures ready { OnOk result ((entry : Entry) (session : Session) →
+        IsReadyFor entry client.old.core client.old.client →
+        opened_with entry (slice_get reached.entry.steps.now reached.entry.opened.now.step) ≡ Some session →
+        IsReadyFor entry client.new.core client.new.client) }
+    ensures fault { IfErr result (λ fault. fault ≢ NoMemory → (session : Session) →
+        IsReady client.old.core client.old.client →
+        opened_with (entry_at client.old.core.entries client.old.client)
+        (slice_get reached.entry.steps.now reached.entry.opened.now.step) ≡ Some session →
+        fault ≡ BadConfig Start) }
 {
     let mut trials = SessionTrials {
+        client,
         caps: most.caps,
         reached,
-        client,
     };
     let found = BudgetIntervals::of(alloc, &mut trials, most.ram, given)?;
     Ok(found)
 }
 
 // Runs of a session, each from a donation with the same capabilities.
-#[derive(Drop)]
 struct SessionTrials<'a, R: Router + Drop> {
+    client: &'a mut SessionClient<R>,
     caps: u64,
     reached: SessionLines<'a>,
-    client: &'a mut SessionClient<R>,
+}
+
+impl<R: Router + Drop> Drop for SessionTrials<'_, R> {
+    // The client is returned as it is.
+    fn drop(self)
+        ensures { self.exit.0.now ≡ self.entry.client.now }
+    {
+        let SessionTrials {
+            client: _client,
+            caps: _caps,
+            reached: _reached,
+        } = self;
+    }
 }
 
 impl<R: Router + Drop> BudgetTrials for SessionTrials<'_, R> {
+    ghost use Rattle.std.specs.Borrow.{GName};
     ghost use Rattle.std.specs.Prelude.{slice_get};
+    ghost use Rattle.own_model.specs.StartList.{Entry};
+    ghost use Rattle.own_model.specs.Transcript.{entry_at};
     ghost use Rattle.budget_search.specs.OpenedSessions.{AreSessionRuns, sent_at};
 
     ghost caps = { λ trials. trials.caps };
+
+    ghost Rest = { Entry × GName };
+
+    ghost rest = { λ trials.
+        (entry_at trials.client.now.core.entries trials.client.now.client, trials.client.ghost_name) };
 
     ghost AreRuns = { λ trials each want.
         AreSessionRuns trials.client.now.core trials.client.now.client
         (slice_get trials.reached.steps.now trials.reached.opened.now.step)
         (sent_at trials.reached.steps.now trials.reached.opened.now.steps.items) each want };
+
+    ghost fails = { λ trials ram fault. fault ≡ BadConfig Start };
 
     fn run(&mut self, alloc: Global, ram: u64) -> Result<BudgetTrial, BootFault> {
         let caps = self.caps;

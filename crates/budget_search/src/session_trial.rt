@@ -1,5 +1,7 @@
 //! A run of one session's calls from a donation.
-ghost use Rattle.std.specs.Prelude.{◌≡◌, ◌<◌, ◌∷◌, ℕ, [], List, codes, None, Some, true, false, is_some, length, slice_get, IfOk, OnOk};
+ghost use Rattle.std.specs.Prelude.{◌≡◌, ◌≢◌, ◌<◌, ◌∷◌, ℕ, [], List, codes, None, Some, true, false, is_some, length, slice_get, IfErr, IfOk, OnOk};
+ghost use Rattle.list_parser.specs.declared.fault.BootFault.TheVariants.{BadConfig, NoMemory};
+ghost use Rattle.list_parser.specs.declared.fault.ConfigField.TheVariants.{Start};
 ghost use Rattle.std.specs.FinMap.{get};
 ghost use Rattle.std.specs.Option.{option_map};
 ghost use Rattle.std.specs.Str.{bytes_eq};
@@ -70,8 +72,12 @@ impl SessionLines<'_> {
             opened_with (entry_at client.old.core.entries client.old.client)
             (slice_get self.entry.steps.now self.entry.opened.now.step) ≡ Some session →
             IsReady client.new.core client.new.client) }
+        ensures opened { OnOk result (IsReady client.old.core client.old.client →
+            is_some (opened_with (entry_at client.old.core.entries client.old.client)
+            (slice_get self.entry.steps.now self.entry.opened.now.step)) ≡ true) }
         ensures entries { client.new.core.entries ≡ client.old.core.entries }
         ensures same { client.new.client ≡ client.old.client }
+        ensures fault { IfErr result (λ fault. fault ≢ NoMemory → fault ≡ BadConfig Start) }
     {
         let Some(opening) = self.steps.get(self.opened.step) else {
             return Err(UNLIKE);
@@ -119,6 +125,7 @@ impl SessionLines<'_> {
             quotas_account account ≡ (new_session wish).account →
             HasSelectors client.old.core client.old.client (held (new_session wish) None) →
             IsReady client.new.core client.new.client) }
+        ensures fault { IfErr result (λ fault. fault ≢ NoMemory → fault ≡ BadConfig Start) }
     {
         let heard = SessionMeter::new(alloc, account, client.kinds())?;
         let mut run = SessionRun {
@@ -144,6 +151,7 @@ fn unopened(
     ensures refused { IfOk result (λ trial. is_some trial.refused ≡ true) }
     ensures shown { IfOk result (λ trial. shown_in trial.meter
         ≡ shown_by (amounts_of donation) (opening_need (amounts_of donation) ∷ [])) }
+    ensures fault { IfErr result (λ fault. fault ≢ NoMemory → fault ≡ BadConfig Start) }
 {
     let Some(shortage) = too_small(answer) else {
         return Err(UNLIKE);
@@ -181,7 +189,9 @@ pub(crate) struct SessionClient<R: Router + Drop> {
 }
 
 impl<R: Router + Drop> SessionClient<R> {
-    ghost use Rattle.std.specs.Prelude.{◌≡◌, ◌<◌, ℕ, List, None, Some, true, false, is_some, length, slice_get, IfOk, OnOk};
+    ghost use Rattle.std.specs.Prelude.{◌≡◌, ◌≢◌, ◌<◌, ℕ, List, None, Some, true, false, is_some, length, slice_get, IfErr, IfOk, OnOk};
+    ghost use Rattle.list_parser.specs.declared.fault.BootFault.TheVariants.{BadConfig, NoMemory};
+    ghost use Rattle.list_parser.specs.declared.fault.ConfigField.TheVariants.{Start};
     ghost use Rattle.std.specs.FinMap.{get};
     ghost use Rattle.std.specs.Option.{option_and_then, option_copied, option_map};
     ghost use Rattle.own_model.specs.Amounts.{Amounts};
@@ -265,6 +275,7 @@ impl<R: Router + Drop> SessionClient<R> {
             session donation →
             HasEnded self.new.core self.new.client sent session donation
             (is_some run.new.trial.refused) run.new.heard.meter) }
+        ensures fault { IfErr result (λ fault. fault ≢ NoMemory → fault ≡ BadConfig Start) }
     {
         for place in places {
             if !self.reach(run, steps, *place)? {
@@ -298,6 +309,7 @@ impl<R: Router + Drop> SessionClient<R> {
             session donation →
             HasEnded self.new.core self.new.client sent session donation
             (is_some run.new.trial.refused) run.new.heard.meter) }
+        ensures fault { IfErr result (λ fault. fault ≢ NoMemory → fault ≡ BadConfig Start) }
     {
         match steps.get(place) {
             Some(step) => self.goes_on(run, step),
@@ -324,6 +336,7 @@ impl<R: Router + Drop> SessionClient<R> {
             session donation →
             HasEnded self.new.core self.new.client sent session donation
             (is_some run.new.trial.refused) run.new.heard.meter) }
+        ensures fault { IfErr result (λ fault. fault ≢ NoMemory → fault ≡ BadConfig Start) }
     {
         let Some(call) = step.said() else {
             return Ok(true);
@@ -362,6 +375,7 @@ impl<R: Router + Drop> SessionClient<R> {
             session donation →
             HasEnded self.new.core self.new.client sent session donation
             (is_some run.new.trial.refused) run.new.heard.meter) }
+        ensures fault { IfErr result (λ fault. fault ≢ NoMemory → fault ≡ BadConfig Start) }
     {
         if step.is_left_out {
             run.leave_out(step, self.account(), request)?;
@@ -397,6 +411,7 @@ impl<R: Router + Drop> SessionClient<R> {
             HasLeft self.old.core self.old.client run.old.heard sent
             (sends is_left_out (Some (Upgrade selector args.now)) rest) session donation →
             HasLeft self.new.core self.new.client run.new.heard sent rest session donation) }
+        ensures fault { IfErr result (λ fault. fault ≢ NoMemory → fault ≡ BadConfig Start) }
     {
         if is_left_out {
             return Ok(());
@@ -430,6 +445,7 @@ impl SessionRun {
     ) -> Result<(), BootFault>
         ensures refused { self.new.trial.refused ≡ self.old.trial.refused }
         ensures heard { self.new.heard ≡ self.old.heard }
+        ensures fault { IfErr result (λ fault. fault ≡ NoMemory) }
     {
         match account {
             Some(account) => self.trial.leave_out(

@@ -1,5 +1,6 @@
 //! The result of a run from a budget.
-ghost use Rattle.std.specs.Prelude.{◌≡◌, None, OnOk};
+ghost use Rattle.std.specs.Prelude.{◌≡◌, None, IfErr, OnOk};
+ghost use Rattle.list_parser.specs.declared.fault.BootFault.TheVariants.{NoMemory};
 ghost use Rattle.budget_search.specs.Replies.{kept_text, with_reply};
 ghost use Rattle.budget_search.specs.Shortages.{shortage_reply};
 
@@ -100,6 +101,7 @@ impl BudgetTrial {
         ensures refused { self.new.refused ≡ self.old.refused }
         ensures replies { OnOk result (self.new.replies.items
             ≡ with_reply answer.entry.outcome answer.entry.text.now self.old.replies.items) }
+        ensures fault { IfErr result (λ fault. fault ≡ NoMemory) }
     {
         self.replies.extend_from_slice(kept_text(answer))?;
         self.replies.push(b'\n')?;
@@ -114,7 +116,8 @@ impl BudgetTrial {
         account: Quotas,
         asked: Option<Budget>,
     ) -> Result<(), BootFault>
-        ensures { self.new.refused ≡ self.old.refused }
+        ensures refused { self.new.refused ≡ self.old.refused }
+        ensures fault { IfErr result (λ fault. fault ≡ NoMemory) }
     {
         if let Some(asked) = asked {
             let need = self.meter.need(account, asked);

@@ -1,5 +1,5 @@
 mod FileLemmas
-mod MadeLemmas
+pub mod MadeLemmas
 pub mod StatusLemmas
 pub mod UnfoldingLemmas
 mod VerdictLemmas

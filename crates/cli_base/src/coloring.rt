@@ -13,29 +13,34 @@ pub struct Coloring {
 }
 
 impl Coloring {
+    ghost use Rattle.std.specs.Prelude.{◌≡◌, false, true};
+    ghost use Rattle.cli_options.specs.declared.command_options.Color.TheVariants.{Always, Never};
+
     /// Colours on neither stream.
     pub const NOWHERE: Coloring = Coloring {
         out: false,
         err: false,
     };
 
-    /// Returns which streams are coloured, or none for `Color::Unknown`. `Auto` colours the streams that are terminals, unless
-    /// the environment variable `NO_COLOR` is set and not empty.
-    pub fn asked(rt: &HostRuntime, color: Color) -> Option<Coloring> {
+    /// Returns which streams are coloured. `Auto` colours the streams that are terminals, unless the environment variable
+    /// `NO_COLOR` is set and not empty.
+    pub fn asked(rt: &HostRuntime, color: Color) -> Coloring
+        ensures always { color ≡ Always → result ≡ record { out = true; err = true } }
+        ensures never { color ≡ Never → result ≡ record { out = false; err = false } }
+    {
         match color {
-            Color::Always => Some(Coloring {
+            Color::Always => Coloring {
                 out: true,
                 err: true,
-            }),
-            Color::Never => Some(Coloring::NOWHERE),
+            },
+            Color::Never => Coloring::NOWHERE,
             Color::Auto => {
                 let wanted = !is_unwanted(rt);
-                Some(Coloring {
+                Coloring {
                     out: wanted && rt.stdout().is_terminal(),
                     err: wanted && rt.stderr().is_terminal(),
-                })
+                }
             }
-            Color::Unknown => None,
         }
     }
 }

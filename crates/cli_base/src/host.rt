@@ -1,10 +1,14 @@
 //! The host of a command: its streams, clock and memory, and the files that the command reads.
-ghost use Rattle.std.specs.Prelude.{◌≡◌, ℕ, List, Option, Some, None, Ok, IfErr, IfOk, IfSome, false, is_ok, true};
+ghost use Rattle.std.specs.Prelude.{◌≡◌, ◌∷◌, ℕ, List, [], map, string_bytes, Option, Some, None, Ok, IfErr, IfOk, IfSome, false, is_ok, true};
 ghost use Rattle.std.specs.Option.{option_copied};
+ghost use Rattle.clap.specs.Words.{HasKind, kind_of};
+ghost use Rattle.clap.specs.declared.error.kind.ErrorKind.TheVariants.{InvalidValue, OutOfMemory};
 ghost use Rattle.cli_base.specs.Files.{front_of};
 ghost use Rattle.cli_base.specs.declared.host.ReadFailure.TheVariants.{NoMemory as NoRoom};
 
+use clap::Error;
 use cli_engine::{Input, Source};
+use cli_options::words_given;
 use std::alloc::{AllocError, Global};
 use std::fs::File;
 use std::io::Read;
@@ -33,7 +37,7 @@ impl From<AllocError> for ReadFailure {
     }
 }
 
-/// The host of a command. The path `-` denotes standard input.
+/// The host of a command: it has the arguments of the program, and files. The path `-` denotes standard input.
 pub trait Host {
     /// An open file.
     type File: Read + Drop;
@@ -41,8 +45,20 @@ pub trait Host {
     // The bytes of the file at a path, if they are known: then the file is there, and its bytes are read.
     ghost text_at: { Self → List ℕ → Option (List ℕ) } = { λ _ _. None };
 
+    // The arguments that the program is started with, its name first, if they are known.
+    ghost arguments_of: { Self → Option (List (List ℕ)) } = { λ _. None };
+
     /// Returns the streams, the clock and the memory.
     fn rt(&self) -> &HostRuntime;
+
+    /// Returns the arguments that the program is started with, its name first. Errors in order: an argument isn't UTF-8; the host
+    /// is out of memory.
+    fn arguments(&self) -> Result<Vec<String>, Error>
+        ensures arguments { IfOk result (λ given. IfSome (arguments_of self.now) (λ texts.
+            map string_bytes given.items ≡ texts)) }
+        ensures failed { IfErr result (HasKind (InvalidValue ∷ [])) }
+        ensures memory { IfErr result (λ error. IfSome (arguments_of self.now) (λ _.
+            kind_of error ≡ OutOfMemory)) };
 
     /// Reads the file of a path to its end, or at most `most` bytes if it is some. Errors in order: `Closed` if the file can't be
     /// opened; `Broken` if a read fails. At any point the host can be out of memory.
@@ -66,12 +82,16 @@ pub trait Host {
         ensures { IfSome (text_at self.now path.now) (λ _. result ≡ Ok true) };
 }
 
-// What a file holds isn't known.
+// What a file holds isn't known, nor what the arguments are.
 impl Host for HostRuntime {
     type File = File;
 
     fn rt(&self) -> &HostRuntime {
         self
+    }
+
+    fn arguments(&self) -> Result<Vec<String>, Error> {
+        words_given(self)
     }
 
     fn read(&self, path: &str, most: Option<usize>) -> Result<Vec<u8>, ReadFailure> {

@@ -11,7 +11,7 @@ use std::io::{ErrorKind, Write};
 use std::{fmt, io};
 use view_diagnostics::DiagnosticForm;
 
-/// The exit status of a result that can't be written.
+/// The exit status of a result that can't be written, of a file that can't be read to its end, and of a host that is out of memory.
 pub const UNWRITTEN: u8 = 1;
 
 /// The exit status of an invalid start list, one that doesn't boot, or one with findings in a strict check.

@@ -1,9 +1,12 @@
 -- The exit status of `least`.
-use Rattle.std.specs.Prelude.{◌≡◌, ℕ, List, length, nat_lt, if◌then◌else◌, Option, Ok, ⊤}
+use Rattle.std.specs.Prelude.{◌≡◌, ℕ, List, length, nat_lt, if◌then◌else◌, Option, Ok}
+use Rattle.own_model.specs.Listed.{Listed}
 use Rattle.line_rounds.specs.Unfolding.{UnfoldedText}
 use Rattle.line_steps.specs.RunPosition.{first_position}
 use Rattle.list_parser.specs.StartText.{list_in}
+use Rattle.list_parser.specs.declared.fault.BootFault.{BootFault}
 use Rattle.budget_search.specs.declared.budget_intervals.BudgetChoice.TheVariants.{Minimum, Safe}
+use Rattle.budget_search.specs.NoBudgets.{LacksBudgets}
 use Rattle.budget_least.specs.Report.{unmeasured_of}
 use Rattle.budget_least.specs.ReportOf.{IsReportOf}
 use Rattle.budget_least.specs.declared.report.BudgetQuery.{BudgetQuery}
@@ -32,9 +35,9 @@ EndsMeasured asked settings machine text lines status =
     × ((report : BudgetReport) × IsReportOf question (first_position (names_of settings) lines.marks) report
     × (status ≡ measured_status (length (unmeasured_of report))))
 
--- a machine has no report of budgets: nothing is stated of when that is
+-- the accounts of a machine's list have no budgets, for a reason other than that the host is out of memory
 abbrev pub LacksReport : Machine → Type 0
-LacksReport machine = ⊤
+LacksReport machine = (list : Listed) × (list_in (bytes_of machine.text) ≡ Ok list) × ((fault : BootFault) × LacksBudgets list fault)
 
 -- `least` ends so
 abbrev pub BudgetsEnd : (List ℕ → Option (List ℕ)) → LeastOptions → Settings → ℕ → Type 0

@@ -4,10 +4,8 @@ use Rattle.std.proofs.lemmas.Result.{IfErr-weaker, IfOk-at_ok, IfOk-weaker}
 use Rattle.std.specs.Prelude.{◌⊎◌, IfErr, IfNone, IfOk, Option, Some, None, Result, Ok, Vec}
 use Rattle.std.specs.Borrow.{Bor}
 use Rattle.std.specs.Option.{option_copied}
-use Rattle.line_names.specs.RoundMarks.{RoundMark}
 use Rattle.line_rounds.specs.Unfolding.{UnfoldedText}
-use Rattle.line_steps.specs.RunPosition.{RunPosition, first_position}
-use Rattle.list_diff.specs.LineResults.{LineCall, call_in, line_calls}
+use Rattle.list_diff.specs.LineResults.{call_in}
 use Rattle.list_diff.specs.Needs.{shortfalls}
 use Rattle.list_diff.specs.Replies.{AreChanges}
 use Rattle.list_diff.specs.declared.line_outcomes.LineResult.{LineResult}
@@ -20,22 +18,19 @@ use Rattle.own_model.specs.Text.{lines_of}
 use Rattle.own_model.specs.World.{World}
 use Rattle.run_exchanges.specs.Exchange.{Exchange}
 use Rattle.run_lines.specs.LineRuns.{EndsFor}
-use Rattle.run_lines.specs.Machine.{world_of}
 use Rattle.run_lines.specs.declared.line_run_fault.LineRunFault.{LineRunFault}
 use Rattle.run_scenario.specs.LineSteps.{LineStep}
 use Rattle.run_scenario.specs.RunCalls.{calls_answered}
 use Rattle.run_scenario.specs.ScenarioRuns.{most_lines}
-use Rattle.run_scenario.specs.Writes.{steps_on}
 use Rattle.run_scenario.specs.declared.scenario_end.ScenarioEnd.{ScenarioEnd}
 use Rattle.view_runs.specs.Answers.{IsAnsweredFrom, exchanges}
 use Rattle.cli_options.specs.declared.command_options.DiffOptions.{DiffOptions}
 use Rattle.cli_base.specs.Files.{IsTextAt}
-use Rattle.cli_base.specs.Given.{names_of}
 use Rattle.cli_base.specs.Statuses.{EndsAs}
 use Rattle.cli_base.specs.Unfolding.{HasRoundsFault, rounds_of}
 use Rattle.cli_base.specs.declared.settings.Settings.{Settings}
-use Rattle.cli_lists.specs.ComparedRuns.{AreLinesAt, AreNeedsOn, HasFaultAt, answers_on, path_after, results_by}
-use Rattle.cli_lists.specs.Comparison.{AreNewBreaches, Differ, EndsBy, EndsChanged, HasStopped, LinesDiffer, NeedsDiffer, PairDiffers, ResultsDiffer, RunsDiffer, ScenariosDiffer}
+use Rattle.cli_lists.specs.ComparedRuns.{AreLinesAt, AreNeedsOn, HasFaultAt, path_after, results_by}
+use Rattle.cli_lists.specs.Comparison.{AnswersDiffer, AreNewBreaches, Differ, EndsBy, EndsChanged, HasStopped, LinesDiffer, NeedsDiffer, PairDiffers, RunsDiffer, ScenariosDiffer}
 
 -- ---- the answered calls of a run
 
@@ -55,15 +50,6 @@ answered steps start ending found input rest failed text input_is none run =
     (subst (λ (i : Option (List ℕ)). EndsFor most_lines None run.given i rest failed) input_is
     (subst (λ (f : Option LineRunFault). EndsFor most_lines f run.given input rest failed) none run.ends))
     (subst (λ (f : Option LineRunFault). IfNone f (found ≡ exchanges start (calls_answered None (steps run.given)))) none run.are)
-
--- the calls of a scenario on a list
-pub answers_are : (settings : Settings) (list : Listed) (lines : UnfoldedText) (marks : List RoundMark) (start : RunPosition) (text : List ℕ)
-    (found : List Exchange) → start ≡ first_position (names_of settings) marks → marks ≡ lines.marks → text ≡ lines.text
-    → found ≡ exchanges (world_of list) (calls_answered None (steps_on None start list (lines_of text))) → found ≡ answers_on settings list lines
-answers_are settings list lines marks start text found start_is marks_are text_is are =
-    are ∙ ap (λ (s : RunPosition). exchanges (world_of list) (calls_answered None (steps_on None s list (lines_of text))))
-    (start_is ∙ ap (λ (ms : List RoundMark). first_position (names_of settings) ms) marks_are)
-    ∙ ap (λ (t : List ℕ). exchanges (world_of list) (calls_answered None (steps_on None (first_position (names_of settings) lines.marks) list (lines_of t)))) text_is
 
 -- ---- statuses that say whether something differs
 
@@ -116,63 +102,29 @@ one_stops R F r = IfErr-weaker r (λ status. status ≡ 1) (HasStopped R F) (λ 
 
 -- ---- what the runs of scenarios differ in
 
--- the same runs
-pub same_lines : (settings : Settings) (before was : Listed) (old olds : UnfoldedText) (after now : Listed) (new news : UnfoldedText)
-    (breaches found : List BreachChange) (r : Result ℕ ℕ) → before ≡ was → old ≡ olds → after ≡ now → new ≡ news → breaches ≡ found
-    → IfOk r (EndsAs ⊥ (EndsChanged (LinesDiffer settings before old after new breaches)))
-    → IfOk r (EndsAs ⊥ (EndsChanged (LinesDiffer settings was olds now news found)))
-same_lines settings before was old olds after now new news breaches found r before_is old_is after_is new_is breaches_are ends =
-    subst (λ (l : Listed). IfOk r (EndsAs ⊥ (EndsChanged (LinesDiffer settings l olds now news found)))) before_is
-    (subst (λ (t : UnfoldedText). IfOk r (EndsAs ⊥ (EndsChanged (LinesDiffer settings before t now news found)))) old_is
-    (subst (λ (l : Listed). IfOk r (EndsAs ⊥ (EndsChanged (LinesDiffer settings before old l news found)))) after_is
-    (subst (λ (t : UnfoldedText). IfOk r (EndsAs ⊥ (EndsChanged (LinesDiffer settings before old after t found)))) new_is
-    (subst (λ (bs : List BreachChange). IfOk r (EndsAs ⊥ (EndsChanged (LinesDiffer settings before old after new bs)))) breaches_are ends))))
+module _ (settings : Settings) (before : Listed) (old : UnfoldedText) (after : Listed) (new : UnfoldedText) (breaches : List BreachChange) where
+  -- the replies that were found
+  pub with_replies : {E : Type 0} (olds news : List Exchange) (was now : List LineResult) (made : Result (Vec ReplyChange Global) E)
+      (value : Vec ReplyChange Global) (replies : List ReplyChange) (r : Result ℕ ℕ) → map call_in was ≡ results_by settings old olds
+      → map call_in now ≡ results_by settings new news → IfOk made (λ found. AreChanges was now found.items) → made ≡ Ok value
+      → replies ≡ value.items → IfOk r (EndsAs ⊥ (EndsChanged (NeedsDiffer settings before old after new breaches replies)))
+      → IfOk r (EndsAs ⊥ (EndsChanged (AnswersDiffer settings before old after new olds news breaches)))
+  with_replies olds news was now made value replies r olds_are news_are are is replies_are ends =
+      let changes : AreChanges was now value.items = IfOk-at_ok (λ (found : Vec ReplyChange Global). AreChanges was now found.items) is are in
+      ok_as (NeedsDiffer settings before old after new breaches replies) (AnswersDiffer settings before old after new olds news breaches)
+      (λ b needs. (replies, (was, now, olds_are, news_are, subst (λ (rs : List ReplyChange). AreChanges was now rs) (sym replies_are) changes), needs))
+      r ends
 
--- the answered calls of both runs
-pub with_answers : (settings : Settings) (before after : Listed) (old new : UnfoldedText) (olds news : List Exchange)
-    (breaches : List BreachChange) (r : Result ℕ ℕ) → olds ≡ answers_on settings before old → news ≡ answers_on settings after new
-    → IfOk r (EndsAs ⊥ (EndsChanged (ResultsDiffer before after (results_by settings old olds) (results_by settings new news) breaches)))
-    → IfOk r (EndsAs ⊥ (EndsChanged (LinesDiffer settings before old after new breaches)))
-with_answers settings before after old new olds news breaches r olds_are news_are ends =
-    subst
-    (λ (es : List Exchange). IfOk r (EndsAs ⊥ (EndsChanged (ResultsDiffer before after (results_by settings old es)
-    (results_by settings new (answers_on settings after new)) breaches)))) olds_are
-    (subst
-    (λ (es : List Exchange). IfOk r (EndsAs ⊥ (EndsChanged (ResultsDiffer before after (results_by settings old olds)
-    (results_by settings new es) breaches)))) news_are ends)
-
--- what came of the lines
-pub lines_are : (settings : Settings) (lines : UnfoldedText) (start : RunPosition) (marks : List RoundMark) (pieces found : List (List ℕ))
-    (answers : List Exchange) → start ≡ first_position (names_of settings) marks → marks ≡ lines.marks → pieces ≡ found
-    → line_calls (record { position = start; ahead = answers }) pieces
-    ≡ line_calls (record { position = first_position (names_of settings) lines.marks; ahead = answers }) found
-lines_are settings lines start marks pieces found answers start_is marks_are found_are =
-    ap (λ (s : RunPosition). line_calls (record { position = s; ahead = answers }) pieces)
-    (start_is ∙ ap (λ (ms : List RoundMark). first_position (names_of settings) ms) marks_are)
-    ∙ ap (λ (ls : List (List ℕ)). line_calls (record { position = first_position (names_of settings) lines.marks; ahead = answers }) ls) found_are
-
--- the replies that were found
-pub with_replies : {E : Type 0} (before after : Listed) (olds news : List LineCall) (was now : List LineResult) (breaches : List BreachChange)
-    (made : Result (Vec ReplyChange Global) E) (value : Vec ReplyChange Global) (replies : List ReplyChange) (r : Result ℕ ℕ)
-    → map call_in was ≡ olds → map call_in now ≡ news → IfOk made (λ found. AreChanges was now found.items) → made ≡ Ok value
-    → replies ≡ value.items → IfOk r (EndsAs ⊥ (EndsChanged (NeedsDiffer before after breaches replies)))
-    → IfOk r (EndsAs ⊥ (EndsChanged (ResultsDiffer before after olds news breaches)))
-with_replies before after olds news was now breaches made value replies r olds_are news_are are is replies_are ends =
-    let changes : AreChanges was now value.items = IfOk-at_ok (λ (found : Vec ReplyChange Global). AreChanges was now found.items) is are in
-    ok_as (NeedsDiffer before after breaches replies) (ResultsDiffer before after olds news breaches)
-    (λ b needs. (replies, (was, now, olds_are, news_are, subst (λ (rs : List ReplyChange). AreChanges was now rs) (sym replies_are) changes), needs))
-    r ends
-
--- the needs that were found
-pub with_needs : {E : Type 0} (before after : Listed) (had has : List ComponentNeed) (breaches : List BreachChange) (replies : List ReplyChange)
-    (made : Result (Vec NeedChange Global) E) (value : Vec NeedChange Global) (lacks : List NeedChange) (status : ℕ)
-    → AreNeedsOn before had → AreNeedsOn after has → IfOk made (λ found. found.items ≡ shortfalls had has) → made ≡ Ok value
-    → lacks ≡ value.items → EndsAs ⊥ (EndsChanged (Differ before after breaches lacks replies)) status
-    → EndsAs ⊥ (EndsChanged (NeedsDiffer before after breaches replies)) status
-with_needs before after had has breaches replies made value lacks status had_are has_are are is lacks_are ends =
-    let found : value.items ≡ shortfalls had has = IfOk-at_ok (λ (v : Vec NeedChange Global). v.items ≡ shortfalls had has) is are in
-    changed_as (Differ before after breaches lacks replies) (NeedsDiffer before after breaches replies)
-    (λ b differ. (lacks, (had, has, had_are, has_are, lacks_are ∙ found), differ)) status ends
+  -- the needs that were found
+  pub with_needs : {E : Type 0} (had has : List ComponentNeed) (replies : List ReplyChange) (made : Result (Vec NeedChange Global) E)
+      (value : Vec NeedChange Global) (lacks : List NeedChange) (status : ℕ) → AreNeedsOn settings before old had
+      → AreNeedsOn settings after new has → IfOk made (λ found. found.items ≡ shortfalls had has) → made ≡ Ok value → lacks ≡ value.items
+      → EndsAs ⊥ (EndsChanged (Differ before after breaches lacks replies)) status
+      → EndsAs ⊥ (EndsChanged (NeedsDiffer settings before old after new breaches replies)) status
+  with_needs had has replies made value lacks status had_are has_are are is lacks_are ends =
+      let found : value.items ≡ shortfalls had has = IfOk-at_ok (λ (v : Vec NeedChange Global). v.items ≡ shortfalls had has) is are in
+      changed_as (Differ before after breaches lacks replies) (NeedsDiffer settings before old after new breaches replies)
+      (λ b differ. (lacks, (had, has, had_are, has_are, lacks_are ∙ found), differ)) status ends
 
 -- ---- the scenarios at both paths
 
@@ -197,35 +149,29 @@ module _ (texts : List ℕ → Option (List ℕ)) (settings : Settings) where
       (λ b differ. (lines, lines, lines_there, subst (λ (p : List ℕ). AreLinesAt texts settings p lines) (sym same) lines_there, differ)) r ends
 
   -- another scenario on the list after
-  pub with_other : (path next : List ℕ) (other : Option (Bor (List ℕ))) (lines old : UnfoldedText) (was before after : Listed)
-      (breaches : List BreachChange) (r : Result ℕ ℕ) → path_after other path ≡ next → was ≡ before → old ≡ lines
-      → AreLinesAt texts settings path lines
+  pub with_other : (path next : List ℕ) (other : Option (Bor (List ℕ))) (lines : UnfoldedText) (before after : Listed)
+      (breaches : List BreachChange) (r : Result ℕ ℕ) → path_after other path ≡ next → AreLinesAt texts settings path lines
       → IfOk r (EndsAs ⊥ (EndsChanged (λ changed. (now : UnfoldedText) × AreLinesAt texts settings next now
-      × LinesDiffer settings was old after now breaches changed)))
+      × LinesDiffer settings before lines after now breaches changed)))
       → IfOk r (EndsAs ⊥ (EndsChanged (ScenariosDiffer texts settings path (path_after other path) before after breaches)))
-  with_other path next other lines old was before after breaches r next_is was_is old_is lines_there ends =
-      ok_as (λ changed. (now : UnfoldedText) × AreLinesAt texts settings next now × LinesDiffer settings was old after now breaches changed)
+  with_other path next other lines before after breaches r next_is lines_there ends =
+      ok_as (λ changed. (now : UnfoldedText) × AreLinesAt texts settings next now × LinesDiffer settings before lines after now breaches changed)
       (ScenariosDiffer texts settings path (path_after other path) before after breaches)
       (λ b found. (
         lines,
         found.0,
         lines_there,
         subst (λ (p : List ℕ). AreLinesAt texts settings p found.0) (sym next_is) found.1,
-        subst (λ (l : Listed). LinesDiffer settings l lines after found.0 breaches b) was_is
-            (subst (λ (t : UnfoldedText). LinesDiffer settings was t after found.0 breaches b) old_is found.2),
+        found.2,
       )) r ends
 
   -- ---- all that is compared
 
-  module _ (asked : DiffOptions) where
-    -- with the breaches that one list alone has
-    pub with_breaches : (was before now after : Listed) (said breaches : List BreachChange) (r : Result ℕ ℕ) → was ≡ before → now ≡ after
-        → said ≡ breaches → AreNewBreaches texts (option_copied asked.policy) before after breaches
-        → IfOk r (EndsAs ⊥ (EndsChanged (RunsDiffer texts asked settings asked.scenario was now said)))
-        → IfOk r (EndsAs ⊥ (EndsChanged (PairDiffers texts asked settings before after)))
-    with_breaches was before now after said breaches r before_is after_is said_is are ends =
-        ok_as (RunsDiffer texts asked settings asked.scenario before after breaches) (PairDiffers texts asked settings before after)
-        (λ b runs. (breaches, are, runs)) r
-        (subst (λ (l : Listed). IfOk r (EndsAs ⊥ (EndsChanged (RunsDiffer texts asked settings asked.scenario l after breaches)))) before_is
-        (subst (λ (l : Listed). IfOk r (EndsAs ⊥ (EndsChanged (RunsDiffer texts asked settings asked.scenario was l breaches)))) after_is
-        (subst (λ (bs : List BreachChange). IfOk r (EndsAs ⊥ (EndsChanged (RunsDiffer texts asked settings asked.scenario was now bs)))) said_is ends)))
+  -- with the breaches that one list alone has
+  pub with_breaches : (asked : DiffOptions) (before after : Listed) (breaches : List BreachChange) (r : Result ℕ ℕ)
+      → AreNewBreaches texts (option_copied asked.policy) before after breaches
+      → IfOk r (EndsAs ⊥ (EndsChanged (RunsDiffer texts asked settings asked.scenario before after breaches)))
+      → IfOk r (EndsAs ⊥ (EndsChanged (PairDiffers texts asked settings before after)))
+  with_breaches asked before after breaches r are =
+      ok_as (RunsDiffer texts asked settings asked.scenario before after breaches) (PairDiffers texts asked settings before after)
+      (λ b runs. (breaches, are, runs)) r

@@ -5,7 +5,7 @@ use Rattle.std.specs.IoError.{error_kind}
 use Rattle.std.specs.declared.io.Error.{Error}
 use Rattle.std.specs.declared.io.ErrorKind.TheVariants.{BrokenPipe}
 use Rattle.std.proofs.lemmas.Bool.Decides.{nat_tests}
-use Rattle.std.proofs.lemmas.Result.{IfOk-at_ok, IfOk-weaker}
+use Rattle.std.proofs.lemmas.Result.{IfOk-at_ok}
 use Rattle.cli_base.specs.Files.{IsTextAt}
 use Rattle.cli_base.specs.PolicyVerdict.{HasNoPolicy}
 use Rattle.cli_base.specs.Statuses.{EndsAs, HasFailed, HasWritten}
@@ -57,10 +57,6 @@ pub ends_text : (P : Bool → Type 0) (changed : Bool) (status : ℕ) → P chan
     → EndsAs ⊥ (EndsChanged P) status
 ends_text P changed status differ (inl none) = inl none
 ends_text P changed status differ (inr (said, same, is)) = inr (said, subst P (sym same) differ, is)
-
--- what holds of the value that was made holds of the one that is returned
-pub on_made : {T E F : Type 0} (P : T → Type 0) (returned : Result T F) (made : Result T E) → IfOk returned (λ value. made ≡ Ok value) → IfOk made P → IfOk returned P
-on_made P returned made is holds = IfOk-weaker returned (λ value. made ≡ Ok value) P (λ value made_is. IfOk-at_ok P made_is holds) is
 
 -- ---- all differences
 

@@ -122,3 +122,11 @@ module _ (texts : List ℕ → Option (List ℕ)) (settings : Settings) (path : 
     on_text text status filled (inl (inr (two, inl has_fault))) = inl (inr (two, inl (text_boots_not text filled has_fault)))
     on_text text status filled (inl (inr (two, inr (review, read, refused)))) = inl (inr (two, inr (review, (text, filled, read), refused)))
     on_text text status filled (inr (review, read, ends)) = inr (review, (text, filled, read), ends)
+
+  -- its list
+  pub on_list : (Refuses : Listed → Type 0) (Ends : Listed → ℕ → Type 0) (review : Review) (list : Listed) (status : ℕ)
+      → IsReviewAt texts settings path review → list ≡ review.list → EndsAs (Refuses list) (Ends list) status
+      → EndsOnList texts settings path (λ r. Refuses r.list) (λ r. Ends r.list) status
+  on_list Refuses Ends review list status there is ends =
+      on_review (λ (r : Review). Refuses r.list) (λ (r : Review). Ends r.list) review status there
+      (subst (λ (l : Listed). EndsAs (Refuses l) (Ends l) status) is ends)

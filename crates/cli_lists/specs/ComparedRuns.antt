@@ -6,12 +6,13 @@ use Rattle.std.specs.Option.{option_copied, option_map, unwrap_or}
 use Rattle.own_model.specs.Amounts.{Amounts}
 use Rattle.own_model.specs.Listed.{Listed, ListedEntry}
 use Rattle.own_model.specs.Text.{lines_of}
-use Rattle.budget_least.specs.InitNeeds.{AreNeeded}
-use Rattle.budget_least.specs.Report.{accounts_of, list_of}
+use Rattle.budget_least.specs.Report.{accounts_of}
+use Rattle.budget_least.specs.ReportOf.{IsReportOf}
+use Rattle.budget_least.specs.declared.report.BudgetQuery.{BudgetQuery}
 use Rattle.budget_least.specs.declared.report.BudgetReport.{BudgetReport}
 use Rattle.budget_search.specs.BudgetIntervals.{lowest_of}
 use Rattle.budget_search.specs.declared.account_budgets.AccountBudgets.{AccountBudgets}
-use Rattle.budget_search.specs.declared.budget_intervals.BudgetChoice.{BudgetChoice}
+use Rattle.budget_search.specs.declared.budget_intervals.BudgetChoice.TheVariants.{Minimum}
 use Rattle.line_rounds.specs.Unfolding.{UnfoldedText}
 use Rattle.line_steps.specs.RunPosition.{RunPosition, first_position}
 use Rattle.list_diff.specs.LineResults.{LineCall, call_in, line_calls}
@@ -109,13 +110,20 @@ need_if account false (Some entry) = need_of account entry ∷ []
 abbrev pub needs_by : Listed → AccountBudgets → List NeedAt
 needs_by list account = need_if account (is_some account.session) (slice_get list.entries account.component)
 
--- needs are those of the accounts of a report, in which inits have what their lists need
-abbrev pub AreNeedsOn : Listed → List ComponentNeed → Type 0
-AreNeedsOn list needs =
-    (report : BudgetReport) × (choice : BudgetChoice) × AreNeeded choice (list_of report) (accounts_of report)
-    × (map need_at needs ≡ flat_map (needs_by list) (accounts_of report))
+-- a question is about the minimum budgets for lines on a list, with the donations that the lines state
+abbrev pub AsksNeeds : Listed → UnfoldedText → BudgetQuery → Type 0
+AsksNeeds list lines question =
+    (question.list.now ≡ list) × (question.scenario.now ≡ lines.text) × (question.choice ≡ Minimum) × (question.as_donated ≡ true)
 
--- needs that aren't covered any more, by the needs on both lists
-abbrev pub AreShortfalls : Listed → Listed → List NeedChange → Type 0
-AreShortfalls before after lacks =
-    (had : List ComponentNeed) × (has : List ComponentNeed) × AreNeedsOn before had × AreNeedsOn after has × (lacks ≡ shortfalls had has)
+-- needs are those of the accounts in the report on such a question, with the values of names
+abbrev pub AreNeedsOn : Settings → Listed → UnfoldedText → List ComponentNeed → Type 0
+AreNeedsOn settings list lines needs =
+    (question : BudgetQuery) × AsksNeeds list lines question
+    × ((report : BudgetReport) × IsReportOf question (start_by settings lines) report
+    × (map need_at needs ≡ flat_map (needs_by list) (accounts_of report)))
+
+-- needs that aren't covered any more, by the needs for the lines on both lists
+abbrev pub AreShortfalls : Settings → Listed → UnfoldedText → Listed → UnfoldedText → List NeedChange → Type 0
+AreShortfalls settings before was after now lacks =
+    (had : List ComponentNeed) × (has : List ComponentNeed) × AreNeedsOn settings before was had × AreNeedsOn settings after now has
+    × (lacks ≡ shortfalls had has)

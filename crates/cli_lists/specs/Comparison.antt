@@ -8,7 +8,6 @@ use Rattle.list_diff.specs.Breaches.{breach_changes, change_at}
 use Rattle.list_diff.specs.PlacedBreaches.{ArePlaced, BreachAt}
 use Rattle.list_diff.specs.Changes.{changes_of}
 use Rattle.list_diff.specs.Differences.{nothing_differs}
-use Rattle.list_diff.specs.LineResults.{LineCall}
 use Rattle.list_diff.specs.Reaches.{AreReachChanges}
 use Rattle.list_diff.specs.declared.policy_breaches.BreachChange.{BreachChange}
 use Rattle.list_diff.specs.declared.differences.ListDifferences.{ListDifferences}
@@ -22,6 +21,7 @@ use Rattle.list_reach.specs.Rows.{row_of, rows}
 use Rattle.list_reach.specs.Table.{IsTrue}
 use Rattle.list_review.specs.declared.review.Review.{Review}
 use Rattle.own_model.specs.Listed.{Listed}
+use Rattle.run_exchanges.specs.Exchange.{Exchange}
 use Rattle.cli_options.specs.declared.command_options.DiffOptions.{DiffOptions}
 use Rattle.cli_base.specs.Files.{HasNoBoot, IsTextAt}
 use Rattle.cli_base.specs.PolicyVerdict.{HasNoPolicy}
@@ -109,24 +109,22 @@ RefusesPolicy texts (Some policy) after =
 
 -- ---- scenarios
 
--- two lists differ, or their breaches or replies do, or their needs for a scenario
-abbrev pub NeedsDiffer : Listed → Listed → List BreachChange → List ReplyChange → Bool → Type 0
-NeedsDiffer before after breaches replies changed =
-    (lacks : List NeedChange) × AreShortfalls before after lacks × Differ before after breaches lacks replies changed
+-- two lists differ, or their breaches or replies do, or their needs for lines
+abbrev pub NeedsDiffer : Settings → Listed → UnfoldedText → Listed → UnfoldedText → List BreachChange → List ReplyChange → Bool → Type 0
+NeedsDiffer settings before was after now breaches replies changed =
+    (lacks : List NeedChange) × AreShortfalls settings before was after now lacks × Differ before after breaches lacks replies changed
 
--- two lists differ, or their breaches or needs do, or what came of lines
-abbrev pub ResultsDiffer : Listed → Listed → List LineCall → List LineCall → List BreachChange → Bool → Type 0
-ResultsDiffer before after olds news breaches changed =
-    (replies : List ReplyChange) × AreReplyChanges olds news replies × NeedsDiffer before after breaches replies changed
-
--- what came of the lines of a scenario in its run on a list
-abbrev pub results_on : Settings → Listed → UnfoldedText → List LineCall
-results_on settings list lines = results_by settings lines (answers_on settings list lines)
+-- two lists differ, or their breaches or needs do, or what comes of the lines by these calls with their replies
+abbrev pub AnswersDiffer : Settings → Listed → UnfoldedText → Listed → UnfoldedText → List Exchange → List Exchange → List BreachChange
+    → Bool → Type 0
+AnswersDiffer settings before was after now olds news breaches changed =
+    (replies : List ReplyChange) × AreReplyChanges (results_by settings was olds) (results_by settings now news) replies
+    × NeedsDiffer settings before was after now breaches replies changed
 
 -- two lists differ, or their breaches do, or the runs of lines on them
 abbrev pub LinesDiffer : Settings → Listed → UnfoldedText → Listed → UnfoldedText → List BreachChange → Bool → Type 0
 LinesDiffer settings before was after now breaches changed =
-    ResultsDiffer before after (results_on settings before was) (results_on settings after now) breaches changed
+    AnswersDiffer settings before was after now (answers_on settings before was) (answers_on settings after now) breaches changed
 
 -- or the runs of the scenarios at two paths
 abbrev pub ScenariosDiffer : (List ℕ → Option (List ℕ)) → Settings → List ℕ → List ℕ → Listed → Listed → List BreachChange → Bool → Type 0

@@ -85,9 +85,6 @@ abbrev pub EndsReviewed : (List ℕ → Option (List ℕ)) → CheckOptions → 
 EndsReviewed texts asked review status = EndsAs (HasRefused asked review) (EndsKept texts asked review) status
 
 -- a list is refused if it doesn't boot, or in a strict check if it has findings
-abbrev pub CheckRefused : (List ℕ → Option (List ℕ)) → CheckOptions → Settings → Type 0
-CheckRefused texts asked settings = IsRefusedOn texts settings asked.list.now (HasRefused asked)
-
 abbrev pub CheckEnds : (List ℕ → Option (List ℕ)) → CheckOptions → Settings → ℕ → Type 0
 CheckEnds texts asked settings status = EndsOnList texts settings asked.list.now (HasRefused asked) (EndsKept texts asked) status
 

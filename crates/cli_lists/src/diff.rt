@@ -4,15 +4,15 @@ ghost use Rattle.line_rounds.specs.Unfolding.{UnfoldedText};
 ghost use Rattle.line_rounds.specs.Views.{whole_view};
 ghost use Rattle.cli_base.specs.Files.{IsUnknown};
 ghost use Rattle.cli_base.specs.Statuses.{EndsAs};
-ghost use Rattle.cli_lists.specs.ComparedRuns.{AreLinesAt, HasFaultAt, HasFaultIn, LacksScenario, path_after, results_by};
-ghost use Rattle.cli_lists.specs.Comparison.{AfterDiffers, AfterRefused, DiffEnds, EndsBy, EndsChanged, HasStopped, LinesDiffer, NeedsDiffer, OfScenarios, PairDiffers, PairRefused, ResultsDiffer, RunsDiffer, ScenariosDiffer};
+ghost use Rattle.cli_lists.specs.ComparedRuns.{AreLinesAt, HasFaultAt, HasFaultIn, LacksScenario, path_after};
+ghost use Rattle.cli_lists.specs.Comparison.{AfterDiffers, AfterRefused, AnswersDiffer, DiffEnds, EndsBy, EndsChanged, HasStopped, LinesDiffer, NeedsDiffer, OfScenarios, PairDiffers, PairRefused, RunsDiffer, ScenariosDiffer};
 
-use crate::diff_files::{JudgedPair, ListFile, ListPair, scenario_file};
+use crate::diff_files::{JudgedPair, ListFile, ListPair};
 use crate::diff_policy::PolicyBreaches;
 use crate::diff_runs::{RunInput, RunPair, answers_on, needs, results_on};
 use crate::diff_text::print_differences;
 use crate::review::review;
-use cli_base::{Host, Settings, made_or_status, unfolded};
+use cli_base::{Host, Settings, made_or_status, scenario_text, unfolded};
 use cli_options::DiffOptions;
 use init_core::StartList;
 use list_diff::{ReplyChange, changed_replies, lacks};
@@ -138,7 +138,7 @@ fn compare_scenario<'a, H: Host>(
         (HasFaultIn (H.text_at host.now) settings.entry path.now (path_after other.entry path.now))) }
 {
     let rt = host.rt();
-    let text = scenario_file(host, path, settings.form)?;
+    let text = scenario_text(host, settings.form, path)?;
     let lines = unfolded(rt, path, text.as_slice(), settings)?;
     let was = RunInput::new(pair.lists.before, path, &lines);
     match other {
@@ -166,7 +166,7 @@ fn compare_other<'a, H: Host>(
         (HasFaultAt (H.text_at host.now) settings.entry path.now)) }
 {
     let rt = host.rt();
-    let text = scenario_file(host, path, settings.form)?;
+    let text = scenario_text(host, settings.form, path)?;
     let lines = unfolded(rt, path, text.as_slice(), settings)?;
     let now = RunInput::new(pair.lists.after, path, &lines);
     compare_runs(host, RunPair::new(was, now, pair.breaches), settings)
@@ -197,11 +197,10 @@ fn compare_answers<'a>(
     news: &'a [Exchange],
     settings: Settings<'_>,
 ) -> Result<u8, u8>
-    ensures ended { IfOk result (EndsAs ⊥ (EndsChanged (ResultsDiffer
-        runs.entry.was.file.list.now runs.entry.now.file.list.now
-        (results_by settings.entry (whole_view runs.entry.was.lines.now) olds.now)
-        (results_by settings.entry (whole_view runs.entry.now.lines.now) news.now)
-        runs.entry.breaches.now))) }
+    ensures ended { IfOk result (EndsAs ⊥ (EndsChanged (AnswersDiffer settings.entry
+        runs.entry.was.file.list.now (whole_view runs.entry.was.lines.now)
+        runs.entry.now.file.list.now (whole_view runs.entry.now.lines.now)
+        olds.now news.now runs.entry.breaches.now))) }
     ensures failed { IfErr result (λ status. status ≡ 1) }
 {
     let was = results_on(rt, runs.was, olds, settings)?;
@@ -218,8 +217,10 @@ fn compare_needs<'a>(
     replies: &'a [ReplyChange<'a>],
     settings: Settings<'_>,
 ) -> Result<u8, u8>
-    ensures ended { IfOk result (EndsAs ⊥ (EndsChanged (NeedsDiffer runs.entry.was.file.list.now
-        runs.entry.now.file.list.now runs.entry.breaches.now replies.now))) }
+    ensures ended { IfOk result (EndsAs ⊥ (EndsChanged (NeedsDiffer settings.entry
+        runs.entry.was.file.list.now (whole_view runs.entry.was.lines.now)
+        runs.entry.now.file.list.now (whole_view runs.entry.now.lines.now)
+        runs.entry.breaches.now replies.now))) }
     ensures failed { IfErr result (λ status. status ≡ 1) }
 {
     let had = needs(rt, runs.was, settings)?;

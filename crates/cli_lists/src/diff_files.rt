@@ -1,12 +1,8 @@
-//! The files that `diff` reads: start lists and scenarios.
-ghost use Rattle.std.specs.Prelude.{◌≡◌, ◌⊎◌, IfErr, IfOk};
-ghost use Rattle.cli_base.specs.Files.{IsTextAt, IsUnknown};
-ghost use Rattle.cli_base.specs.declared.host.ReadFailure.TheVariants.{NoMemory as NoRoom};
+//! The start lists that `diff` compares, with their files.
+ghost use Rattle.std.specs.Prelude.{◌≡◌};
 
-use cli_base::{Host, REFUSED, ReadFailure, Spot, UNWRITTEN, report_error};
 use init_core::StartList;
 use list_diff::BreachChange;
-use view_diagnostics::DiagnosticForm;
 
 /// A start list with the path of its file.
 #[derive(Clone, Copy)]
@@ -43,36 +39,5 @@ impl<'a> JudgedPair<'a> {
         ensures breaches { result.breaches.now ≡ breaches.now }
     {
         JudgedPair { lists, breaches }
-    }
-}
-
-/// Returns the text of a scenario's file. If it can't be read, prints why and returns the exit status: 1 if the host is out of
-/// memory, else 2.
-pub(crate) fn scenario_file<H: Host>(
-    host: &H,
-    path: &str,
-    form: DiagnosticForm,
-) -> Result<Vec<u8>, u8>
-    ensures text { IfOk result (λ text. IsTextAt (H.text_at host.now) path.now text.items) }
-    ensures failed { IfErr result
-        (λ status. (status ≡ 1) ⊎ (status ≡ 2) × IsUnknown (H.text_at host.now) path.now) }
-{
-    match host.read(path, None) {
-        Ok(text) => Ok(text),
-        Err(why) => {
-            report_error(host.rt(), form, Spot::nowhere(), &why.about(path));
-            Err(failure_status(why))
-        }
-    }
-}
-
-// Returns the exit status of a scenario that isn't read: 1 if the host is out of memory, else 2.
-fn failure_status(why: ReadFailure) -> u8
-    ensures status { (result ≡ 1) ⊎ (result ≡ 2) }
-    ensures memory { why ≡ NoRoom → result ≡ 1 }
-{
-    match why {
-        ReadFailure::Closed(_) | ReadFailure::Broken => REFUSED,
-        ReadFailure::NoMemory => UNWRITTEN,
     }
 }

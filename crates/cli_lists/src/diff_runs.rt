@@ -7,7 +7,7 @@ ghost use Rattle.budget_meter.specs.Needs.{amounts_of};
 ghost use Rattle.budget_search.specs.BudgetIntervals.{lowest_of};
 ghost use Rattle.line_rounds.specs.Views.{whole_view};
 ghost use Rattle.list_diff.specs.LineResults.{call_in};
-ghost use Rattle.cli_lists.specs.ComparedRuns.{AreNeedsOn, answers_on, need_at, need_if, need_of, needs_by, quota_of, results_by};
+ghost use Rattle.cli_lists.specs.ComparedRuns.{AreNeedsOn, answers_on, need_at, need_if, need_of, needs_by, quota_of, results_by, start_by};
 
 use crate::diff_files::ListFile;
 use budget_least::{AccountBudgets, Budget, BudgetChoice, BudgetQuery, BudgetReport};
@@ -17,6 +17,7 @@ use cli_base::{
 };
 use init_core::{BootFault, ListEntry, StartList};
 use line_rounds::UnfoldedText;
+use line_steps::RunPosition;
 use list_diff::{BreachChange, ComponentNeed, LineResult, QuotaAmounts, line_results};
 use list_reach::pieces;
 use run_exchanges::Exchange;
@@ -48,6 +49,15 @@ impl<'a> RunInput<'a> {
         ensures lines { result.lines.now ≡ lines.now }
     {
         RunInput { file, path, lines }
+    }
+
+    // Returns the state before the first line. If the host is out of memory, prints that and returns the exit status 1.
+    fn start(self, rt: &HostRuntime, settings: Settings<'_>) -> Result<RunPosition<'a>, u8>
+        ensures start { IfOk result
+            (λ start. start ≡ start_by settings.entry (whole_view self.entry.lines.now)) }
+        ensures failed { IfErr result (λ status. status ≡ 1) }
+    {
+        settings.start_or_status(rt, self.lines.marks())
     }
 }
 
@@ -91,7 +101,7 @@ pub(crate) fn answers_on<'a, H: Host>(
     ensures failed { IfErr result (λ status. status ≡ 1) }
 {
     let rt = host.rt();
-    let start = settings.start_or_status(rt, run.lines.marks())?;
+    let start = run.start(rt, settings)?;
     let input = ScenarioInput {
         list: run.file.list,
         scenario: settings.subject(run.path),
@@ -143,25 +153,26 @@ pub(crate) fn results_on<'a>(
         results_by settings.entry (whole_view run.entry.lines.now) exchanges.now) }
     ensures failed { IfErr result (λ status. status ≡ 1) }
 {
-    let start = settings.start_or_status(rt, run.lines.marks())?;
+    let start = run.start(rt, settings)?;
     let lines = made_or_status(rt, pieces(rt.alloc(), run.lines.bytes(), b'\n'))?;
     let results = line_results(rt.alloc(), start, lines.as_slice(), exchanges);
     made_or_status(rt, results)
 }
 
-/// Returns the needs of the components of a list that boots for a scenario. If they can't be computed, prints why and returns the exit
-/// status 1. The scenario itself states the donations of sessions, so they aren't computed.
+/// Returns the minimum budgets that the components of a list that boots need for a scenario. If they can't be computed, prints why and
+/// returns the exit status 1. The scenario itself states the donations of sessions, so they aren't computed.
 pub(crate) fn needs<'a>(
     rt: &HostRuntime,
     run: RunInput<'a>,
     settings: Settings<'_>,
 ) -> Result<Vec<ComponentNeed<'a>>, u8>
-    ensures needs { IfOk result (λ needs. AreNeedsOn run.entry.file.list.now needs.items) }
+    ensures needs { IfOk result (λ needs. AreNeedsOn settings.entry run.entry.file.list.now
+        (whole_view run.entry.lines.now) needs.items) }
     ensures failed { IfErr result (λ status. status ≡ 1) }
 {
     let alloc = rt.alloc();
     let list = run.file.list;
-    let start = settings.start_or_status(rt, run.lines.marks())?;
+    let start = run.start(rt, settings)?;
     let question = BudgetQuery {
         list,
         scenario: run.lines.bytes(),

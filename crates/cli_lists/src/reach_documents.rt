@@ -1,10 +1,10 @@
 //! A table of reach as documents of JSON.
-ghost use Rattle.std.specs.Prelude.{◌≡◌, ◌∷◌, [], IfOk, OnOk};
+ghost use Rattle.std.specs.Prelude.{◌≡◌, IfOk, OnOk};
 ghost use Rattle.std.specs.Option.{option_copied};
-ghost use Rattle.view_json.specs.Documents.{field_data, list_data, list_text, members_data};
+ghost use Rattle.view_json.specs.Documents.{field_data, list_data, list_text};
 ghost use Rattle.view_differences.specs.LabelObjects.{labels_data};
 ghost use Rattle.view_json.specs.Listings.{Extends};
-ghost use Rattle.cli_lists.specs.ReachDocuments.{cell_object, cell_objects, label_data, object_by, reach_objects, reach_word, witness_data};
+ghost use Rattle.cli_lists.specs.ReachDocuments.{cell_objects, label_data, object_by, reach_objects, reach_word, witness_data};
 
 use list_parser::{ListEntry, StartList};
 use list_reach::{Reach, ReachCell, ReachTable};

@@ -1,15 +1,18 @@
 -- The command line as `clap` has it, and what it asks for.
-use Rattle.std.specs.Prelude.{◌≡◌, Bool, false, true, List, [], ◌∷◌, ◌++◌, Option, Some, None, ⊤, ◌≢◌, codes, map, option_map, unwrap_or}
+use Rattle.std.specs.Prelude.{◌≡◌, Bool, false, true, List, [], ◌∷◌, ◌++◌, Option, Some, None, ⊤, ◌≢◌, codes, map, option_map, unwrap_or, Result, MatchResult}
 use Rattle.std.specs.List.{All}
 use Rattle.std.specs.Option.{option_map_or}
 use Rattle.std.specs.Str.{bytes_eq}
-use Rattle.clap.specs.Words.{App, all_of, app_of, Row, Rule, Shape, Text, first_of, new_app, new_rule, one_of, with_rule, with_subcommand}
+use Rattle.clap.specs.Words.{App, all_of, app_of, kind_of, Row, Rule, Shape, Text, first_of, new_app, new_rule, one_of, with_rule, with_subcommand}
 use Rattle.clap.specs.Simple.{new_shape}
 use Rattle.clap.specs.declared.builder.ArgAction.TheVariants.{Append, SetTrue}
 use Rattle.clap.specs.declared.builder.command.Command.{Command as Words}
 use Rattle.clap.specs.declared.builder.command.Command.TheViews.{out-Command}
+use Rattle.clap.specs.declared.error.Error.{Error}
+use Rattle.clap.specs.declared.error.kind.ErrorKind.{ErrorKind}
+use Rattle.clap.specs.declared.error.kind.ErrorKind.TheVariants.{OutOfMemory}
 use Rattle.cli_options.specs.declared.command_options.Color.{Color}
-use Rattle.cli_options.specs.declared.command_options.Color.TheVariants.{Always, Auto, Never, Unknown}
+use Rattle.cli_options.specs.declared.command_options.Color.TheVariants.{Always, Auto, Never}
 use Rattle.cli_options.specs.declared.command.Command.{Command}
 use Rattle.cli_options.specs.declared.command.Command.TheVariants as command
 use Rattle.cli_options.specs.declared.command.CommandLine.{CommandLine}
@@ -188,11 +191,15 @@ abbrev pub first_or : Text → Text → List Row → Text
 first_or text id rows = unwrap_or (first_of id rows) text
 
 -- the condition under which lines are coloured, by its name
-abbrev pub IsColor : Color → Text → Type 0
-IsColor Auto word = word ≡ codes "auto"
-IsColor Always word = word ≡ codes "always"
-IsColor Never word = word ≡ codes "never"
-IsColor Unknown word = (word ≢ codes "auto") × (word ≢ codes "always") × (word ≢ codes "never")
+abbrev pub IsColor : Option Color → Text → Type 0
+IsColor (Some Auto) word = word ≡ codes "auto"
+IsColor (Some Always) word = word ≡ codes "always"
+IsColor (Some Never) word = word ≡ codes "never"
+IsColor None word = (word ≢ codes "auto") × (word ≢ codes "always") × (word ≢ codes "never")
+
+-- an error of this kind, unless the host is out of memory
+abbrev pub IsRefusal : ErrorKind → Result Error Error → Type 0
+IsRefusal kind made = MatchResult made (λ error. kind_of error ≡ kind) (λ error. kind_of error ≡ OutOfMemory)
 
 -- a command is what these rows ask for after this name
 abbrev pub Asks : Command → Text → List Row → Type 0

@@ -330,8 +330,8 @@ impl<'a> Command<'a> {
     }
 }
 
-// Returns the condition under which lines are coloured: `auto` if none is given.
-fn colored(found: &ArgMatches<'_>) -> Color
+// Returns the condition under which lines are coloured: `auto` if none is given, or none if the argument names none.
+fn colored(found: &ArgMatches<'_>) -> Option<Color>
     ensures { IsColor result (first_or (codes "auto") (codes "color")
         (rows_of (found_of found.now))) }
 {
@@ -339,14 +339,14 @@ fn colored(found: &ArgMatches<'_>) -> Color
 }
 
 // Returns the condition under which lines are coloured, by its name.
-fn color_named(word: &str) -> Color
+fn color_named(word: &str) -> Option<Color>
     ensures { IsColor result word.now }
 {
     match word {
-        "auto" => Color::Auto,
-        "always" => Color::Always,
-        "never" => Color::Never,
-        _ => Color::Unknown,
+        "auto" => Some(Color::Auto),
+        "always" => Some(Color::Always),
+        "never" => Some(Color::Never),
+        _ => None,
     }
 }
 

@@ -9,8 +9,6 @@ pub enum Color {
     Always,
     /// On no stream.
     Never,
-    /// The argument is none of these three.
-    Unknown,
 }
 
 /// The options of `run`. Paths are used as they are given, and `-` denotes standard input.
@@ -26,8 +24,8 @@ pub struct RunOptions<'a> {
     pub numbers: bool,
     /// Whether a warning is a fault.
     pub strict: bool,
-    /// The condition under which lines are coloured.
-    pub color: Color,
+    /// The condition under which lines are coloured, or none if the argument names none.
+    pub color: Option<Color>,
     /// Whether diagnostics are documents of JSON.
     pub json: bool,
     /// The path of the scenario.
@@ -203,8 +201,8 @@ pub struct TestOptions<'a> {
     pub threshold: Option<&'a str>,
     /// Whether the coverage is printed as a document of JSON, in place of all lines.
     pub json: bool,
-    /// The condition under which lines are coloured.
-    pub color: Color,
+    /// The condition under which lines are coloured, or none if the argument names none.
+    pub color: Option<Color>,
     /// The paths of scenarios, and of folders with scenarios.
     pub paths: Vec<&'a str>,
 }

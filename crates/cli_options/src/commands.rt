@@ -1,8 +1,8 @@
 //! The command line as `clap` reads it.
-ghost use Rattle.std.specs.Prelude.{◌≡◌, IfOk, MatchResult, false, map};
-ghost use Rattle.clap.specs.Words.{App, app_of, kind_of, rule_of, with_rule, with_subcommand};
+ghost use Rattle.std.specs.Prelude.{◌≡◌, ◌∷◌, [], IfErr, IfOk, MatchResult, false, map};
+ghost use Rattle.clap.specs.Words.{App, HasKind, app_of, kind_of, rule_of, with_rule, with_subcommand};
 ghost use Rattle.clap.specs.declared.builder.command.Command.TheViews.{out-Command};
-ghost use Rattle.cli_options.specs.Line.{IsTold, bare as bare_app, command_told, option_rule, program, rule_told, with_commands, word_rule};
+ghost use Rattle.cli_options.specs.Line.{IsRefusal, IsTold, bare as bare_app, command_told, option_rule, program, rule_told, with_commands, word_rule};
 
 use crate::command_table::{ArgumentForm, COMMANDS, CommandForm};
 use crate::help;
@@ -128,7 +128,9 @@ fn place<'a>(alloc: Global, id: &'a str, value: &'a str, help: &'a str) -> Arg<'
 }
 
 /// Returns the error of a command line that names no command.
-pub fn missing_command_error(alloc: Global) -> Result<Error, Error> {
+pub fn missing_command_error(alloc: Global) -> Result<Error, Error>
+    ensures { IsRefusal ErrorKind.MissingSubcommand result }
+{
     refused(
         alloc,
         ErrorKind::MissingSubcommand,
@@ -137,7 +139,9 @@ pub fn missing_command_error(alloc: Global) -> Result<Error, Error> {
 }
 
 /// Returns the error of `alone` with other arguments than a component and a scenario, or `--all` and a scenario.
-pub fn alone_usage_error(alloc: Global) -> Result<Error, Error> {
+pub fn alone_usage_error(alloc: Global) -> Result<Error, Error>
+    ensures { IsRefusal ErrorKind.MissingRequiredArgument result }
+{
     refused(
         alloc,
         ErrorKind::MissingRequiredArgument,
@@ -146,7 +150,9 @@ pub fn alone_usage_error(alloc: Global) -> Result<Error, Error> {
 }
 
 /// Returns the error of `diff` with a scenario for the list after alone.
-pub fn diff_usage_error(alloc: Global) -> Result<Error, Error> {
+pub fn diff_usage_error(alloc: Global) -> Result<Error, Error>
+    ensures { IsRefusal ErrorKind.MissingRequiredArgument result }
+{
     refused(
         alloc,
         ErrorKind::MissingRequiredArgument,
@@ -155,7 +161,9 @@ pub fn diff_usage_error(alloc: Global) -> Result<Error, Error> {
 }
 
 /// Returns the error of a `--color` that isn't auto, always or never.
-pub fn color_value_error(alloc: Global) -> Result<Error, Error> {
+pub fn color_value_error(alloc: Global) -> Result<Error, Error>
+    ensures { IsRefusal ErrorKind.InvalidValue result }
+{
     refused(
         alloc,
         ErrorKind::InvalidValue,
@@ -164,7 +172,9 @@ pub fn color_value_error(alloc: Global) -> Result<Error, Error> {
 }
 
 /// Returns the arguments that the program was started with. An argument that isn't UTF-8 is an error of the command line.
-pub fn words_given<R: Env + AllocGlobal>(rt: &R) -> Result<Vec<String>, Error> {
+pub fn words_given<R: Env + AllocGlobal>(rt: &R) -> Result<Vec<String>, Error>
+    ensures { IfErr result (HasKind (ErrorKind.InvalidValue ∷ [])) }
+{
     match env::args(rt) {
         Ok(words) => Ok(words.collect(rt.alloc())?),
         Err(fault) => Err(unread(rt.alloc(), &fault)),
@@ -172,7 +182,9 @@ pub fn words_given<R: Env + AllocGlobal>(rt: &R) -> Result<Vec<String>, Error> {
 }
 
 // Returns the error of arguments that can't be read.
-fn unread(alloc: Global, fault: &io::Error) -> Error {
+fn unread(alloc: Global, fault: &io::Error) -> Error
+    ensures { HasKind (ErrorKind.InvalidValue ∷ []) result }
+{
     if fault.kind() == io::ErrorKind::OutOfMemory {
         return Error::from(AllocError);
     }
@@ -186,12 +198,16 @@ fn unread(alloc: Global, fault: &io::Error) -> Error {
 }
 
 // Returns the error of a command line for this reason.
-fn refused(alloc: Global, kind: ErrorKind, why: &str) -> Result<Error, Error> {
+fn refused(alloc: Global, kind: ErrorKind, why: &str) -> Result<Error, Error>
+    ensures { IsRefusal kind result }
+{
     let mut words = commands(alloc)?;
     error_of(&mut words, kind, why)
 }
 
 // Returns the error of a command line of these commands.
-fn error_of(words: &mut Words<'_>, kind: ErrorKind, why: &str) -> Result<Error, Error> {
+fn error_of(words: &mut Words<'_>, kind: ErrorKind, why: &str) -> Result<Error, Error>
+    ensures { IsRefusal kind result }
+{
     Ok(words.error(kind, why)?)
 }

@@ -1,19 +1,18 @@
 -- The exit status of each command, and of a command line.
-use Rattle.std.specs.Prelude.{◌≡◌, ◌≢◌, ℕ, ◌||◌, ◌&&◌, Bool, false, true, List, [], ◌∷◌, codes, is_none, is_some, MatchBool, Option, Some, None, Result, Ok, Err}
+use Rattle.std.specs.Prelude.{◌≡◌, ℕ, ◌||◌, ◌&&◌, Bool, false, true, List, [], ◌∷◌, codes, is_none, is_some, MatchBool, Option, Some, None, Result, Ok, Err}
 use Rattle.std.specs.Borrow.{Bor}
 use Rattle.std.specs.Option.{option_map_or}
 use Rattle.std.specs.Str.{bytes_eq}
 use Rattle.clap.specs.Words.{HasKind, Text, fault_of, kind_of, subcommand_of}
 use Rattle.clap.specs.declared.error.Error.{Error}
-use Rattle.clap.specs.declared.error.kind.ErrorKind.TheVariants.{DisplayHelp, DisplayVersion}
+use Rattle.clap.specs.declared.error.kind.ErrorKind.{ErrorKind}
+use Rattle.clap.specs.declared.error.kind.ErrorKind.TheVariants.{DisplayHelp, DisplayVersion, OutOfMemory}
 use Rattle.cli_options.specs.Inputs.{reads_twice}
 use Rattle.cli_options.specs.Line.{AsksAs, program}
 use Rattle.cli_options.specs.declared.command.Command.{Command}
 use Rattle.cli_options.specs.declared.command.Command.TheVariants as command
 use Rattle.cli_options.specs.declared.command.CommandLine.{CommandLine}
 use Rattle.cli_options.specs.declared.command_options.AloneOptions.{AloneOptions}
-use Rattle.cli_options.specs.declared.command_options.Color.{Color}
-use Rattle.cli_options.specs.declared.command_options.Color.TheVariants.{Unknown}
 use Rattle.cli_options.specs.declared.command_options.DiffOptions.{DiffOptions}
 use Rattle.cli_options.specs.declared.command_options.RunOptions.{RunOptions}
 use Rattle.cli_options.specs.declared.command_options.TestOptions.{TestOptions}
@@ -29,11 +28,15 @@ use Rattle.cli_tests.specs.Outcome.{TestsEnd}
 
 -- ---- help
 
--- an error is of a command line that is refused, except the help or the version that is asked for
+-- the help or the version is printed, the host is out of memory, or a command line is refused
+abbrev pub RefusesAs : ErrorKind → ℕ → Type 0
+RefusesAs DisplayHelp status = EndsAs ⊥ IsZero status
+RefusesAs DisplayVersion status = EndsAs ⊥ IsZero status
+RefusesAs OutOfMemory status = status ≡ 1
+RefusesAs kind status = status ≡ 2
+
 abbrev pub RefusesBy : Error → ℕ → Type 0
-RefusesBy error status =
-    (kind_of error ≢ DisplayHelp → kind_of error ≢ DisplayVersion → status ≡ 2)
-    × EndsAs ((kind_of error ≢ DisplayHelp) × (kind_of error ≢ DisplayVersion)) IsZero status
+RefusesBy error status = RefusesAs (kind_of error) status
 
 -- the arguments that ask for the help on a command, or on the program
 abbrev pub help_words : Option (Bor (List ℕ)) → List Text
@@ -56,17 +59,12 @@ HelpEnds topic status =
 
 -- ---- commands
 
--- a `--color` isn't auto, always or never
-abbrev pub is_unknown : Color → Bool
-is_unknown Unknown = true
-is_unknown color = false
-
--- `run` and `test` refuse such a colour
+-- `run` and `test` refuse a `--color` that isn't auto, always or never
 abbrev pub RunAnswers : (List ℕ → Option (List ℕ)) → RunOptions → Settings → ℕ → Type 0
-RunAnswers texts asked settings status = MatchBool (is_unknown asked.color) (status ≡ 2) (RunEnds texts asked settings status)
+RunAnswers texts asked settings status = MatchBool (is_none asked.color) (status ≡ 2) (RunEnds texts asked settings status)
 
 abbrev pub TestAnswers : (List ℕ → Option (List ℕ)) → TestOptions → Settings → ℕ → Type 0
-TestAnswers texts asked settings status = MatchBool (is_unknown asked.color) (status ≡ 2) (TestsEnd texts asked settings status)
+TestAnswers texts asked settings status = MatchBool (is_none asked.color) (status ≡ 2) (TestsEnd texts asked settings status)
 
 -- `alone` takes a component and a scenario, or with `--all` a scenario
 abbrev pub AloneAnswers : (List ℕ → Option (List ℕ)) → AloneOptions → Settings → Option (Bor (List ℕ)) → ℕ → Type 0

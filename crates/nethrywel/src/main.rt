@@ -2,19 +2,22 @@
 //! returns.
 #![tactic(auto)]
 
-ghost use Rattle.std.specs.Prelude.{◌≡◌, ◌≢◌, ◌⊎◌, ◌&&◌, ℕ, List, is_none, is_some, map, string_bytes};
+ghost use Rattle.std.specs.Prelude.{◌≡◌, ◌≢◌, ◌⊎◌, ◌&&◌, ℕ, List, IfSome, is_none, is_some, map, string_bytes};
 ghost use Rattle.std.specs.Process.{exit_status};
 ghost use Rattle.clap.specs.Words.{kind_of};
 ghost use Rattle.cli_base.specs.Statuses.{EndsAs, IsZero};
-ghost use Rattle.nethrywel.specs.CommandStatus.{AloneAnswers, AnswersBy, AnswersRequest, AnswersWords, DiffAnswers, HelpEnds, Helps, RefusesBy, RunAnswers, TestAnswers, is_unknown, lacks_scenario};
+ghost use Rattle.nethrywel.specs.CommandStatus.{AloneAnswers, AnswersBy, AnswersRequest, AnswersWords, DiffAnswers, HelpEnds, Helps, RefusesBy, RunAnswers, TestAnswers, lacks_scenario};
 
 use clap::Error;
-use cli_base::{Coloring, Host, REFUSED, Settings, Spot, names_given, report_error, status_of};
+use clap::error::ErrorKind;
+use cli_base::{
+    Coloring, Host, REFUSED, Settings, Spot, UNWRITTEN, names_given, report_error, status_of,
+};
 use cli_budgets::print_minimum_budgets;
 use cli_lists::{check_list, compare_lists, show_reach, show_route, show_tree};
 use cli_options::{
-    AloneOptions, CALLS, Color, Command, CommandLine, DiffOptions, RunOptions, TestOptions,
-    alone_usage_error, color_value_error, diff_usage_error, missing_command_error, words_given,
+    AloneOptions, CALLS, Command, CommandLine, DiffOptions, RunOptions, TestOptions,
+    alone_usage_error, color_value_error, diff_usage_error, missing_command_error,
 };
 use cli_runs::{
     list_accounts, record_scenario, run_scenario, show_all_alone, show_alone, trace_scenario,
@@ -29,13 +32,24 @@ fn main(rt: HostRuntime) -> ExitCode {
 
 // Runs the command that the host's arguments ask for, and returns the exit status. Arguments that aren't UTF-8 are refused.
 fn answer_host<H: Host>(host: &H) -> ExitCode
-    ensures { (exit_status result ≡ 2)
+    ensures known { IfSome (H.arguments_of host.now) (λ words.
+        AnswersWords (H.text_at host.now) words (exit_status result)) }
+    ensures any { (exit_status result ≡ 2)
         ⊎ ((words : List (List ℕ)) × AnswersWords (H.text_at host.now) words (exit_status result)) }
 {
-    let rt = host.rt();
-    match words_given(rt) {
-        Ok(words) => ExitCode::from(answer_words(host, words.as_slice())),
-        Err(error) => ExitCode::from(refuse_words(rt, Err(error))),
+    ExitCode::from(answer_arguments(host))
+}
+
+// Runs the command that the host's arguments ask for, and returns the exit status as a number.
+fn answer_arguments<H: Host>(host: &H) -> u8
+    ensures known { IfSome (H.arguments_of host.now) (λ words.
+        AnswersWords (H.text_at host.now) words result) }
+    ensures any { (result ≡ 2)
+        ⊎ ((words : List (List ℕ)) × AnswersWords (H.text_at host.now) words result) }
+{
+    match host.arguments() {
+        Ok(words) => answer_words(host, words.as_slice()),
+        Err(error) => refuse(host.rt(), &error),
     }
 }
 
@@ -56,10 +70,11 @@ fn refuse(rt: &HostRuntime, error: &Error) -> u8
     ensures { RefusesBy error.now result }
 {
     let printed = error.print(rt);
-    if error.use_stderr() {
-        return REFUSED;
+    match error.kind() {
+        ErrorKind::DisplayHelp | ErrorKind::DisplayVersion => status_of(rt, printed),
+        ErrorKind::OutOfMemory => UNWRITTEN,
+        _ => REFUSED,
     }
-    status_of(rt, printed)
 }
 
 // Prints why arguments are refused, and returns the exit status.
@@ -142,10 +157,10 @@ fn answer_run<'a, H: Host>(host: &H, asked: &'a RunOptions<'a>, settings: Settin
     ensures { RunAnswers (H.text_at host.now) asked.now settings.entry result }
 {
     let rt = host.rt();
-    if is_unknown(asked.color) {
+    let Some(color) = asked.color else {
         return refuse_words(rt, color_value_error(rt.alloc()));
-    }
-    run_scenario(host, asked, settings, coloring(rt, asked.color))
+    };
+    run_scenario(host, asked, settings, Coloring::asked(rt, color))
 }
 
 // Prints the replies to a component, or to each script, in the whole run and alone. Returns the exit status.
@@ -192,20 +207,8 @@ fn answer_test<'a, H: Host>(host: &H, asked: &'a TestOptions<'a>, settings: Sett
     ensures { TestAnswers (H.text_at host.now) asked.now settings.entry result }
 {
     let rt = host.rt();
-    if is_unknown(asked.color) {
+    let Some(color) = asked.color else {
         return refuse_words(rt, color_value_error(rt.alloc()));
-    }
-    run_tests(host, asked, settings, coloring(rt, asked.color).out)
-}
-
-// Returns whether a `--color` isn't auto, always or never.
-fn is_unknown(color: Color) -> bool
-    ensures { result ≡ is_unknown color }
-{
-    matches!(color, Color::Unknown)
-}
-
-// Returns which streams are coloured.
-fn coloring(rt: &HostRuntime, color: Color) -> Coloring {
-    Coloring::asked(rt, color).unwrap_or(Coloring::NOWHERE)
+    };
+    run_tests(host, asked, settings, Coloring::asked(rt, color).out)
 }

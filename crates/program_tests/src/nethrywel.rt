@@ -1,4 +1,5 @@
-//! Tests of the crates of `nethrywel`: lines, and devices that fail.
+//! Tests of the crates of `nethrywel`: lines, devices that fail, and a host that states what it has.
 
 mod devices;
+mod hosts;
 mod lines;

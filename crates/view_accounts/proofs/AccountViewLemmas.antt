@@ -1,20 +1,13 @@
 -- What the account list writes, from what its run promises.
-use Rattle.std.proofs.Common.{◌≡◌, ℕ, ◌≤◌, List, [], ◌∷◌, ◌++◌, Bool, true, false, length, Option, Some, None, IfNone, Result, Ok, Err, arith, refl, sym, ◌∙◌, ap, subst, length-append}
-use Rattle.std.proofs.lemmas.Bool.Decides.{nat_tests}
-use Rattle.std.specs.List.{filter}
-use Rattle.own_model.specs.LinesOfName.{is_line_of, said_by}
+use Rattle.std.proofs.Common.{◌≡◌, ℕ, List, [], Bool, true, Option, Some, None, IfNone}
 use Rattle.own_model.specs.Listed.{Listed, start_list_of}
 use Rattle.own_model.specs.StartList.{entries_of}
 use Rattle.own_model.specs.World.{World}
-use Rattle.line_friendly.specs.Friendly.{FriendlyLine}
-use Rattle.line_friendly.specs.Friendly.FriendlyLine.{Nothing, Log, Call}
-use Rattle.line_friendly.specs.declared.fault.FriendlyFault.{FriendlyFault}
-use Rattle.run_lines.specs.Machine.{accounts_for}
 use Rattle.view_accounts.specs.Accounting.{SeesAccounts, accounts_text, sessions_kept, text_kept}
 use Rattle.run_scenario.specs.Judging.{Awaited}
-use Rattle.run_scenario.specs.RunCalls.{calls_answered, text_of_calls, text_of_steps}
+use Rattle.run_scenario.specs.RunCalls.{calls_answered}
 use Rattle.run_scenario.specs.ScenarioRuns.{CountsErrors, RunsAll, tally}
-use Rattle.run_scenario.specs.LineSteps.{LineStep, calls_in, steps_of}
+use Rattle.run_scenario.specs.LineSteps.{LineStep, steps_of}
 use Rattle.run_scenario.specs.Writes.{Closes, IsRunFrom, start_at}
 use Rattle.view_accounts.specs.declared.accounting.Accounting.{Accounting}
 use Rattle.run_scenario.specs.declared.scenario_end.ScenarioEnd.{ScenarioEnd}

@@ -1,8 +1,9 @@
 -- The closed sessions, one more or all of a component.
-use Rattle.std.proofs.Common.{◌≡◌, ◌∙◌, ◌+◌, ◌<◌, ℕ, List, [], ◌∷◌, ◌++◌, length, map, take, drop, get_or, append_assoc, append-nil, Option, Some, None, Result, Ok, Err, OnOk, refl, sym, ap, subst}
+use Rattle.std.proofs.Common.{◌≡◌, ◌∙◌, ◌+◌, ◌<◌, ℕ, List, [], ◌∷◌, ◌++◌, length, take, drop, get_or, append_assoc, append-nil, Option, Some, None, Result, Ok, Err, OnOk, sym, ap, subst}
 use Rattle.std.specs.List.Sorted.{IsNonDecreasingBy, IsPermutation}
 use Rattle.std.proofs.lemmas.List.{drop_more, map-append}
 use Rattle.view_json.proofs.ListingLemmas.{flat_next}
+use Rattle.budget_meter.specs.Needs.{amounts_of}
 use Rattle.view_accounts.specs.ClosedSessions.{Closed, ClosesAll, closed_as, closed_of, closing, closing_of, closings, ended_at, ended_from}
 use Rattle.view_accounts.specs.Kept.{noted_in}
 use Rattle.view_accounts.specs.Peaks.{Noted}
@@ -22,13 +23,9 @@ pub closed_more : {T E : Type 0} (r : Result T E) (old new : List ClosedSession)
     → OnOk r (new ≡ old ++ record { session = copy; need = ended.need } ∷ []) → OnOk r (closed_of new ≡ closed_of old ++ closing component ended noted)
 closed_more (Ok x) old new component ended copy values noted some client named same is =
     ap closed_of is ∙ map-append closed_as old (record { session = copy; need = ended.need } ∷ [])
-    ∙ (λ i. closed_of old ++ record { component = client i; selector = named i; noted = same i; need = ended.need } ∷ [])
+    ∙ (λ i. closed_of old ++ record { component = client i; selector = named i; noted = same i; need = amounts_of ended.need } ∷ [])
     ∙ ap (λ n. closed_of old ++ closing component ended n) some
 closed_more (Err e) old new component ended copy values noted some client named same is = tt
-
--- none is noted
-pub closed_none : (old : List ClosedSession) (component : ℕ) (ended : Ended) (noted : Option Noted) → None ≡ noted → closed_of old ≡ closed_of old ++ closing component ended noted
-closed_none old component ended noted none = sym (append-nil (closed_of old)) ∙ ap (λ n. closed_of old ++ closing component ended n) none
 
 -- the session under a selector
 pub closes_one : {T E : Type 0} (r : Result T E) (old new : List Closed) (noted : ℕ → Option Noted) (component selector : ℕ) (opened : Option MeteredSession) (kept : MeteredSession)

@@ -1,5 +1,5 @@
 -- What the meters have heard once a line more was answered.
-use Rattle.std.proofs.Common.{◌≡◌, ℕ, ◌<◌, List, [], ◌∷◌, ◌++◌, length, Some, None, Result, Ok, Err, OnOk, sym, ◌∙◌, ap, subst, arith}
+use Rattle.std.proofs.Common.{◌≡◌, ℕ, ◌<◌, List, [], ◌∷◌, ◌++◌, length, Some, None, sym, ◌∙◌, ap, subst, arith}
 use Rattle.std.specs.Prelude.{◌≢◌}
 use Rattle.own_model.specs.Call.{Call, Spoken}
 use Rattle.own_model.specs.Listed.{Listed, start_list_of}
@@ -16,6 +16,7 @@ use Rattle.budget_meter.specs.declared.account.AccountMeter.{AccountMeter}
 use Rattle.run_lines.specs.declared.line_answer.LineAnswer.{LineAnswer}
 use Rattle.view_accounts.specs.Meters.{SeesNeeds, meter_at}
 use Rattle.view_accounts.specs.Needs.{limits, own_calls}
+use Rattle.run_lines.proofs.AccountLemmas.{entries_listed}
 use Rattle.run_scenario.specs.Said.{said_in}
 use Rattle.run_scenario.specs.Observation.{IsAnsweredAfter}
 use Rattle.view_accounts.proofs.KeptLemmas.{heard_said}
@@ -35,13 +36,19 @@ calls_one entries line says component said is = heard_said entries line ∙ ap (
 
 -- ---- what was heard then
 
-module _ {meters : List AccountMeter} {start : World} {earlier : List (List ℕ)} {line : List ℕ} {core : World} {answer : LineAnswer} (listed : Listed)
-    (entries : core.entries ≡ entries_of (start_list_of listed)) (sees : SeesNeeds meters start earlier) (told : IsAnsweredAfter start earlier line core answer) where
-  begins : entries_of (start_list_of listed) ≡ start.entries
+module _ {start core : World} {earlier : List (List ℕ)} {line : List ℕ} {answer : LineAnswer} (listed : Listed)
+    (entries : core.entries ≡ entries_of (start_list_of listed)) (told : IsAnsweredAfter start earlier line core answer) where
+  pub begins : entries_of (start_list_of listed) ≡ start.entries
   begins = sym entries ∙ ap (λ w. w.entries) told.leaves
 
+  -- a component of the list is there from the start
+  pub inside : {component : ℕ} → component < length listed.entries → component < length start.entries
+  inside {component} within = subst (λ n. component < n) (sym (entries_listed listed start (sym begins))) within
+
+module _ {meters : List AccountMeter} {start : World} {earlier : List (List ℕ)} {line : List ℕ} {core : World} {answer : LineAnswer} (listed : Listed)
+    (entries : core.entries ≡ entries_of (start_list_of listed)) (sees : SeesNeeds meters start earlier) (told : IsAnsweredAfter start earlier line core answer) where
   pub still_sees : calls_in (heard (entries_of (start_list_of listed)) line) ≡ [] → SeesNeeds meters start (earlier ++ line ∷ [])
-  still_sees none = sees_silent sees line (subst (λ es. calls_in (heard es line) ≡ []) begins none)
+  still_sees none = sees_silent sees line (subst (λ es. calls_in (heard es line) ≡ []) (begins listed entries told) none)
 
   pub sees_more : (component : ℕ) (call : Call) (after : Quotas) (meters' : List AccountMeter) →
       heard (entries_of (start_list_of listed)) line ≡ Caller (record { component = component; call = call }) → quotas_account after ≡ account_at core component →
@@ -56,4 +63,4 @@ module _ {meters : List AccountMeter} {start : World} {earlier : List (List ℕ)
       (is_told start earlier line component call here after told script account))
     where
       here : heard start.entries line ≡ Caller (record { component = component; call = call })
-      here = subst (λ es. heard es line ≡ Caller (record { component = component; call = call })) begins is
+      here = subst (λ es. heard es line ≡ Caller (record { component = component; call = call })) (begins listed entries told) is

@@ -161,7 +161,7 @@ module _ (world : World) (made : Made) where
   use_of_inits n = inits_use (entry_at world.entries made.component).home world.inits (state_at world.states made.component) next n
 
   -- another's state stays
-  aside : (place : ℕ) → place ≢ made.component → state_at left_by.states place ≡ state_at world.states place
+  pub aside : (place : ℕ) → place ≢ made.component → state_at left_by.states place ≡ state_at world.states place
   aside place apart = get_or-set_other world.states made.component place next nothing apart
 
   -- and so does what its account uses

@@ -1,6 +1,7 @@
 pub mod AccountViewLemmas
 pub mod AccountingLemmas
 pub mod ClosedLemmas
+pub mod ClosedLineLemmas
 pub mod ClosingLemmas
 pub mod HearLemmas
 pub mod KeptLemmas
@@ -11,7 +12,9 @@ pub mod OpenLemmas
 pub mod PeakLemmas
 pub mod RowLemmas
 pub mod RunRowLemmas
+pub mod SessionHistoryLemmas
 pub mod SessionNeedLemmas
+pub mod SessionRunLemmas
 pub mod SessionStepLemmas
 pub mod SessionTableLemmas
 pub mod TableLemmas

@@ -39,7 +39,7 @@ own_account world place script = ap (λ kind. account_by kind (init_at world.ini
 -- ---- a call more
 
 -- a component's own calls, with a line more of all
-own_calls-more : (start : World) (earlier : List (List ℕ)) (line : List ℕ) (place : ℕ) →
+pub own_calls-more : (start : World) (earlier : List (List ℕ)) (line : List ℕ) (place : ℕ) →
     own_calls start (earlier ++ line ∷ []) place ≡ own_calls start earlier place ++ own_part place (calls_in (heard start.entries line))
 own_calls-more start earlier line place =
     ap (own_part place)
@@ -52,7 +52,7 @@ module _ (start : World) (earlier : List (List ℕ)) (line : List ℕ) (componen
   calls_now : (place : ℕ) → own_calls start (earlier ++ line ∷ []) place ≡ own_calls start earlier place ++ cond (component == place) (call ∷ []) []
   calls_now place = own_calls-more start earlier line place ∙ ap (λ what. own_calls start earlier place ++ own_part place (calls_in what)) is
 
-  calls_own : own_calls start (earlier ++ line ∷ []) component ≡ own_calls start earlier component ++ call ∷ []
+  pub calls_own : own_calls start (earlier ++ line ∷ []) component ≡ own_calls start earlier component ++ call ∷ []
   calls_own = calls_now component ∙ ap (λ b. own_calls start earlier component ++ cond b (call ∷ []) []) (eq-eqb component component refl)
 
   abbrev entry : Entry

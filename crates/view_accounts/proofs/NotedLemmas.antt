@@ -1,9 +1,10 @@
 -- What is noted of a session, once there is a call more.
-use Rattle.std.proofs.Common.{◌≡◌, ℕ, ◌+◌, ◌-◌, ◌<◌, ◌≤◌, true, false, List, [], ◌∷◌, ◌++◌, length, length-append, max, get_or, sym, ◌∙◌, ap, arith}
+use Rattle.std.proofs.Common.{◌≡◌, ℕ, ◌+◌, ◌-◌, ◌^◌, ◌<◌, ◌≤◌, true, false, List, [], ◌∷◌, ◌++◌, length, length-append, max, min, get_or, sym, ◌∙◌, ap, arith}
 use Rattle.std.proofs.lemmas.List.{get_or_append_left, get_or-append-add}
 use Rattle.own_model.specs.Listed.{Listed}
 use Rattle.own_model.specs.Transcript.{entry_at}
 use Rattle.own_model.specs.World.{World, world_running}
+use Rattle.view_accounts.specs.ClosedByLines.{opening_line}
 use Rattle.view_accounts.specs.Kept.{grown, in_use, noted_more}
 use Rattle.view_accounts.specs.Peaks.{is_open, label_by, lasting, noted_of, opener, peak_of, server_by, session_account_at, since_open, worlds}
 use Rattle.run_scenario.specs.Said.{said_in}
@@ -84,6 +85,23 @@ module _ (component selector : ℕ) (start : World) where
           let one : length (since_open component selector start (calls ++ call ∷ [])) ≡ 1 = ap length (since_more ∙ ap (λ ws. ws ++ world_running start (calls ++ call ∷ []) ∷ []) (none_since closed)) in
           let more = length-append calls (call ∷ []) in
           back calls call (length (calls ++ call ∷ []) - length (since_open component selector start (calls ++ call ∷ []))) (omega (arith, one, more))
+
+      -- a session that is still open was opened by the same line
+      pub same_line : opening_line start (calls ++ call ∷ []) component selector ≡ opening_line start calls component selector
+      same_line =
+          let one = length-append (since_open component selector start calls) (world_running start (calls ++ call ∷ []) ∷ []) in
+          let more = length-append calls (call ∷ []) in
+          let all = ap length since_more in
+          let same : length (calls ++ call ∷ []) + 1 - length (since_open component selector start (calls ++ call ∷ [])) ≡ length calls + 1 - length (since_open component selector start calls) = omega (arith, one, more, all) in
+          ap (λ n. min n (2 ^ 64 - 1)) same
+
+      -- and one that was just opened by this line
+      pub this_line : is_open component selector (world_running start calls) ≡ false → opening_line start (calls ++ call ∷ []) component selector ≡ min (length calls + 1) (2 ^ 64 - 1)
+      this_line closed =
+          let one : length (since_open component selector start (calls ++ call ∷ [])) ≡ 1 = ap length (since_more ∙ ap (λ ws. ws ++ world_running start (calls ++ call ∷ []) ∷ []) (none_since closed)) in
+          let more = length-append calls (call ∷ []) in
+          let same : length (calls ++ call ∷ []) + 1 - length (since_open component selector start (calls ++ call ∷ [])) ≡ length calls + 1 = omega (arith, one, more) in
+          ap (λ n. min n (2 ^ 64 - 1)) same
 
       module _ (listed : Listed) where
         -- what is noted of one that is still open grows

@@ -1,6 +1,7 @@
 -- The rows that are kept are those after the calls so far.
-use Rattle.std.proofs.Common.{◌≡◌, ◌≢◌, ℕ, ◌<◌, Bool, true, cond, List, [], ◌∷◌, ◌++◌, append-nil, is_some, length, Option, Some, None, IfNone, IfOk, IfSome, Result, Ok, Err, refl, sym, ◌∙◌, ap, subst}
+use Rattle.std.proofs.Common.{◌≡◌, ◌≢◌, ℕ, ◌<◌, Bool, true, cond, List, [], ◌∷◌, ◌++◌, append-nil, is_some, length, Option, Some, None, IfNone, IfOk, IfSome, Result, refl, sym, ◌∙◌, ap, subst}
 use Rattle.std.proofs.lemmas.Option.{none-some}
+use Rattle.std.proofs.lemmas.Result.{IfOk-weaker}
 use Rattle.std.specs.declared.alloc.AllocError.{AllocError}
 use Rattle.std.specs.Option.{option_map}
 use Rattle.own_model.specs.Listed.{Listed, start_list_of}
@@ -24,16 +25,22 @@ use Rattle.run_scenario.specs.ScenarioRuns.{RunsAll, most_lines}
 use Rattle.run_scenario.specs.Writes.{Closes, IsRunFrom, RunStart, WritesAfter, steps_on}
 use Rattle.run_scenario.specs.declared.scenario_end.ScenarioEnd.{ScenarioEnd}
 use Rattle.run_scenario.proofs.WriteLemmas.{ends_for_some_cause}
-use Rattle.view_accounts.specs.Accounting.{OfSessions, SeesAccounts, sessions_kept, text_kept}
+use Rattle.view_accounts.specs.Accounting.{SeesAccounts, sessions_kept, text_kept}
+use Rattle.view_accounts.specs.ClosedByLines.{opening_line}
 use Rattle.view_accounts.specs.Kept.{found}
 use Rattle.view_accounts.specs.Needs.{Needed}
 use Rattle.view_accounts.specs.Peaks.{Noted, noted_of, session_at}
 use Rattle.view_accounts.specs.Rows.{accounts_view}
 use Rattle.view_accounts.specs.RunRows.{Measures, ShowsRows, account_row, component_row, entries_in, in_turn, init_row, measures_after, measures_kept, open_row, rows_after, rows_kept, selector_count, session_rows}
+use Rattle.view_accounts.specs.SessionHistories.{history_of}
+use Rattle.view_accounts.specs.SessionTable.{value_at}
+use Rattle.view_accounts.specs.ShownSessions.{ShownAfter, ShowsSessions}
 use Rattle.view_accounts.specs.declared.account_rows.AccountRows.{AccountRows}
 use Rattle.view_accounts.specs.declared.accounting.Accounting.{Accounting}
+use Rattle.view_accounts.proofs.ClosedLineLemmas.{need_kept}
 use Rattle.view_accounts.proofs.NeedLemmas.{below_is, running_is}
 use Rattle.view_accounts.proofs.RowLemmas.{in_turn-alike}
+use Rattle.view_accounts.proofs.SessionRunLemmas.{leads_now}
 
 module _ (observer : Accounting) (listed : Listed) {start : World} {calls : List (List ℕ)} (sees : SeesAccounts observer listed start calls) (entries : start.entries ≡ entries_of (start_list_of listed)) where
   abbrev now : World
@@ -94,42 +101,54 @@ module _ (observer : Accounting) (listed : Listed) {start : World} {calls : List
     closed = (rows_kept observer listed now).closed;
   }
 
-pub rows_played : (observer : Accounting) (listed : Listed) {first : RunPosition} {start last : World} {counts : List LineStep → Type 0} {reports : List (List ℕ) → Type 0} {input rest w w' w'' : Option (List ℕ)} {failed : Bool} (played ended : ScenarioEnd) (rows : Result AccountRows AllocError) →
-    start.entries ≡ entries_of (start_list_of listed) →
-    RunsAll (λ _ _ _. []) true (SeesAccounts observer listed start) counts reports None first played.fault played.lines start last [] input rest failed w w' → Closes played ended w' w'' (text_kept observer listed last) →
-    IfOk rows (λ shown. accounts_view shown ≡ rows_kept observer listed last) → ShowsRows (sessions_kept observer) listed start (steps_of None start first) ended.fault input rows
-rows_played observer listed {first = first} {start = start} {last = last} {input = input} {rest = rest} {w' = w'} {w'' = w''} {failed = failed} played ended rows entries plays closes shows =
-    by played.fault ended.fault closes.writes plays.sees plays.ends
-  where
-    steps : List LineStep
-    steps = steps_of None start first plays.given
+-- what was seen of a run that reached its end is so of the calls of its input
+module _ {seen : List (List ℕ) → Type 0} {first : RunPosition} {start last : World} {counts : List LineStep → Type 0} {reports : List (List ℕ) → Type 0} {input rest w w' w'' : Option (List ℕ)} {failed : Bool} {behind : List ℕ} (played ended : ScenarioEnd)
+    (plays : RunsAll (λ _ _ _. []) true seen counts reports None first played.fault played.lines start last [] input rest failed w w') (closes : Closes played ended w' w'' behind)
+    (P : List (List ℕ) → Type 0) (so : (calls : List (List ℕ)) → last ≡ world_running start calls → seen calls → P calls) where
+  abbrev steps : List LineStep
+  steps = steps_of None start first plays.given
 
-    shown : SeesAccounts observer listed start (calls_answered None steps) → (r : Result AccountRows AllocError) → IfOk r (λ shown. accounts_view shown ≡ rows_kept observer listed last) →
-        (text : List ℕ) → lines_of text ≡ plays.given →
-        IfOk r (λ shown. accounts_view shown ≡ rows_after (sessions_kept observer) listed start (calls_answered None (steps_of None start first (lines_of text))))
-    shown sees (Ok r) is text all =
-        is ∙ ap (rows_kept observer listed) plays.world ∙ rows_are observer listed sees entries
-        ∙ ap (λ lines. rows_after (sessions_kept observer) listed start (calls_answered None (steps_of None start first lines))) (sym all)
-    shown sees (Err fault) is text all = tt
+  of_input : seen (calls_answered None steps) → (o : Option (List ℕ)) → EndsFor most_lines None plays.given o rest failed →
+      IfSome o (λ text. P (calls_answered None (steps_of None start first (lines_of text))))
+  of_input sees (Some text) ends =
+      subst (λ lines. P (calls_answered None (steps_of None start first lines))) (sym (ends.1 ∙ ap (λ left. plays.given ++ left) ends.2.0 ∙ append-nil plays.given))
+      (so (calls_answered None steps) plays.world sees)
+  of_input sees None ends = tt
 
-    of_input : SeesAccounts observer listed start (calls_answered None steps) → (o : Option (List ℕ)) → EndsFor most_lines None plays.given o rest failed →
-        IfSome o (λ text. IfOk rows (λ shown. accounts_view shown ≡ rows_after (sessions_kept observer) listed start (calls_answered None (steps_of None start first (lines_of text)))))
-    of_input sees (Some text) ends = shown sees rows shows text (ends.1 ∙ ap (λ left. plays.given ++ left) ends.2.0 ∙ append-nil plays.given)
-    of_input sees None ends = tt
+  by_faults : (played_fault ended_fault : Option LineRunFault) → WritesAfter played_fault ended_fault w' w'' behind → IfNone played_fault (seen (calls_answered None steps)) →
+      EndsFor most_lines played_fault plays.given input rest failed → IfNone ended_fault (IfSome input (λ text. P (calls_answered None (steps_of None start first (lines_of text)))))
+  by_faults None None writes sees ends = of_input sees input ends
+  by_faults (Some fault) None writes sees ends = absurd (none-some fault writes.0)
+  by_faults played_fault (Some fault) writes sees ends = tt
 
-    by : (played_fault ended_fault : Option LineRunFault) → WritesAfter played_fault ended_fault w' w'' (text_kept observer listed last) →
-        IfNone played_fault (SeesAccounts observer listed start (calls_answered None steps)) → EndsFor most_lines played_fault plays.given input rest failed →
-        ShowsRows (sessions_kept observer) listed start (steps_of None start first) ended_fault input rows
-    by None None writes sees ends = of_input sees input ends
-    by (Some fault) None writes sees ends = absurd (none-some fault writes.0)
-    by played_fault (Some fault) writes sees ends = tt
+  pub seen_at_end : IfNone ended.fault (IfSome input (λ text. P (calls_answered None (steps_of None start first (lines_of text)))))
+  seen_at_end = by_faults played.fault ended.fault closes.writes plays.sees plays.ends
+
+module _ (observer : Accounting) (listed : Listed) {first : RunPosition} {start last : World} {counts : List LineStep → Type 0} {reports : List (List ℕ) → Type 0} {input rest w w' w'' : Option (List ℕ)} {failed : Bool} (played ended : ScenarioEnd)
+    (plays : RunsAll (λ _ _ _. []) true (SeesAccounts observer listed start) counts reports None first played.fault played.lines start last [] input rest failed w w')
+    (closes : Closes played ended w' w'' (text_kept observer listed last)) where
+  pub rows_played : (rows : Result AccountRows AllocError) → start.entries ≡ entries_of (start_list_of listed) →
+      IfOk rows (λ shown. accounts_view shown ≡ rows_kept observer listed last) → ShowsRows (sessions_kept observer) listed start (steps_of None start first) ended.fault input rows
+  rows_played rows entries shows =
+      seen_at_end played ended plays closes (λ calls. IfOk rows (λ shown. accounts_view shown ≡ rows_after (sessions_kept observer) listed start calls))
+      (λ calls leads sees.
+      IfOk-weaker rows (λ shown. accounts_view shown ≡ rows_kept observer listed last) (λ shown. accounts_view shown ≡ rows_after (sessions_kept observer) listed start calls)
+      (λ shown is. is ∙ ap (rows_kept observer listed) leads ∙ rows_are observer listed sees entries) shows)
+
+  pub sessions_played : ShowsSessions (sessions_kept observer) listed start (steps_of None start first) ended.fault input
+  sessions_played =
+      seen_at_end played ended plays closes (ShownAfter (sessions_kept observer) listed start)
+      (λ calls leads sees. record {
+        led = leads_now start sees.peaks.none_at_start calls;
+        needs = λ c q. need_kept (opening_line start calls c q) (history_of start calls c q) (value_at observer.needs.sessions.opened c q) (sees.sessions.each c q);
+        closed = sees.sessions.closed;
+      })
 
 -- on the machine of the list
-pub shows_on : (sessions : OfSessions) (listed : Listed) (first : RunPosition) {start : World} {begun : RunPosition} (fault : Option LineRunFault) (input : Option (List ℕ)) (rows : Result AccountRows AllocError) →
-    start ≡ world_of listed → begun ≡ first → ShowsRows sessions listed start (steps_of None start begun) fault input rows → ShowsRows sessions listed (world_of listed) (steps_on None first listed) fault input rows
-shows_on sessions listed first {start = start} fault input rows starts begins shows =
-    subst (λ world. ShowsRows sessions listed world (steps_of None world first) fault input rows) starts
-    (subst (λ position. ShowsRows sessions listed start (steps_of None start position) fault input rows) begins shows)
+pub shows_on : (Shows : World → (List (List ℕ) → List LineStep) → Type 0) (listed : Listed) (first : RunPosition) {start : World} {begun : RunPosition} → start ≡ world_of listed → begun ≡ first →
+    Shows start (steps_of None start begun) → Shows (world_of listed) (steps_on None first listed)
+shows_on Shows listed first {start = start} starts begins shows =
+    subst (λ world. Shows world (steps_of None world first)) starts (subst (λ position. Shows start (steps_of None start position)) begins shows)
 
 -- a fault has a cause, whatever else is known of the run
 pub ends_with_rows : {X : Type 0} {start : RunStart} {told : List LineStep → List ℕ} {behind : X → List LineStep → List ℕ} {also : X → Type 0} {calls : Bool} {reports : List (List ℕ) → Type 0} {ending : ScenarioEnd} {input rest : Option (List ℕ)} {failed : Bool} {w w' : Option (List ℕ)} (read_before write_before write_failed : Bool) →

@@ -1,5 +1,5 @@
 -- What is kept of sessions once a table was changed at one place.
-use Rattle.std.proofs.Common.{◌≡◌, ℕ, ◌==◌, ◌&&◌, Bool, true, false, cond, eqb-true, List, [], ◌∷◌, ◌++◌, Option, Some, None, Result, Ok, Err, OnOk, refl, sym, ◌∙◌, ap, subst}
+use Rattle.std.proofs.Common.{◌≡◌, ℕ, ◌==◌, ◌&&◌, Bool, true, false, cond, eqb-true, List, [], ◌∷◌, ◌++◌, Option, Some, None, refl, sym, ◌∙◌, ap, subst}
 use Rattle.std.proofs.lemmas.Option.{none-some, same_Some}
 use Rattle.std.specs.Option.{option_and_then, option_map}
 use Rattle.own_model.specs.Amounts.{Amounts}
@@ -31,10 +31,6 @@ place_is c q component selector is = by (c == component) (q == selector) refl re
     by false b one other is = absurd (let e : false ≡ true = is in cc)
 
 module _ (component selector : ℕ) (change : Change) (c q : ℕ) (was is : Option MeteredSession) where
-  -- nothing changes, which is such a change
-  pub unchanged : ((c ≡ component) → (q ≡ selector) → change was is) → is ≡ was → ChangesAt component selector change c q was is
-  unchanged own same = (λ here. let at = place_is c q component selector here in own at.0 at.1, λ apart. same)
-
   -- one place is set
   pub set_there : (value : Option MeteredSession) → is ≡ (cond (c == component && q == selector) value was) → ((c ≡ component) → (q ≡ selector) → change was value) → ChangesAt component selector change c q was is
   set_there value set own = (
@@ -50,38 +46,49 @@ put_back true value was is mid taken set = set
 put_back false value was is mid taken set = set ∙ taken
 
 -- a meter of a session that was just opened
-pub begins_there : (account : Quotas) (kinds : Option (List ObjectKind)) (now : Option Session) (was : Option MeteredSession) (new : MeteredSession) → Some (quotas_account account) ≡ option_map (λ s. s.account) now →
+pub begins_there : (account : Quotas) (kinds : Option (List ObjectKind)) (now : Option Session) (was : Option MeteredSession) (new : MeteredSession) (line : ℕ) → new.earlier ≡ line → Some (quotas_account account) ≡ option_map (λ s. s.account) now →
     kinds ≡ option_and_then (λ (s : Session). offered_kinds (offer_of s.state)) now → IsMeasured new →
     ((wish : Wish) → kinds ≡ offered_kinds (offer_of (new_session wish).state) → too_small wish.ram wish.caps ≡ None → quotas_account account ≡ (new_session wish).account →
     HasReached [] (record { ram = wish.ram; caps = wish.caps }) (new_session wish) new.meter) →
-    Begins now was (Some new)
-begins_there account kinds now was new some offers measured reached =
+    Begins line now was (Some new)
+begins_there account kinds now was new line number some offers measured reached =
     let at = some_image (λ s. s.account) now (quotas_account account) some in
-    subst (λ s. Begins s was (Some new)) (sym at.1.0) (
+    subst (λ s. Begins line s was (Some new)) (sym at.1.0) (
       measured,
-      λ wish same enough.
-          reached wish (offers ∙ ap (option_and_then (λ (s : Session). offered_kinds (offer_of s.state))) at.1.0 ∙ ap (λ (s : Session). offered_kinds (offer_of s.state)) (sym same)) enough
-          (at.1.1 ∙ ap (λ (s : Session). s.account) (sym same)),
+      record {
+        opened = number;
+        reached = λ wish same enough.
+            reached wish (offers ∙ ap (option_and_then (λ (s : Session). offered_kinds (offer_of s.state))) at.1.0 ∙ ap (λ (s : Session). offered_kinds (offer_of s.state)) (sym same)) enough
+            (at.1.1 ∙ ap (λ (s : Session). s.account) (sym same));
+      },
     )
 
 -- a meter that has observed a request
-pub asks_there : (request reply : List ℕ) (account : Quotas) (now : Option Session) (was : Option MeteredSession) (old new : MeteredSession) → Some (quotas_account account) ≡ option_map (λ s. s.account) now → was ≡ Some old → IsMeasured new →
+pub asks_there : (request reply : List ℕ) (account : Quotas) (now : Option Session) (was : Option MeteredSession) (old new : MeteredSession) → new.earlier ≡ old.earlier → Some (quotas_account account) ≡ option_map (λ s. s.account) now → was ≡ Some old → IsMeasured new →
     ((all : List Reaches) (donation : Amounts) (session : Session) (buffer : Option NamedBuffer) → HasReached all donation session old.meter → IsServedBy reply account buffer (served (bytes_of_buffer buffer) (session_run all (donating donation session)) request) →
     HasReached (all ++ Asked (bytes_of_buffer buffer) request ∷ []) donation session new.meter) →
     Asks request reply now was (Some new)
-asks_there request reply account now was old new some is measured hears =
+asks_there request reply account now was old new number some is measured hears =
     let at = some_image (λ s. s.account) now (quotas_account account) some in
     subst (λ s. Asks request reply s was (Some new)) (sym at.1.0)
     (subst (λ w. Asks request reply (Some at.0) w (Some new)) (sym is)
-    (measured, λ all donation session buffer reached serves. hears all donation session buffer reached (serves account at.1.1)))
+    (measured, record { opened = number; reached = λ all donation session buffer reached serves. hears all donation session buffer reached (serves account at.1.1) }))
 
 -- or an upgrade
-pub raises_there : (account : Quotas) (now : Option Session) (was : Option MeteredSession) (old new : MeteredSession) → Some (quotas_account account) ≡ option_map (λ s. s.account) now → was ≡ Some old → IsMeasured new →
+pub raises_there : (account : Quotas) (now : Option Session) (was : Option MeteredSession) (old new : MeteredSession) → new.earlier ≡ old.earlier → Some (quotas_account account) ≡ option_map (λ s. s.account) now → was ≡ Some old → IsMeasured new →
     ((all : List Reaches) (donation more : Amounts) (session : Session) → HasReached all donation session old.meter → quotas_account account ≡ (upgraded (session_run all (donating donation session)) more.ram more.caps).account →
     HasReached (all ++ Raised more ∷ []) donation session new.meter) →
+    ((all : List Reaches) (donation : Amounts) (session : Session) → HasReached all donation session old.meter → quotas_account account ≡ (session_run all (donating donation session)).account →
+    HasReached all donation session new.meter) →
     Raises now was (Some new)
-raises_there account now was old new some is measured raised =
+raises_there account now was old new number some is measured raised refused =
     let at = some_image (λ s. s.account) now (quotas_account account) some in
     subst (λ s. Raises s was (Some new)) (sym at.1.0)
-    (subst (λ w. Raises (Some at.0) w (Some new)) (sym is)
-    (measured, λ all donation more session reached leaves. raised all donation more session reached (at.1.1 ∙ leaves)))
+    (subst (λ w. Raises (Some at.0) w (Some new)) (sym is) (
+      measured,
+      record {
+        opened = number;
+        done = λ all donation more session reached leaves. raised all donation more session reached (at.1.1 ∙ leaves);
+        refused = λ all donation session reached leaves. refused all donation session reached (at.1.1 ∙ leaves);
+      },
+    ))

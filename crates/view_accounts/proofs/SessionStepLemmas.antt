@@ -1,6 +1,7 @@
 -- What a call does to the sessions of its caller, and what is noted of them then.
 use Rattle.std.proofs.Common.{◌≡◌, ◌≢◌, ◌⊎◌, inl, inr, ℕ, ◌==◌, ◌&&◌, Bool, true, false, cond, eqb-true, List, is_some, refl, sym, ◌∙◌, ap, subst}
 use Rattle.std.proofs.lemmas.Bool.{eq-eqb, eqb-false}
+use Rattle.std.proofs.lemmas.Option.{none-some}
 use Rattle.std.specs.Prelude.{Option, Some, None, Result, Ok, Err}
 use Rattle.std.specs.FinMap.{get}
 use Rattle.std.specs.Option.{option_or}
@@ -8,6 +9,7 @@ use Rattle.trade_base.specs.declared.refusal.Refusal.{Refusal}
 use Rattle.own_model.proofs.NatMapLemmas.{get-empty, get-insert_same, get-insert_other}
 use Rattle.own_model.proofs.NewSelector.{new_selector_free}
 use Rattle.own_model.proofs.SessionAloneLemmas.{stand_alone}
+use Rattle.own_model.specs.Account.{shortage}
 use Rattle.own_model.specs.Call.{Call}
 use Rattle.own_model.specs.Call.Call.{Open, Upgrade, CallSession, Close, Exit}
 use Rattle.own_model.specs.Listed.{Listed}
@@ -16,7 +18,7 @@ use Rattle.own_model.specs.OwnState.Object.{Dataspace, RpcObject, OpenSession, B
 use Rattle.own_model.specs.OwnStep.{Outcome, exited, opened_by, own_step, session_opened, turned_away, unless}
 use Rattle.own_model.specs.Reply.{Reply}
 use Rattle.own_model.specs.Reply.Reply.{Selected, Done, Refused}
-use Rattle.own_model.specs.Session.{Session, Wish, donation_refusal, new_session, wish}
+use Rattle.own_model.specs.Session.{Session, Wish, donation_refusal, new_session, too_small, wish}
 use Rattle.own_model.specs.SessionTheorems.{is_of}
 use Rattle.own_model.specs.StartList.{Entry}
 use Rattle.own_model.specs.World.{World}
@@ -44,47 +46,56 @@ module _ (entry : Entry) (call : Call) (s : OwnState) (q : ℕ) (other : is_of q
   still_by (Some (Buffer of bytes)) is = still_none (ap session_named is)
   still_by None is = still_none (ap session_named is)
 
-  session_still : session_in q next ≡ session_in q s
+  pub session_still : session_in q next ≡ session_in q s
   session_still = still_by (get s.selectors q) refl
 
 -- a call was refused
-record IsRefused (s : OwnState) (o : Outcome) : Type 0 where
+pub record IsRefused (s : OwnState) (o : Outcome) : Type 0 where
   pub left : o.next ≡ s
   pub refusal : Refusal
   pub replied : o.reply ≡ Refused refusal
 
 -- a call opened a session, under a selector that named none
-record HasOpened (s : OwnState) (o : Outcome) : Type 0 where
+pub record HasOpened (s : OwnState) (o : Outcome) : Type 0 where
   pub selector : ℕ
   pub replied : o.reply ≡ Selected selector
   pub free : session_in selector s ≡ None
-  pub there : is_some (session_in selector o.next) ≡ true
+  pub wish : Wish
+  pub made : session_in selector o.next ≡ Some (new_session wish)
+  pub enough : too_small wish.ram wish.caps ≡ None
   pub others : (q : ℕ) → q ≢ selector → session_in q o.next ≡ session_in q s
 
 module _ (s : OwnState) where
-  refused_or : (P : Outcome → Type 0) (why : Option Refusal) (o : Outcome) → IsRefused s o ⊎ P o → IsRefused s (unless why s o) ⊎ P (unless why s o)
+  pub refused_or : (P : Outcome → Type 0) (why : Option Refusal) (o : Outcome) → (why ≡ None → IsRefused s o ⊎ P o) → IsRefused s (unless why s o) ⊎ P (unless why s o)
   refused_or P (Some refusal) o does = inl (record { left = refl; refusal = refusal; replied = refl })
-  refused_or P None o does = does
+  refused_or P None o does = does refl
 
-  has_opened : (w : Wish) → HasOpened s (session_opened w s)
-  has_opened w = record {
+  -- a donation that isn't refused is enough
+  enough_by : (short : Option Refusal) (small : Option Refusal) → option_or short small ≡ None → small ≡ None
+  enough_by None small none = none
+  enough_by (Some refusal) small none = absurd (none-some refusal (sym none))
+
+  has_opened : (w : Wish) → donation_refusal s.account w.ram w.caps ≡ None → HasOpened s (session_opened w s)
+  has_opened w accepted = record {
     selector = new_selector s.selectors;
     replied = refl;
     free = ap session_named (new_selector_free s.selectors);
-    there = ap (λ o. is_some (session_named o)) (get-insert_same s.selectors (new_selector s.selectors) (OpenSession (new_session w)) (new_selector s.selectors) refl);
+    wish = w;
+    made = ap session_named (get-insert_same s.selectors (new_selector s.selectors) (OpenSession (new_session w)) (new_selector s.selectors) refl);
+    enough = enough_by (shortage s.account w.ram w.caps) (too_small w.ram w.caps) accepted;
     others = λ q apart. ap session_named (get-insert_other s.selectors (new_selector s.selectors) (OpenSession (new_session w)) q apart);
   }
 
   opened_does : (asked : Result Wish Refusal) → IsRefused s (opened_by asked s) ⊎ HasOpened s (opened_by asked s)
   opened_does (Err refusal) = inl (record { left = refl; refusal = refusal; replied = refl })
-  opened_does (Ok w) = refused_or (HasOpened s) (donation_refusal s.account w.ram w.caps) (session_opened w s) (inr (has_opened w))
+  opened_does (Ok w) = refused_or (HasOpened s) (donation_refusal s.account w.ram w.caps) (session_opened w s) (λ accepted. inr (has_opened w accepted))
 
-  open_does : (entry : Entry) (service text : List ℕ) → IsRefused s (own_step entry (Open service text) s) ⊎ HasOpened s (own_step entry (Open service text) s)
+  pub open_does : (entry : Entry) (service text : List ℕ) → IsRefused s (own_step entry (Open service text) s) ⊎ HasOpened s (own_step entry (Open service text) s)
   open_does entry service text =
-      refused_or (HasOpened s) (turned_away entry.kind s) (opened_by (wish entry.label entry.routes service text) s) (opened_does (wish entry.label entry.routes service text))
+      refused_or (HasOpened s) (turned_away entry.kind s) (opened_by (wish entry.label entry.routes service text) s) (λ _. opened_does (wish entry.label entry.routes service text))
 
-  exit_does : (entry : Entry) → IsRefused s (own_step entry Exit s) ⊎ (own_step entry Exit s ≡ exited)
-  exit_does entry = refused_or (λ o. o ≡ exited) (turned_away entry.kind s) exited (inr refl)
+  pub exit_does : (entry : Entry) → IsRefused s (own_step entry Exit s) ⊎ (own_step entry Exit s ≡ exited)
+  exit_does entry = refused_or (λ o. o ≡ exited) (turned_away entry.kind s) exited (λ _. inr refl)
 
 -- what an outcome of a call tells, by its reply and the sessions that are there after it
 pub record IsOutcome (reply : Reply) (session : ℕ → Option Session) (outcome : SessionOutcome) : Type 0 where
@@ -133,14 +144,14 @@ module _ (listed : Listed) (world : World) (component : ℕ) (entry : Entry) (s 
     | inr opened ↦
         let k = opened.selector in
         ap (λ found. noted_after listed world component (Open service text) (record { opened = found; is_done = outcome.is_done }) component q was)
-        (cases.tells.opened k opened.replied opened.there)
+        (cases.tells.opened k opened.replied (ap is_some opened.made))
         ∙ ap (λ o. option_or o was) (own_place (q == k) (begun_with listed world service text component k) None)
         ∙ elim (q == k) as (λ b. (q == k) ≡ b → option_or (cond b (begun_with listed world service text component k) None) was ≡ is) [
           | true ↦ λ same.
               let here : k ≡ q = sym (eqb-true q k same) in
               ap (λ j. option_or (begun_with listed world service text component j) was) here
               ∙ cases.comes service text refl (subst (λ j. session_in j s ≡ None) here opened.free)
-              (subst (λ j. is_some (session_in j (after (Open service text)).next) ≡ true) here opened.there)
+              (subst (λ j. is_some (session_in j (after (Open service text)).next) ≡ true) here (ap is_some opened.made))
           | false ↦ λ apart. cases.stays (opened.others q (eqb-false q k apart))
         ] refl
   ]

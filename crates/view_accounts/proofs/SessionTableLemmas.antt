@@ -2,7 +2,7 @@
 use Rattle.std.proofs.Common.{◌≡◌, ℕ, ◌<◌, ◌==◌, ◌&&◌, Bool, true, false, cond, eqb-true, List, [], length, map, get_or, set, refl, sym, ◌∙◌, ap, arith}
 use Rattle.std.proofs.lemmas.Bool.{eqb-false}
 use Rattle.std.proofs.lemmas.List.{get_or-map, get_or-set_other, get_or-set_same, length-map, map-set}
-use Rattle.std.specs.Prelude.{Option, None, Result, Ok, Err, OnOk, Vec, vec_items}
+use Rattle.std.specs.Prelude.{Option, None, Vec, vec_items}
 use Rattle.view_accounts.specs.SessionTable.{row_value, row_of}
 
 module _ {T Z : Type 0} where

@@ -8,6 +8,7 @@ use Rattle.own_model.specs.World.{World, world_running}
 use Rattle.budget_meter.specs.Needs.{amounts_of}
 use Rattle.run_lines.specs.Accounts.{Beside, list_with}
 use Rattle.run_lines.specs.Machine.{world_of}
+use Rattle.view_accounts.specs.KeptSessions.{SeesSessions}
 use Rattle.view_accounts.specs.Kept.{SeesPeaks, found, noted_in, peak_at, peaked}
 use Rattle.view_accounts.specs.Meters.{SeesNeeds, needed_of, needs_of_sessions}
 use Rattle.view_accounts.specs.Needs.{Needs, needed_text, needs_after, needs_by}
@@ -61,6 +62,7 @@ pub record SeesAccounts (observer : Accounting) (listed : Listed) (start : World
   pub peaks :
       SeesPeaks (peaked observer.peaks.init) observer.peaks.components.items observer.peaks.sessions listed start earlier
   pub needs : SeesNeeds observer.needs.meters.items start earlier
+  pub sessions : SeesSessions observer.needs.lines observer.needs.sessions listed start earlier
 
 abbrev pub beside_kept : Accounting → Listed → Beside
 beside_kept observer listed =

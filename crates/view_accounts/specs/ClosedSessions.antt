@@ -2,9 +2,10 @@
 use Rattle.std.specs.Prelude.{◌≡◌, ℕ, ◌+◌, Bool, true, List, [], ◌∷◌, ◌++◌, map, Option, Some, None}
 use Rattle.std.specs.List.{flat_map}
 use Rattle.std.specs.List.Sorted.{IsNonDecreasingBy, IsPermutation}
+use Rattle.own_model.specs.Amounts.{Amounts}
 use Rattle.own_model.specs.Call.{Call}
 use Rattle.own_model.specs.Call.Call.{Close, Exit}
-use Rattle.budget_meter.specs.declared.budget.Budget.{Budget}
+use Rattle.budget_meter.specs.Needs.{amounts_of}
 use Rattle.view_accounts.specs.Kept.{noted_in}
 use Rattle.view_accounts.specs.Peaks.{Noted}
 use Rattle.view_accounts.specs.SessionTable.{row_of, value_at}
@@ -18,14 +19,14 @@ pub record Closed : Type 0 where
   pub component : ℕ
   pub selector : ℕ
   pub noted : Noted
-  pub need : Budget
+  pub need : Amounts
 
 abbrev pub closed_as : ClosedSession → Closed
 closed_as closed = record {
   component = closed.session.component;
   selector = closed.session.selector;
   noted = noted_in closed.session;
-  need = closed.need;
+  need = amounts_of closed.need;
 }
 
 -- the closed sessions, in their order
@@ -36,7 +37,7 @@ closed_of sessions = map closed_as sessions
 abbrev pub closing : ℕ → Ended → Option Noted → List Closed
 closing component ended None = []
 closing component ended (Some noted) =
-    record { component = component; selector = ended.selector; noted = noted; need = ended.need } ∷ []
+    record { component = component; selector = ended.selector; noted = noted; need = amounts_of ended.need } ∷ []
 
 -- by what is noted of the component's sessions under their selectors
 abbrev pub closing_of : (ℕ → Option Noted) → ℕ → Ended → List Closed

@@ -13,7 +13,6 @@ use Rattle.budget_theorems.specs.Request.{donating}
 use Rattle.budget_theorems.specs.RequestTheorems.{Reaches, session_run}
 use Rattle.budget_theorems.specs.RequestTheorems.Reaches.{Asked, Raised}
 use Rattle.budget_meter.specs.Sessions.{HasReached, IsServedBy}
-use Rattle.budget_meter.specs.declared.session.SessionMeter.{SessionMeter}
 use Rattle.view_accounts.specs.Peaks.{session_at}
 use Rattle.view_accounts.specs.declared.session_needs.MeteredSession.{MeteredSession}
 use Rattle.view_accounts.specs.declared.session_outcome.SessionOutcome.{SessionOutcome}
@@ -31,33 +30,35 @@ abbrev pub IsKept : (MeteredSession → Type 0) → Option MeteredSession → Ty
 IsKept P None = ⊥
 IsKept P (Some kept) = IsMeasured kept × P kept
 
--- the meter is that of any session that was just opened and is this one: nothing has reached it yet
-abbrev pub IsNew : Session → MeteredSession → Type 0
-IsNew session kept =
-    (wish : Wish) → new_session wish ≡ session → too_small wish.ram wish.caps ≡ None →
-    HasReached [] (record { ram = wish.ram; caps = wish.caps }) (new_session wish) kept.meter
+-- the meter is that of any session that was just opened, by the line of this number, and is this one: nothing has reached it yet
+pub record IsNew (line : ℕ) (session : Session) (kept : MeteredSession) : Type 0 where
+  pub opened : kept.earlier ≡ line
+  pub reached : (wish : Wish) → new_session wish ≡ session → too_small wish.ram wish.caps ≡ None →
+      HasReached [] (record { ram = wish.ram; caps = wish.caps }) (new_session wish) kept.meter
 
 -- the meter has observed one request more, with this reply and this account after it
-abbrev pub HasAsked : List ℕ → List ℕ → Account → MeteredSession → MeteredSession → Type 0
-HasAsked request reply account old kept =
-    (all : List Reaches) (donation : Amounts) (session : Session) (buffer : Option NamedBuffer) →
-    HasReached all donation session old.meter →
-    ((left : Quotas) → quotas_account left ≡ account →
-    IsServedBy reply left buffer (served (bytes_of_buffer buffer) (session_run all (donating donation session)) request)) →
-    HasReached (all ++ Asked (bytes_of_buffer buffer) request ∷ []) donation session kept.meter
+pub record HasAsked (request reply : List ℕ) (account : Account) (old kept : MeteredSession) : Type 0 where
+  pub opened : kept.earlier ≡ old.earlier
+  pub reached : (all : List Reaches) (donation : Amounts) (session : Session) (buffer : Option NamedBuffer) →
+      HasReached all donation session old.meter →
+      ((left : Quotas) → quotas_account left ≡ account →
+      IsServedBy reply left buffer (served (bytes_of_buffer buffer) (session_run all (donating donation session)) request)) →
+      HasReached (all ++ Asked (bytes_of_buffer buffer) request ∷ []) donation session kept.meter
 
--- the meter has observed one upgrade more, with this account after it
-abbrev pub HasRaised : Account → MeteredSession → MeteredSession → Type 0
-HasRaised account old kept =
-    (all : List Reaches) (donation more : Amounts) (session : Session) → HasReached all donation session old.meter →
-    account ≡ (upgraded (session_run all (donating donation session)) more.ram more.caps).account →
-    HasReached (all ++ Raised more ∷ []) donation session kept.meter
+-- the meter has observed one upgrade more, which was done or refused, with this account after it
+pub record HasRaised (account : Account) (old kept : MeteredSession) : Type 0 where
+  pub opened : kept.earlier ≡ old.earlier
+  pub done : (all : List Reaches) (donation more : Amounts) (session : Session) → HasReached all donation session old.meter →
+      account ≡ (upgraded (session_run all (donating donation session)) more.ram more.caps).account →
+      HasReached (all ++ Raised more ∷ []) donation session kept.meter
+  pub refused : (all : List Reaches) (donation : Amounts) (session : Session) → HasReached all donation session old.meter →
+      account ≡ (session_run all (donating donation session)).account → HasReached all donation session kept.meter
 
 -- ---- by the session that is open after the call
 
-abbrev pub Begins : Option Session → Change
-Begins None was is = is ≡ was
-Begins (Some session) was is = IsKept (IsNew session) is
+abbrev pub Begins : ℕ → Option Session → Change
+Begins line None was is = is ≡ was
+Begins line (Some session) was is = IsKept (IsNew line session) is
 
 abbrev pub Asks : List ℕ → List ℕ → Option Session → Change
 Asks request reply (Some session) (Some old) is = IsKept (HasAsked request reply session.account old) is
@@ -78,23 +79,23 @@ abbrev pub ChangesAt : ℕ → ℕ → Change → ℕ → ℕ → Change
 ChangesAt component selector change c q was is =
     ((c == component && q == selector) ≡ true → change was is) × ((c == component && q == selector) ≡ false → is ≡ was)
 
--- the session that a component opened, if it opened one
-abbrev pub Opens : World → ℕ → Option ℕ → ℕ → ℕ → Change
-Opens world component None c q was is = is ≡ was
-Opens world component (Some selector) c q was is =
-    ChangesAt component selector (Begins (session_at component selector world)) c q was is
+-- the session that a component opened by a line, if it opened one
+abbrev pub Opens : ℕ → World → ℕ → Option ℕ → ℕ → ℕ → Change
+Opens line world component None c q was is = is ≡ was
+Opens line world component (Some selector) c q was is =
+    ChangesAt component selector (Begins line (session_at component selector world)) c q was is
 
 -- all sessions of a component end
 abbrev pub EndsAll : ℕ → Bool → ℕ → Change
 EndsAll component done c was is = ((c == component) ≡ true → Ends done was is) × ((c == component) ≡ false → is ≡ was)
 
--- what is kept under a selector changes so by a call of a component, with its outcome, its reply and the world after it
-abbrev pub HearsCall : World → ℕ → Call → SessionOutcome → List ℕ → ℕ → ℕ → Change
-HearsCall world component (Open service text) outcome reply c q was is = Opens world component outcome.opened c q was is
-HearsCall world component (Upgrade selector text) outcome reply c q was is =
+-- what is kept under a selector changes so by a line with a call of a component, with its outcome, its reply and the world after it
+abbrev pub HearsCall : ℕ → World → ℕ → Call → SessionOutcome → List ℕ → ℕ → ℕ → Change
+HearsCall line world component (Open service text) outcome reply c q was is = Opens line world component outcome.opened c q was is
+HearsCall line world component (Upgrade selector text) outcome reply c q was is =
     ChangesAt component selector (Raises (session_at component selector world)) c q was is
-HearsCall world component (CallSession selector request) outcome reply c q was is =
+HearsCall line world component (CallSession selector request) outcome reply c q was is =
     ChangesAt component selector (Asks request reply (session_at component selector world)) c q was is
-HearsCall world component (Close selector) outcome reply c q was is = ChangesAt component selector (Ends outcome.is_done) c q was is
-HearsCall world component Exit outcome reply c q was is = EndsAll component outcome.is_done c was is
-HearsCall world component call outcome reply c q was is = is ≡ was
+HearsCall line world component (Close selector) outcome reply c q was is = ChangesAt component selector (Ends outcome.is_done) c q was is
+HearsCall line world component Exit outcome reply c q was is = EndsAll component outcome.is_done c was is
+HearsCall line world component call outcome reply c q was is = is ≡ was

@@ -11,6 +11,7 @@ ghost use Rattle.run_lines.specs.declared.run_fault.RunFault.TheVariants.{WriteF
 ghost use Rattle.view_accounts.specs.Accounting.{OfSessions, SeesAccounts, accounts_behind, accounts_text, text_kept};
 ghost use Rattle.view_accounts.specs.Rows.{accounts_view};
 ghost use Rattle.view_accounts.specs.RunRows.{ShowsRows, rows_kept};
+ghost use Rattle.view_accounts.specs.ShownSessions.{ShowsSessions};
 ghost use Rattle.run_lines.specs.Machine.{world_of};
 ghost use Rattle.run_scenario.specs.Faults.{fault_before, unplayed};
 ghost use Rattle.run_scenario.specs.RunCalls.{calls_answered};
@@ -68,9 +69,12 @@ pub fn accounts<S: Source, K: Sink, E: Sink>(
         accounts.ending
         (S.remaining reader.old) (S.remaining reader.new)
         (S.has_failed reader.new) (K.contents writer.old) (K.contents writer.new)
-        × ShowsRows sessions play.entry.list.now (world_of play.entry.list.now)
+        × (ShowsRows sessions play.entry.list.now (world_of play.entry.list.now)
         (steps_on None play.entry.start play.entry.list.now) accounts.ending.fault
-        (S.remaining reader.old) accounts.rows)) }
+        (S.remaining reader.old) accounts.rows
+        × ShowsSessions sessions play.entry.list.now (world_of play.entry.list.now)
+        (steps_on None play.entry.start play.entry.list.now) accounts.ending.fault
+        (S.remaining reader.old)))) }
     ensures few { IfOk result (λ accounts. accounts.ending.lines ≤ MAX_LINES) }
     ensures writing { IfOk result (λ accounts. (K.has_failed writer.new
         || E.has_failed complaints.new) ≡ is_write_fault accounts.ending.fault) }
@@ -135,9 +139,12 @@ fn run_accounting<R: Router + Drop, S: Source, K: Sink, E: Sink>(
         (E.contents complaints.old) (E.contents complaints.new))
         result.ending (S.remaining reader.old) (S.remaining reader.new)
         (S.has_failed reader.new) (K.contents writer.old) (K.contents writer.new)
-        × ShowsRows sessions stage.entry.run.list.now stage.entry.core
+        × (ShowsRows sessions stage.entry.run.list.now stage.entry.core
         (steps_of None stage.entry.core stage.entry.state.position) result.ending.fault
-        (S.remaining reader.old) result.rows) }
+        (S.remaining reader.old) result.rows
+        × ShowsSessions sessions stage.entry.run.list.now stage.entry.core
+        (steps_of None stage.entry.core stage.entry.state.position) result.ending.fault
+        (S.remaining reader.old))) }
     ensures few { result.ending.lines ≤ MAX_LINES }
     ensures writing { (K.has_failed writer.new || E.has_failed complaints.new)
         ≡ is_write_fault result.ending.fault }

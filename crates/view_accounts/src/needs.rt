@@ -18,6 +18,8 @@ ghost use Rattle.line_grammar.specs.Read.{IsReadAs};
 ghost use Rattle.budget_meter.specs.Metered.{HasObserved, HasReply};
 ghost use Rattle.budget_meter.specs.Needs.{amounts_of};
 ghost use Rattle.view_accounts.specs.Meters.{IsFresh, SeesNeeds, meter_at, metered, needed_in, needed_of, needs_of_sessions};
+ghost use Rattle.view_accounts.specs.Kept.{SeesPeaks, peaked};
+ghost use Rattle.view_accounts.specs.KeptSessions.{SeesSessions};
 ghost use Rattle.view_accounts.specs.Needs.{added, counts_below, lies_below, limits, needed_running, needs_by, summed};
 ghost use Rattle.run_scenario.specs.Observation.{IsAnsweredAfter};
 
@@ -67,13 +69,17 @@ pub(crate) struct Needs {
     /// The components in the order of the list. Only those of scripts are used.
     pub meters: Vec<AccountMeter>,
     pub sessions: SessionNeeds,
+    // How many lines were answered, or the largest number of 64 bits.
+    lines: u64,
 }
 
 impl Needs {
     /// Returns the needs before the first line. The error is that the host is out of memory.
     pub(crate) fn new<R: Router + Drop>(alloc: Global, core: &Core<R>) -> Result<Needs, AllocError>
-        ensures { (listed : Listed) → core.now ≡ world_of listed →
+        ensures meters { (listed : Listed) → core.now ≡ world_of listed →
             IfOk result (λ needs. SeesNeeds needs.meters.items core.now []) }
+        ensures sessions { (listed : Listed) → core.now ≡ world_of listed →
+            IfOk result (λ needs. SeesSessions needs.lines needs.sessions listed core.now []) }
     {
         let mut meters = Vec::new(alloc);
         for component in 0..core.count() {
@@ -82,6 +88,7 @@ impl Needs {
         Ok(Needs {
             meters,
             sessions: SessionNeeds::new(alloc),
+            lines: 0,
         })
     }
 
@@ -150,11 +157,20 @@ impl Needs {
     ) -> Result<(), AllocError>
         requires listed { core.now.entries ≡ entries_of (start_list_of list.now) }
         requires read { IsReadAs heard.now.line.now heard.now.call }
-        ensures { (start : World) (earlier : List (List ℕ)) →
+        ensures meters { (start : World) (earlier : List (List ℕ)) →
             SeesNeeds self.old.meters.items start earlier →
             IsAnsweredAfter start earlier heard.now.line.now core.now heard.now.answer →
             OnOk result (SeesNeeds self.new.meters.items start (earlier ++ heard.now.line.now ∷ [])) }
+        ensures sessions { (start : World) (earlier : List (List ℕ)) →
+            SeesPeaks (peaked peaks.now.init) peaks.now.components.items peaks.now.sessions list.now
+            start earlier →
+            SeesSessions self.old.lines self.old.sessions list.now start earlier →
+            IsAnsweredAfter start earlier heard.now.line.now core.now heard.now.answer →
+            OnOk result (SeesSessions self.new.lines self.new.sessions list.now start
+            (earlier ++ heard.now.line.now ∷ [])) }
     {
+        let line = self.lines.saturating_add(1);
+        self.lines = line;
         let Some((component, call)) = made_in(list, heard.line, heard.call) else {
             return Ok(());
         };
@@ -165,7 +181,7 @@ impl Needs {
         self.observe_own(component, call, reply, core.account(component));
         let outcome = SessionOutcome::of(core, component, heard.answer.outcome);
         self.sessions
-            .hear(core, component, call, reply, outcome, peaks)
+            .hear(core, component, call, reply, outcome, peaks, line)
     }
 
     // Observes a call of a component, with its reply and the account after it.
@@ -180,6 +196,7 @@ impl Needs {
             HasObserved entry (calls ++ model_call call.entry ∷ []) (limits s.account) s
             (meter_at self.new.meters.items component) }
         ensures sessions { self.new.sessions ≡ self.old.sessions }
+        ensures lines { self.new.lines ≡ self.old.lines }
     {
         if component < self.meters.len() {
             let mut meter = self.meters[component];

@@ -1,5 +1,5 @@
 //! The needs of sessions, of open ones and of closed ones.
-ghost use Rattle.std.specs.Prelude.{◌≡◌, ◌++◌, ◌<◌, ◌==◌, ℕ, List, Option, length, true, false, None, IfOk, OnOk};
+ghost use Rattle.std.specs.Prelude.{◌≡◌, ◌++◌, [], ◌<◌, ◌==◌, ℕ, List, Option, length, true, false, None, IfOk, OnOk};
 ghost use Rattle.std.specs.Option.{option_map};
 ghost use Rattle.core_calls.specs.Call.{model_call};
 ghost use Rattle.own_model.specs.Call.Call.{Close, Exit};
@@ -21,7 +21,7 @@ use std::alloc::{AllocError, Global};
 /// What the account of an open session needs.
 #[derive(Drop)]
 pub(crate) struct MeteredSession {
-    /// How many sessions were opened before it.
+    /// The number of the line that opened it.
     earlier: u64,
     pub need: Budget,
     meter: SessionMeter,
@@ -48,8 +48,6 @@ pub(crate) struct SessionNeeds {
     alloc: Global,
     /// Those that are open now.
     pub opened: SessionTable<MeteredSession>,
-    // How many were opened.
-    count: u64,
     /// Those that were closed, in this order.
     pub closed: Vec<ClosedSession>,
 }
@@ -57,12 +55,12 @@ pub(crate) struct SessionNeeds {
 impl SessionNeeds {
     /// Returns the sessions before the first line: none.
     pub(crate) fn new(alloc: Global) -> SessionNeeds
-        ensures { (component selector : ℕ) → value_at result.opened component selector ≡ None }
+        ensures opened { (component selector : ℕ) → value_at result.opened component selector ≡ None }
+        ensures closed { result.closed.items ≡ [] }
     {
         SessionNeeds {
             alloc,
             opened: SessionTable::new(alloc),
-            count: 0,
             closed: Vec::new(alloc),
         }
     }
@@ -78,7 +76,7 @@ impl SessionNeeds {
     }
 
     /// Observes a component's call that opens, calls, upgrades or ends a session, with its reply and its outcome, the core after
-    /// it, and the peaks before it. The error is that the host is out of memory.
+    /// it, the peaks before it, and the number of its line. The error is that the host is out of memory.
     #[tactic(auto, using(crate::proofs::ClosingLemmas::closed_still))]
     pub(crate) fn hear<R: Router + Drop>(
         &mut self,
@@ -88,9 +86,10 @@ impl SessionNeeds {
         reply: Answer<'_>,
         outcome: SessionOutcome,
         peaks: &Peaks,
+        line: u64,
     ) -> Result<(), AllocError>
         requires { component < length core.now.entries }
-        ensures opened { OnOk result ((c q : ℕ) → HearsCall core.now component (model_call call.entry)
+        ensures opened { OnOk result ((c q : ℕ) → HearsCall line core.now component (model_call call.entry)
             outcome reply.entry.text.now c q
             (value_at self.old.opened c q) (value_at self.new.opened c q)) }
         ensures closed { OnOk result (Closes (found peaks.now.sessions component) self.old.opened component
@@ -98,7 +97,7 @@ impl SessionNeeds {
             (closed_of self.old.closed.items) (closed_of self.new.closed.items)) }
     {
         match call {
-            Call::Open { .. } => self.begin(core, component, outcome),
+            Call::Open { .. } => self.begin(core, component, outcome, line),
             Call::CallSession { selector, request } => {
                 self.ask(core, component, selector, request, reply)
             }
@@ -115,14 +114,15 @@ impl SessionNeeds {
         core: &Core<R>,
         component: usize,
         outcome: SessionOutcome,
+        line: u64,
     ) -> Result<(), AllocError>
         requires { component < length core.now.entries }
-        ensures opened { OnOk result ((c q : ℕ) → Opens core.now component outcome.opened c q
+        ensures opened { OnOk result ((c q : ℕ) → Opens line core.now component outcome.opened c q
             (value_at self.old.opened c q) (value_at self.new.opened c q)) }
         ensures closed { self.new.closed ≡ self.old.closed }
     {
         match outcome.opened {
-            Some(selector) => self.begin_under(core, component, selector),
+            Some(selector) => self.begin_under(core, component, selector, line),
             None => Ok(()),
         }
     }
@@ -133,10 +133,11 @@ impl SessionNeeds {
         core: &Core<R>,
         component: usize,
         selector: u64,
+        line: u64,
     ) -> Result<(), AllocError>
         requires { component < length core.now.entries }
         ensures opened { OnOk result ((c q : ℕ) → ChangesAt component selector
-            (Begins (session_at component selector core.now)) c q
+            (Begins line (session_at component selector core.now)) c q
             (value_at self.old.opened c q) (value_at self.new.opened c q)) }
         ensures closed { self.new.closed ≡ self.old.closed }
     {
@@ -146,11 +147,10 @@ impl SessionNeeds {
         let kinds = core.session_kinds(component, selector);
         let meter = SessionMeter::new(self.alloc, account, kinds)?;
         let session = MeteredSession {
-            earlier: self.count,
+            earlier: line,
             need: meter.least(),
             meter,
         };
-        self.count = self.count.saturating_add(1);
         self.opened.set(component, selector, session)
     }
 

@@ -1,14 +1,15 @@
 -- The sessions of a script, and its own account.
 use Rattle.std.proofs.Common.{ap, ◌∙◌}
 use Rattle.budget_meter.specs.Needs.{amounts_of}
+use Rattle.budget_search.proofs.FaultLemmas.{passed_on}
 use Rattle.budget_least.proofs.report_accounts.script_accounts.Goals as goal
 
-pub returns : goal.returns
-returns c = record {
+pub returns-clause-accounts : goal.returns-clause-accounts
+returns-clause-accounts c = record {
   sessions = c.args.sessions.accounts.items;
   own = c.in_ok-own.own;
   these = c.in_ok-push.ensures.items;
-  sessions_are = c.requires.sessions;
+  sessions_are = record { script = λ kind. c.requires.sessions; other = λ other. absurd (other c.requires.given.script) };
   own_is = record {
     same = c.in_ok-own.ensures.component;
     own = c.in_ok-own.ensures.own;
@@ -22,3 +23,7 @@ returns c = record {
     server = λ other. absurd (other c.requires.given.script);
   };
 }
+
+pub returns-in_err-own-clause-fault : goal.returns-in_err-own-clause-fault
+returns-in_err-own-clause-fault c =
+    passed_on _ _ c.from_residual.result c.from_residual.ensures.1 (λ other. c.in_err-own.ensures.fault other c.requires.given.script)

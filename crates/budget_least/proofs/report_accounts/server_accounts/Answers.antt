@@ -8,8 +8,8 @@ use Rattle.budget_search.specs.AccountNeeds.{IsIdle}
 use Rattle.budget_search.specs.Alike.{given_in}
 use Rattle.budget_least.proofs.report_accounts.server_accounts.Goals as goal
 
-pub returns : goal.returns
-returns c = λ steps.
+pub returns-clause-accounts : goal.returns-clause-accounts
+returns-clause-accounts c = λ steps.
     let list = c.args.list.now in
     let component = c.args.component in
     let entry = c.index-entries-component.result in
@@ -22,7 +22,7 @@ returns c = λ steps.
       sessions = [];
       own = c.in_ok-idle.idle;
       these = c.in_ok-accounts.ensures;
-      sessions_are = tt;
+      sessions_are = record { script = λ kind. absurd (c.requires.other kind); other = λ other. refl };
       own_is = record {
         same = c.in_ok-idle.ensures.same;
         own = c.in_ok-idle.ensures.own;

@@ -9,13 +9,13 @@ use Rattle.budget_search.proofs.AlikeLemmas.{funded_begins, funded_entry, same_c
 use Rattle.budget_search.proofs.own_trials.funded_trial.Goals as goal
 
 pub of_account-requires : goal.of_account-requires
-of_account-requires c = omega (arith, c.requires.there, same_count c.in_ok-machine.machine c.args.list.now c.in_ok-machine.ensures.alike)
+of_account-requires c = omega (arith, c.requires.there, same_count c.in_ok-machine.machine c.args.list.now c.in_ok-machine.ensures.funded.alike)
 
-pub returns : goal.returns
-returns c = λ script.
+pub returns-clause-shows : goal.returns-clause-shows
+returns-clause-shows c = λ script.
     let s = own_state c.args.list.now c.args.component in
     let machine = c.in_ok-machine.machine in
     let budget = amounts_of c.args.budget in
     subst (λ e. Shows e (calls_of c.args.steps.now) s budget (is_some c.in_ok-trial.trial.refused) c.in_ok-trial.trial.meter)
-    (funded_entry machine c.args.list.now c.args.component budget c.requires.there c.in_ok-machine.ensures)
-    (c.in_ok-trial.ensures s (funded_begins machine c.args.list.now c.args.component budget c.requires.there c.in_ok-machine.ensures script))
+    (funded_entry machine c.args.list.now c.args.component budget c.requires.there c.in_ok-machine.ensures.funded)
+    (c.in_ok-trial.ensures.shows s (funded_begins machine c.args.list.now c.args.component budget c.requires.there c.in_ok-machine.ensures.funded script))

@@ -5,6 +5,7 @@ use Rattle.budget_theorems.specs.Intervals.{needs_to_shortfall}
 use Rattle.budget_search.specs.Alike.{own_entry, own_state}
 use Rattle.budget_search.specs.Own.{is_short_with}
 use Rattle.budget_search.specs.Steps.{calls_of}
+use Rattle.budget_search.proofs.FaultLemmas.{passed_on}
 use Rattle.budget_search.proofs.own_trials.own_rows.Goals as goal
 
 pub returns-clause-exact : goal.returns-clause-exact
@@ -23,3 +24,13 @@ returns-clause-ordered c = λ script.
     let steps = c.args.steps.now in
     c.in_ok-found.ensures.ordered (needs_to_shortfall (own_entry list component) (calls_of steps) (own_state list component)) (is_short_with list component steps)
     (record { script = script; needs = refl; want = refl })
+
+pub returns-in_err-found-clause-fault : goal.returns-in_err-found-clause-fault
+returns-in_err-found-clause-fault c =
+    let list = c.args.list.now in
+    let component = c.args.component in
+    let steps = c.args.steps.now in
+    passed_on _ _ c.from_residual.result c.from_residual.ensures.1
+    (λ other script.
+    c.in_err-found.ensures.fault other (needs_to_shortfall (own_entry list component) (calls_of steps) (own_state list component)) (is_short_with list component steps)
+    (record { script = script; needs = refl; want = refl }))

@@ -1,11 +1,12 @@
 -- The lines that are run have a report.
-use Rattle.std.proofs.Common.{◌≡◌, ◌∙◌, ℕ, Bool, true, false, List, length, ap, refl, subst, inl, inr}
+use Rattle.std.proofs.Common.{◌≡◌, ◌≢◌, ◌∙◌, ℕ, Bool, true, false, true≢false, List, length, ap, refl, sym, subst, inl, inr}
 use Rattle.std.specs.Prelude.{if◌then◌else◌}
 use Rattle.line_names.specs.RoundMarks.{RoundMark}
 use Rattle.line_rounds.specs.Unfolding.{UnfoldedText}
 use Rattle.line_rounds.specs.Views.{whole_view}
 use Rattle.line_steps.specs.RunPosition.{RunPosition, first_position}
 use Rattle.list_parser.specs.declared.fault.BootFault.{BootFault}
+use Rattle.list_parser.specs.declared.fault.BootFault.TheVariants.{NoMemory}
 use Rattle.budget_least.specs.Report.{unmeasured_of}
 use Rattle.budget_least.specs.ReportOf.{IsReportOf}
 use Rattle.budget_least.specs.declared.report.BudgetQuery.{BudgetQuery}
@@ -21,13 +22,17 @@ use Rattle.cli_options.specs.declared.command_options.LeastOptions.{LeastOptions
 use Rattle.cli_budgets.specs.BudgetStatus.{Asks, EndsMeasured, LacksReport, measured_status}
 use Rattle.cli_budgets.proofs.least_command.least_on.Goals as goal
 
--- a fault is a refusal, unless the host is out of memory
-boot_ends : (R : Type 0) (fault : BootFault) (status : ℕ) → R → status ≡ boot_status fault → HasNoResult R status
+-- a fault is a refusal with its reason, unless the host is out of memory
+boot_ends : (R : Type 0) (fault : BootFault) (status : ℕ) → (fault ≢ NoMemory → R) → status ≡ boot_status fault → HasNoResult R status
 boot_ends R fault status refused is = by (boot_lacks_memory fault) refl
   where
     by : (lacks : Bool) → boot_lacks_memory fault ≡ lacks → HasNoResult R status
     by true lacks = inl (inl (is ∙ ap (λ (b : Bool). if b then 1 else 2) lacks))
-    by false lacks = inr (is ∙ ap (λ (b : Bool). if b then 1 else 2) lacks, refused)
+    by false lacks =
+        inr (
+          is ∙ ap (λ (b : Bool). if b then 1 else 2) lacks,
+          refused (λ none. true≢false (sym (ap boot_lacks_memory none) ∙ lacks)),
+        )
 
 -- the report on the question that the command line asks
 measured : (asked : LeastOptions) (settings : Settings) (machine : Machine) (text : List ℕ) (lines : UnfoldedText) (question : BudgetQuery) (start : RunPosition)
@@ -53,4 +58,6 @@ returns-in-Ok-of c =
     report ended asks c.in-Ok-start_or_status.ensures.start c.marks.ensures c.in-Ok-of.ensures.report is) c.print_report.result c.print_report.ensures)
 
 pub returns : goal.returns
-returns c = inl (boot_ends (LacksReport c.args.machine.now) c.in-Err-of.fault c.report_boot_fault.result tt c.report_boot_fault.ensures)
+returns c =
+    inl (boot_ends (LacksReport c.args.machine.now) c.in-Err-of.fault c.report_boot_fault.result
+    (λ other. (c.list.result.now, c.list.ensures, (c.in-Err-of.fault, c.in-Err-of.ensures.fault other))) c.report_boot_fault.ensures)

@@ -2,8 +2,7 @@
 use Rattle.std.proofs.Common.{inl}
 use Rattle.std.proofs.lemmas.Result.{on_ok_weaker}
 use Rattle.cli_lists.specs.ListStatus.{EndsKept, HasRefused}
-use Rattle.cli_lists.proofs.DocumentLemmas.{on_fault, on_reviewed}
-use Rattle.cli_lists.proofs.ReviewLemmas.{fault_ends}
+use Rattle.cli_lists.proofs.DocumentLemmas.{on_reviewed}
 use Rattle.cli_lists.proofs.check_documents.add_all.Goals as goal
 
 pub returns-in-Ok-clause-status : goal.returns-in-Ok-clause-status

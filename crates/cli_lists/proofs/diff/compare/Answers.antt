@@ -21,13 +21,11 @@ pub returns-clause-ended : goal.returns-clause-ended
 returns-clause-ended g c =
     let texts = g.H.Host.text_at c.args.host.now in
     let asked = c.args.asked.now in
-    with_breaches texts c.args.settings asked c.new-pair.result.lists.before.list.now c.args.before.now c.new-pair.result.lists.after.list.now
-    c.args.after.now c.new-pair.result.breaches.now c.as_slice.result.now c.compare_judged.result c.new-pair.ensures.before c.new-pair.ensures.after
-    c.new-pair.ensures.breaches
+    with_breaches texts c.args.settings asked c.args.before.now c.args.after.now c.as_slice.result.now c.compare_judged.result
     (made_breaches texts (option_copied asked.policy) c.args.before.now c.args.after.now c.in_ok-breaches.breaches.before.items
     c.in_ok-breaches.breaches.after.items c.changes.result c.in_ok-changes.changes c.as_slice.result.now c.in_ok-breaches.ensures.found
     c.changes.ensures c.in_ok-changes.ensures.ok c.as_slice.ensures.value)
-    c.compare_judged.ensures.ended
+    (rw (c.new-pair.ensures.before, c.new-pair.ensures.after, c.new-pair.ensures.breaches) at c.compare_judged.ensures.ended)
 
 pub returns-clause-stopped : goal.returns-clause-stopped
 returns-clause-stopped g c =

@@ -1,9 +1,8 @@
 -- By the review of the list after.
-use Rattle.std.proofs.Common.{inl, inr, subst}
-use Rattle.own_model.specs.Listed.{Listed}
+use Rattle.std.proofs.Common.{inl, inr}
 use Rattle.cli_base.specs.Files.{HasNoBoot}
 use Rattle.cli_lists.specs.ComparedRuns.{HasFaultIn}
-use Rattle.cli_lists.specs.Comparison.{AfterDiffers, AfterRefused, EndsBy, OfScenarios, PairDiffers, PairRefused}
+use Rattle.cli_lists.specs.Comparison.{AfterDiffers, AfterRefused, OfScenarios, PairDiffers, PairRefused}
 use Rattle.cli_lists.proofs.ChangeLemmas.{ends_more, refusal_stops}
 use Rattle.cli_lists.proofs.diff.compare_before.Goals as goal
 
@@ -16,11 +15,7 @@ returns-in-Ok g c =
     ends_more (PairRefused texts asked after.list) (AfterRefused texts asked c.args.settings) (OfScenarios (HasFaultIn texts c.args.settings) asked)
     (PairDiffers texts asked c.args.settings before after.list) (AfterDiffers texts asked c.args.settings before)
     (λ refused. inr (after, c.in-Ok.ensures.reviewed, refused)) (λ changed differ. (after, c.in-Ok.ensures.reviewed, differ))
-    c.compare_both.result
-    (subst
-    (λ (l : Listed). EndsBy (PairRefused texts asked l) (OfScenarios (HasFaultIn texts c.args.settings) asked)
-    (PairDiffers texts asked c.args.settings before l) c.compare_both.result)
-    c.list.ensures c.compare_both.ensures)
+    c.compare_both.result (rw c.list.ensures at c.compare_both.ensures)
 
 pub returns-in-Err : goal.returns-in-Err
 returns-in-Err g c =

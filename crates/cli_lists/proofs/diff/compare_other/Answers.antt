@@ -1,5 +1,5 @@
 -- The scenario is read and unfolded, and then run on the list after.
-use Rattle.std.proofs.Common.{◌∙◌, Bool, ap}
+use Rattle.std.proofs.Common.{Bool}
 use Rattle.line_rounds.specs.Unfolding.{UnfoldedText}
 use Rattle.line_rounds.specs.Views.{whole_view}
 use Rattle.std.proofs.lemmas.Result.{err_from_is_err_and}
@@ -7,7 +7,7 @@ use Rattle.cli_base.specs.Files.{IsUnknown}
 use Rattle.cli_base.specs.Unfolding.{HasRoundsFault}
 use Rattle.cli_lists.specs.ComparedRuns.{AreLinesAt, HasFaultAt}
 use Rattle.cli_lists.specs.Comparison.{LinesDiffer}
-use Rattle.cli_lists.proofs.ChangeLemmas.{fault_at_path, fault_stops, lines_at, ok_as, one_stops, refusal_stops, same_lines}
+use Rattle.cli_lists.proofs.ChangeLemmas.{fault_at_path, fault_stops, lines_at, ok_as, one_stops, refusal_stops}
 use Rattle.cli_lists.proofs.diff.compare_other.Goals as goal
 
 pub returns-in_err-text-clause-stopped : goal.returns-in_err-text-clause-stopped
@@ -45,11 +45,9 @@ returns-clause-ended g c =
           c.in_ok-lines.ensures.lines,
       differ,
     )) c.compare_runs.result
-    (same_lines c.args.settings c.new.result.was.file.list.now c.args.was.file.list.now (whole_view c.new.result.was.lines.now) was
-    c.new.result.now.file.list.now c.args.pair.lists.after.list.now (whole_view c.new.result.now.lines.now) lines c.new.result.breaches.now
-    c.args.pair.breaches.now c.compare_runs.result c.new.ensures.before (ap whole_view c.new.ensures.was)
-    (c.new.ensures.after ∙ c.new-now.ensures.list) (ap whole_view (c.new.ensures.now ∙ c.new-now.ensures.lines)) c.new.ensures.breaches
-    c.compare_runs.ensures.ended)
+    (rw (c.new.ensures.before, c.new.ensures.was) at
+    (rw (c.new.ensures.after, c.new-now.ensures.list, c.new.ensures.now, c.new-now.ensures.lines, c.new.ensures.breaches) at
+    c.compare_runs.ensures.ended))
 
 pub returns-clause-stopped : goal.returns-clause-stopped
 returns-clause-stopped g c =

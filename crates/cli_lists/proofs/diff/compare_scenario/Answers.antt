@@ -1,5 +1,5 @@
 -- The scenario is read and unfolded, and then run on both lists, or another one on the list after.
-use Rattle.std.proofs.Common.{◌≡◌, ◌∙◌, ap, inl, inr, subst, sym}
+use Rattle.std.proofs.Common.{◌≡◌, ap, inl, inr, subst, sym}
 use Rattle.std.specs.Prelude.{List, ℕ}
 use Rattle.std.specs.Option.{option_copied, unwrap_or}
 use Rattle.line_rounds.specs.Views.{whole_view}
@@ -7,7 +7,7 @@ use Rattle.std.proofs.lemmas.Result.{err_from_is_err_and}
 use Rattle.cli_base.specs.Files.{IsUnknown}
 use Rattle.cli_base.specs.Unfolding.{HasRoundsFault}
 use Rattle.cli_lists.specs.ComparedRuns.{HasFaultAt, HasFaultIn, LacksScenario, path_after}
-use Rattle.cli_lists.proofs.ChangeLemmas.{err_as, fault_at_path, fault_stops, lines_at, one_stops, refusal_stops, same_lines, with_other, with_same}
+use Rattle.cli_lists.proofs.ChangeLemmas.{err_as, fault_at_path, fault_stops, lines_at, one_stops, refusal_stops, with_other, with_same}
 use Rattle.cli_lists.proofs.diff.compare_scenario.Goals as goal
 
 pub returns-in_err-text-clause-stopped : goal.returns-in_err-text-clause-stopped
@@ -37,12 +37,11 @@ returns-in-Some-clause-ended g c =
     let texts = g.H.Host.text_at c.args.host.now in
     let path = c.args.path.now in
     let lines = whole_view c.in_ok-lines.lines in
-    with_other texts c.args.settings path c.in-Some.other.now c.args.other lines (whole_view c.new-was.result.lines.now)
-    c.new-was.result.file.list.now c.args.pair.lists.before.list.now c.args.pair.lists.after.list.now c.args.pair.breaches.now c.compare_other.result
-    (ap (λ o. unwrap_or (option_copied o) path) c.in-Some.is) c.new-was.ensures.list (ap whole_view c.new-was.ensures.lines)
+    with_other texts c.args.settings path c.in-Some.other.now c.args.other lines c.args.pair.lists.before.list.now
+    c.args.pair.lists.after.list.now c.args.pair.breaches.now c.compare_other.result (ap (λ o. unwrap_or (option_copied o) path) c.in-Some.is)
     (lines_at texts c.args.settings path c.in_ok-text.text.items c.as_slice.result.now lines c.in_ok-text.ensures.text c.as_slice.ensures.value
     c.in_ok-lines.ensures.lines)
-    c.compare_other.ensures.ended
+    (rw (c.new-was.ensures.list, c.new-was.ensures.lines) at c.compare_other.ensures.ended)
 
 pub returns-in-Some-clause-stopped : goal.returns-in-Some-clause-stopped
 returns-in-Some-clause-stopped g c =
@@ -65,11 +64,9 @@ returns-clause-ended g c =
     c.args.pair.breaches.now c.compare_runs.result (ap (λ o. unwrap_or (option_copied o) path) c.in-None.is)
     (lines_at texts c.args.settings path c.in_ok-text.text.items c.as_slice.result.now lines c.in_ok-text.ensures.text c.as_slice.ensures.value
     c.in_ok-lines.ensures.lines)
-    (same_lines c.args.settings c.new.result.was.file.list.now c.args.pair.lists.before.list.now (whole_view c.new.result.was.lines.now) lines
-    c.new.result.now.file.list.now c.args.pair.lists.after.list.now (whole_view c.new.result.now.lines.now) lines c.new.result.breaches.now
-    c.args.pair.breaches.now c.compare_runs.result (c.new.ensures.before ∙ c.new-was.ensures.list)
-    (ap whole_view (c.new.ensures.was ∙ c.new-was.ensures.lines)) (c.new.ensures.after ∙ c.new-now.ensures.list)
-    (ap whole_view (c.new.ensures.now ∙ c.new-now.ensures.lines)) c.new.ensures.breaches c.compare_runs.ensures.ended)
+    (rw (c.new.ensures.before, c.new-was.ensures.list, c.new.ensures.was, c.new-was.ensures.lines) at
+    (rw (c.new.ensures.after, c.new-now.ensures.list, c.new.ensures.now, c.new-now.ensures.lines, c.new.ensures.breaches) at
+    c.compare_runs.ensures.ended))
 
 pub returns-clause-stopped : goal.returns-clause-stopped
 returns-clause-stopped g c =

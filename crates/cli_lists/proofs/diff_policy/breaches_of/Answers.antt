@@ -8,7 +8,8 @@ use Rattle.list_policy.specs.declared.fault.PolicyFault.{PolicyFault}
 use Rattle.list_policy.specs.declared.policy_text.Policy.{Policy}
 use Rattle.cli_lists.specs.Comparison.{AreBreachesOf, HasPolicyFault}
 use Rattle.cli_lists.specs.declared.diff_policy.PolicyBreaches.{PolicyBreaches}
-use Rattle.cli_lists.proofs.ComparisonLemmas.{no_faults, on_made, some_faults}
+use Rattle.cli_base.proofs.MadeLemmas.{on_made}
+use Rattle.cli_lists.proofs.ComparisonLemmas.{no_faults, some_faults}
 use Rattle.cli_lists.proofs.diff_policy.breaches_of.Goals as goal
 
 pub returns-then-not-is_empty-clause-stopped : goal.returns-then-not-is_empty-clause-stopped

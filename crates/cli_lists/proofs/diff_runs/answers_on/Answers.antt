@@ -7,22 +7,20 @@ use Rattle.run_exchanges.specs.Exchange.{Exchange}
 use Rattle.run_lines.specs.Machine.{world_of}
 use Rattle.run_scenario.specs.Writes.{steps_on}
 use Rattle.cli_lists.specs.ComparedRuns.{answers_on}
-use Rattle.cli_lists.proofs.ChangeLemmas.{answered, answers_are}
+use Rattle.cli_lists.proofs.ChangeLemmas.{answered}
 use Rattle.cli_lists.proofs.diff_runs.answers_on.Goals as goal
 
 pub returns-in-Ok-clause-answers : goal.returns-in-Ok-clause-answers
 returns-in-Ok-clause-answers g c =
     let list = c.args.run.file.list.now in
-    let lines = whole_view c.args.run.lines.now in
     let found = c.in-Ok.answered in
     IfOk-weaker c.all_answered.result
     (λ (v : Vec Exchange Global). (found.ending.fault ≡ None) × (v.items ≡ found.exchanges.items))
-    (λ (v : Vec Exchange Global). v.items ≡ answers_on c.args.settings list lines)
+    (λ (v : Vec Exchange Global). v.items ≡ answers_on c.args.settings list (whole_view c.args.run.lines.now))
     (λ v ended.
     ended.1
-    ∙ answers_are c.args.settings list lines c.marks.result.now c.in_ok-start.start c.bytes.result.now found.exchanges.items
-    c.in_ok-start.ensures.start c.marks.ensures c.bytes.ensures
+    ∙ (rw (c.in_ok-start.ensures.start, c.bytes.ensures) at
     (answered (steps_on None c.in_ok-start.start list) (world_of list) found.ending found.exchanges.items _ _ _
     c.bytes.result.now c.watched_reader-reader.ensures.bytes ended.0
-    (c.in-Ok.ensures.answered (rw (c.watched_reader-reader.ensures.fresh, c.plain_writer-nowhere.ensures, c.plain_writer-complaints.ensures) refl))))
+    (c.in-Ok.ensures.answered (rw (c.watched_reader-reader.ensures.fresh, c.plain_writer-nowhere.ensures, c.plain_writer-complaints.ensures) refl)))))
     c.all_answered.ensures.ended

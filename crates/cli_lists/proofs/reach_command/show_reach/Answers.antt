@@ -1,18 +1,14 @@
 -- By the review of the list.
-use Rattle.std.proofs.Common.{subst}
-use Rattle.own_model.specs.Listed.{Listed}
 use Rattle.list_review.specs.declared.review.Review.{Review}
-use Rattle.cli_base.specs.Statuses.{EndsAs}
 use Rattle.cli_lists.specs.ListStatus.{EndsNamed, NamesNone}
-use Rattle.cli_lists.proofs.ReviewLemmas.{on_review, unreviewed}
+use Rattle.cli_lists.proofs.ReviewLemmas.{on_list, unreviewed}
 use Rattle.cli_lists.proofs.reach_command.show_reach.Goals as goal
 
 pub returns-in-Ok : goal.returns-in-Ok
 returns-in-Ok g c =
     let asked = c.args.asked.now in
-    on_review (g.H.Host.text_at c.args.host.now) c.args.settings asked.list.now (λ (review : Review). NamesNone asked review.list)
-    (λ (review : Review). EndsNamed asked review.list) c.in-Ok.review c.reach_in.result c.in-Ok.ensures.reviewed
-    (subst (λ (l : Listed). EndsAs (NamesNone asked l) (EndsNamed asked l) c.reach_in.result) c.list.ensures c.reach_in.ensures)
+    on_list (g.H.Host.text_at c.args.host.now) c.args.settings asked.list.now (NamesNone asked) (EndsNamed asked) c.in-Ok.review c.list.result.now
+    c.reach_in.result c.in-Ok.ensures.reviewed c.list.ensures c.reach_in.ensures
 
 pub returns-in-Err : goal.returns-in-Err
 returns-in-Err g c =

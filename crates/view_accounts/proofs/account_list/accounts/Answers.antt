@@ -1,6 +1,8 @@
 -- On the machine of the list.
 use Rattle.std.proofs.Common.{ap, [], None}
 use Rattle.view_accounts.specs.Accounting.{accounts_text}
+use Rattle.view_accounts.specs.RunRows.{ShowsRows}
+use Rattle.view_accounts.specs.ShownSessions.{ShowsSessions}
 use Rattle.run_scenario.specs.RunCalls.{calls_answered}
 use Rattle.run_scenario.proofs.WriteLemmas.{played_on, unplayed_with}
 use Rattle.view_accounts.proofs.RunRowLemmas.{ends_with_rows, shows_on}
@@ -13,8 +15,12 @@ returns-clause-played g c = λ works.
       (
         played_on c.args.play.list.now None c.args.play.start (λ _ _. []) (λ start steps. accounts_text played.0 c.args.play.list.now start (calls_answered None steps)) c.run_accounting.result.ending _ _ _ _ _ _ _
             c.in_ok-core.ensures.started c.new-state.ensures.stands c.new-state.ensures.expects c.new-state.ensures.subject played.1.0,
-        shows_on played.0 c.args.play.list.now c.args.play.start c.run_accounting.result.ending.fault (g.S.Source.remaining c.args.reader.now) c.run_accounting.result.rows
-            c.in_ok-core.ensures.started c.new-state.ensures.stands played.1.1,
+        (
+          shows_on (λ world steps. ShowsRows played.0 c.args.play.list.now world steps c.run_accounting.result.ending.fault (g.S.Source.remaining c.args.reader.now) c.run_accounting.result.rows)
+              c.args.play.list.now c.args.play.start c.in_ok-core.ensures.started c.new-state.ensures.stands played.1.1.0,
+          shows_on (λ world steps. ShowsSessions played.0 c.args.play.list.now world steps c.run_accounting.result.ending.fault (g.S.Source.remaining c.args.reader.now))
+              c.args.play.list.now c.args.play.start c.in_ok-core.ensures.started c.new-state.ensures.stands played.1.1.1,
+        ),
       ),
     )
 

@@ -2,13 +2,14 @@
 use Rattle.std.proofs.Common.{ap, ◌∙◌}
 use Rattle.core_calls.specs.Call.{model_call}
 use Rattle.line_names.specs.Views.{filled_view}
+use Rattle.budget_search.proofs.FaultLemmas.{passed_on}
 use Rattle.budget_search.specs.AmpleCalls.{Client}
 use Rattle.budget_least.specs.BoundRuns.{answered_by}
 use Rattle.budget_least.proofs.BoundRunLemmas.{answered_is, made_is}
 use Rattle.budget_least.proofs.binding_run.BindingRun.answer_bound.Goals as goal
 
-pub returns : goal.returns
-returns c =
+pub returns-clause-answered : goal.returns-clause-answered
+returns-clause-answered c =
     let old = c.args.self.now in
     let filled = filled_view c.args.filled.now in (
       c.in_ok-client.client,
@@ -21,3 +22,7 @@ returns c =
             c.in_ok-client.ensures.taken c.budgets.ensures c.in_ok-make.ensures),
       ),
     )
+
+pub returns-in_err-client-clause-fault : goal.returns-in_err-client-clause-fault
+returns-in_err-client-clause-fault c =
+    passed_on _ _ c.from_residual.result c.from_residual.ensures.1 (λ other. c.in_err-client.ensures.fault other)

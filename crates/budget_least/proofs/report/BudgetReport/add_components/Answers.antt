@@ -2,9 +2,12 @@
 use Rattle.std.proofs.Common.{arith, ◌≡◌, ◌+◌, length, sym, ap, subst, ◌∙◌, Bor}
 use Rattle.std.specs.Vec.Iter.{into_iter_items}
 use Rattle.own_model.specs.Listed.{Listed}
+use Rattle.budget_search.specs.NoBudgets.{LacksBudgets}
+use Rattle.budget_search.proofs.FaultLemmas.{passed_on}
 use Rattle.budget_least.proofs.AccountLemmas.{sessions_after}
 use Rattle.budget_least.specs.ComponentAccounts.{AreSessionsFrom}
 use Rattle.budget_least.specs.ReportOf.{HasAccounts}
+use Rattle.budget_least.specs.declared.lines_by_component.LinesByComponent.{LinesByComponent}
 use Rattle.budget_least.proofs.report.BudgetReport.add_components.Goals as goal
 
 pub overflow_add-component : goal.overflow_add-component
@@ -20,7 +23,7 @@ add_component-requires-clause-there c =
 
 pub add_component-requires-clause-sessions : goal.add_component-requires-clause-sessions
 add_component-requires-clause-sessions c =
-    (sessions_after c.loop-script.self.list.now c.loop-script.component c.in-Some.script (into_iter_items c.loop-script.script-iterator) (into_iter_items c.next.new.self)
+    (sessions_after c.loop-script.self.list.now c.loop-script.self.scene.steps.items c.loop-script.component c.in-Some.script (into_iter_items c.loop-script.script-iterator) (into_iter_items c.next.new.self)
     c.in-Some.ensures.steps.0 c.loop-script.invariant.left).0
 
 pub loop-script-preserved : goal.loop-script-preserved
@@ -36,8 +39,10 @@ loop-script-preserved c =
       scene = c.add_component.ensures.scene ∙ c.loop-script.invariant.scene;
       accounts = c.in_ok-add_component.ensures.accounts;
       left =
-          subst (λ (list : Bor Listed). AreSessionsFrom list.now (c.loop-script.component + 1) rest) (sym c.add_component.ensures.list)
-          (sessions_after was.list.now c.loop-script.component c.in-Some.script (into_iter_items c.loop-script.script-iterator) rest steps c.loop-script.invariant.left).1;
+          subst (λ (scene : LinesByComponent). AreSessionsFrom c.add_component.new.self.list.now scene.steps.items (c.loop-script.component + 1) rest)
+          (sym c.add_component.ensures.scene)
+          (subst (λ (list : Bor Listed). AreSessionsFrom list.now was.scene.steps.items (c.loop-script.component + 1) rest) (sym c.add_component.ensures.list)
+          (sessions_after was.list.now was.scene.steps.items c.loop-script.component c.in-Some.script (into_iter_items c.loop-script.script-iterator) rest steps c.loop-script.invariant.left).1);
       count = omega (arith, longer, entries, c.loop-script.invariant.count);
       exact = omega (arith, longer, c.in-Some.ensures.steps.1, c.loop-script.invariant.exact);
     }
@@ -48,3 +53,8 @@ returns-clause-accounts c =
     let all : c.loop-script.component ≡ length self.list.now.entries =
     omega (arith, c.in-None.ensures.steps.0, c.loop-script.invariant.exact, c.loop-script.invariant.count) in
     subst (λ n. HasAccounts self n) all c.loop-script.invariant.accounts
+
+pub returns-in_err-add_component-clause-fault : goal.returns-in_err-add_component-clause-fault
+returns-in_err-add_component-clause-fault c =
+    passed_on _ _ c.from_residual.result c.from_residual.ensures.1
+    (λ other. subst (λ (list : Bor Listed). LacksBudgets list.now c.in_err-add_component.field-0.0) c.loop-script.invariant.list (c.in_err-add_component.ensures.fault other))

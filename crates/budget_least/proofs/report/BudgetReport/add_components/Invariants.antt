@@ -11,7 +11,7 @@ invariant-loop-script l = record {
   choice : l.self.choice ≡ l.initial.self.choice;
   scene : l.self.scene ≡ l.initial.self.scene;
   accounts : HasAccounts l.self l.component;
-  left : AreSessionsFrom l.self.list.now l.component (into_iter_items l.script-iterator);
+  left : AreSessionsFrom l.self.list.now l.self.scene.steps.items l.component (into_iter_items l.script-iterator);
   count : l.component + length (into_iter_items l.script-iterator) ≡ length l.self.list.now.entries;
   exact : into_iter_len l.script-iterator ≡ length (into_iter_items l.script-iterator);
 }

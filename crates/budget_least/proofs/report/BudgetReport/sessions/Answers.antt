@@ -2,17 +2,25 @@
 use Rattle.std.proofs.Common.{arith, ◌≡◌, ◌+◌, ◌∷◌, [], length, sym, ap, subst, ◌∙◌}
 use Rattle.std.proofs.lemmas.List.{length-append}
 use Rattle.budget_least.proofs.AccountLemmas.{one_more}
-use Rattle.budget_least.specs.ComponentAccounts.{AreSessionsFrom, IsSessionsOf}
+use Rattle.budget_least.specs.ComponentAccounts.{steps_at, AreSessionsFrom, IsSessionsOf}
+use Rattle.budget_search.proofs.FaultLemmas.{passed_on}
 use Rattle.budget_least.proofs.report.BudgetReport.sessions.Goals as goal
 
 pub loop-component-preserved : goal.loop-component-preserved
 loop-component-preserved c =
     let list = c.args.self.now.list.now in
+    let steps = c.args.self.now.scene.steps.items in
     let scripts = c.loop-component.scripts.items in
     let place : c.loop-component.component ≡ 0 + length scripts = omega (arith, c.loop-component.invariant.count) in
     record {
       sessions =
-          subst (λ xs. AreSessionsFrom list 0 xs) (sym c.in_ok-push.ensures.items)
-          (one_more list 0 scripts c.in_ok-script.script c.loop-component.invariant.sessions (subst (λ n. IsSessionsOf list n c.in_ok-script.script) place c.in_ok-script.ensures));
+          subst (λ xs. AreSessionsFrom list steps 0 xs) (sym c.in_ok-push.ensures.items)
+          (one_more list steps 0 scripts c.in_ok-script.script c.loop-component.invariant.sessions
+          (subst (λ n. IsSessionsOf list n (steps_at steps n) c.in_ok-script.script) place
+          (subst (λ lines. IsSessionsOf list c.loop-component.component lines c.in_ok-script.script) c.of.ensures.steps c.in_ok-script.ensures.sessions)));
       count = ap length c.in_ok-push.ensures.items ∙ length-append scripts (c.in_ok-script.script ∷ []) ∙ ap (λ n. n + 1) c.loop-component.invariant.count;
     }
+
+pub returns-in_err-script-clause-fault : goal.returns-in_err-script-clause-fault
+returns-in_err-script-clause-fault c =
+    passed_on _ _ c.from_residual.result c.from_residual.ensures.1 c.in_err-script.ensures.fault

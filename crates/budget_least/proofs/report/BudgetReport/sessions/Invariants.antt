@@ -5,6 +5,6 @@ use Rattle.budget_least.proofs.report.BudgetReport.sessions.Given as goal
 
 abbrev pub invariant-loop-component : goal.invariant-loop-component
 invariant-loop-component l = record {
-  sessions : AreSessionsFrom l.self.list.now 0 l.scripts.items;
+  sessions : AreSessionsFrom l.self.list.now l.self.scene.steps.items 0 l.scripts.items;
   count : length l.scripts.items ≡ l.component;
 }

@@ -6,6 +6,7 @@ use Rattle.budget_theorems.specs.Need.{Need}
 use Rattle.budget_theorems.specs.Intervals.{is_covered, stretches}
 use Rattle.budget_search.specs.BudgetIntervals.{serves, AreOrdered, AreRows, BeginFrom, Follows}
 use Rattle.budget_search.specs.declared.budget_intervals.BudgetInterval.{BudgetInterval}
+use Rattle.budget_search.proofs.FaultLemmas.{passed_on}
 use Rattle.budget_search.proofs.RowLemmas.{none_left}
 use Rattle.budget_search.proofs.budget_intervals.BudgetIntervals.gather.Goals as goal
 
@@ -25,7 +26,9 @@ order_kept here caps ram top old new next told same is made =
 pub loop-made-init : goal.loop-made-init
 loop-made-init g c = record {
   caps = refl;
+  rest = refl;
   runs = λ each want runs. runs;
+  same = λ ram fault fails. fails;
   within = λ each want runs. omega arith;
   rows = λ each want runs. subst AreRows (sym c.requires.none) tt;
   ordered = λ each want runs.
@@ -70,7 +73,9 @@ loop-made-preserved g c =
       ordered = λ each want runs. (order each want runs).0;
       above = λ each want runs. (order each want runs).1;
       caps = c.in_ok-next.ensures.caps ∙ inv.caps;
+      rest = c.in_ok-next.ensures.rest ∙ inv.rest;
       runs = λ each want runs. c.in_ok-next.ensures.still each want (inv.runs each want runs);
+      same = λ ram fault fails. inv.same ram fault (c.in_ok-next.ensures.same ram fault fails);
       within = λ each want runs. (follows each want runs).within;
       rows = λ each want runs. (follows each want runs).rows;
       all = λ each want runs budget up left same.
@@ -94,3 +99,41 @@ returns-clause-ordered g c = λ each want runs.
     (order_kept (g.T.BudgetTrials.caps c.loop-made.trials) (g.T.BudgetTrials.caps c.args.trials.now) c.loop-made.ram c.args.top c.loop-made.self.rows.items
     c.take_run-2.new.self.rows.items c.in_ok-_next._next c.in_ok-_next._next inv.caps refl
     (c.in_ok-_next.ensures.ordered each want (inv.runs each want runs) (inv.within each want runs)) (inv.ordered each want runs) (inv.above each want runs)).0
+
+pub returns-in-None-clause-still : goal.returns-in-None-clause-still
+returns-in-None-clause-still g c = λ each want runs. c.in_ok-next.ensures.still each want (c.loop-made.invariant.runs each want runs)
+
+pub returns-clause-still : goal.returns-clause-still
+returns-clause-still g c = λ each want runs. c.in_ok-_next.ensures.still each want (c.loop-made.invariant.runs each want runs)
+
+pub returns-in_err-next-clause-same : goal.returns-in_err-next-clause-same
+returns-in_err-next-clause-same g c = λ ram fault fails. c.loop-made.invariant.same ram fault (c.in_err-next.ensures.same ram fault fails)
+
+pub returns-in_err-next-clause-fault : goal.returns-in_err-next-clause-fault
+returns-in_err-next-clause-fault g c =
+    let inv = c.loop-made.invariant in
+    passed_on _ _ c.from_residual.result c.from_residual.ensures.1
+    (λ other each want runs. record {
+      ram = c.loop-made.ram;
+      within = inv.within each want runs;
+      its = inv.same c.loop-made.ram _ (c.in_err-next.ensures.fault other each want (inv.runs each want runs));
+    })
+
+pub returns-in-None-clause-same : goal.returns-in-None-clause-same
+returns-in-None-clause-same g c = λ ram fault fails. c.loop-made.invariant.same ram fault (c.in_ok-next.ensures.same ram fault fails)
+
+pub returns-in_err-_next-clause-same : goal.returns-in_err-_next-clause-same
+returns-in_err-_next-clause-same g c = λ ram fault fails. c.loop-made.invariant.same ram fault (c.in_err-_next.ensures.same ram fault fails)
+
+pub returns-in_err-_next-clause-fault : goal.returns-in_err-_next-clause-fault
+returns-in_err-_next-clause-fault g c =
+    let inv = c.loop-made.invariant in
+    passed_on _ _ c.from_residual-in_err-_next.result c.from_residual-in_err-_next.ensures.1
+    (λ other each want runs. record {
+      ram = c.loop-made.ram;
+      within = inv.within each want runs;
+      its = inv.same c.loop-made.ram _ (c.in_err-_next.ensures.fault other each want (inv.runs each want runs));
+    })
+
+pub returns-clause-same : goal.returns-clause-same
+returns-clause-same g c = λ ram fault fails. c.loop-made.invariant.same ram fault (c.in_ok-_next.ensures.same ram fault fails)

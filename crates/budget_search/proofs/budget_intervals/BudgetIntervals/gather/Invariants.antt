@@ -2,6 +2,7 @@
 use Rattle.std.proofs.Common.{◌≡◌, ℕ, ◌+◌, ◌≤◌, suc, reverse, Bool, List}
 use Rattle.std.specs.Prelude.{Some}
 use Rattle.own_model.specs.Amounts.{Amounts}
+use Rattle.list_parser.specs.declared.fault.BootFault.{BootFault}
 use Rattle.budget_theorems.specs.Need.{Need}
 use Rattle.budget_theorems.specs.Intervals.{is_covered, stretches}
 use Rattle.budget_search.specs.BudgetIntervals.{covered_with, AreOrdered, AreRows, BeginFrom}
@@ -10,7 +11,9 @@ use Rattle.budget_search.proofs.budget_intervals.BudgetIntervals.gather.Given as
 abbrev pub invariant-loop-made : goal.invariant-loop-made
 invariant-loop-made g l = record {
   caps : g.T.BudgetTrials.caps l.trials ≡ g.T.BudgetTrials.caps l.initial.trials;
+  rest : g.T.BudgetTrials.rest l.trials ≡ g.T.BudgetTrials.rest l.initial.trials;
   runs : (each : Amounts → List Need) (want : Amounts → Bool) → g.T.BudgetTrials.AreRuns l.initial.trials each want → g.T.BudgetTrials.AreRuns l.trials each want;
+  same : (ram : ℕ) (fault : BootFault) → g.T.BudgetTrials.fails l.trials ram fault → g.T.BudgetTrials.fails l.initial.trials ram fault;
   within : (each : Amounts → List Need) (want : Amounts → Bool) → g.T.BudgetTrials.AreRuns l.initial.trials each want → l.ram ≤ l.top;
   rows : (each : Amounts → List Need) (want : Amounts → Bool) → g.T.BudgetTrials.AreRuns l.initial.trials each want → AreRows l.self.rows.items;
   ordered : (each : Amounts → List Need) (want : Amounts → Bool) → g.T.BudgetTrials.AreRuns l.initial.trials each want →

@@ -1,13 +1,15 @@
 -- The other way round the rows cover the same.
-use Rattle.std.proofs.Common.{drop, length, reverse, sym, ap, subst, ◌∙◌}
+use Rattle.std.specs.List.{AllByRecursion}
+use Rattle.std.proofs.Common.{◌≤◌, drop, length, reverse, sym, ap, subst, ◌∙◌}
 use Rattle.std.proofs.lemmas.List.Sorted.{list_any-IsPermutation}
 use Rattle.budget_search.specs.BudgetIntervals.{covers, serves, AreOrdered}
+use Rattle.budget_search.proofs.FaultLemmas.{passed_on, rows_below}
 use Rattle.budget_search.proofs.RowLemmas.{front}
 use Rattle.budget_search.proofs.budget_intervals.BudgetIntervals.of.Goals as goal
 
 pub returns-clause-exact : goal.returns-clause-exact
 returns-clause-exact g c = λ each want runs budget up.
-    ap (λ rows. serves rows.items budget) c.fill_holes.ensures
+    ap (λ rows. serves rows.items budget) c.fill_holes.ensures.rows
     ∙ ap (λ rows. serves rows budget)
     (front c.gather.new.self.rows.len c.reverse.new.self (drop (length c.reverse.new.self) c.gather.new.self.rows.items)
     (c.reverse.ensures.len ∙ c.as_mut_slice.ensures.len))
@@ -18,8 +20,26 @@ returns-clause-exact g c = λ each want runs budget up.
 pub returns-clause-ordered : goal.returns-clause-ordered
 returns-clause-ordered g c = λ each want runs.
     subst (AreOrdered (g.T.BudgetTrials.caps c.args.trials.now) c.args.top)
-    (sym (ap (λ rows. rows.items) c.fill_holes.ensures
+    (sym (ap (λ rows. rows.items) c.fill_holes.ensures.rows
     ∙ front c.gather.new.self.rows.len c.reverse.new.self (drop (length c.reverse.new.self) c.gather.new.self.rows.items)
     (c.reverse.ensures.len ∙ c.as_mut_slice.ensures.len)
     ∙ c.reverse.ensures.after ∙ ap reverse c.as_mut_slice.ensures.value))
     (c.in_ok-gather.ensures.ordered each want runs)
+
+pub returns-clause-still : goal.returns-clause-still
+returns-clause-still g c = λ each want runs. c.in_ok-fill_holes.ensures.still each want (c.in_ok-gather.ensures.still each want runs)
+
+pub returns-in_err-fill_holes-clause-fault : goal.returns-in_err-fill_holes-clause-fault
+returns-in_err-fill_holes-clause-fault g c =
+    passed_on _ _ c.from_residual-in_err-fill_holes.result c.from_residual-in_err-fill_holes.ensures.1
+    (λ other each want runs.
+    let ordered = c.in_ok-gather.ensures.ordered each want runs in
+    let fails =
+    c.in_err-fill_holes.ensures.fault other c.args.top
+    (subst (λ rows. AllByRecursion (λ row. row.ram_from ≤ c.args.top) rows)
+    (sym (front c.gather.new.self.rows.len c.reverse.new.self (drop (length c.reverse.new.self) c.gather.new.self.rows.items)
+    (c.reverse.ensures.len ∙ c.as_mut_slice.ensures.len)
+    ∙ c.reverse.ensures.after ∙ ap reverse c.as_mut_slice.ensures.value))
+    (rows_below (g.T.BudgetTrials.caps c.args.trials.now) c.args.top (reverse c.gather.new.self.rows.items) ordered.within)) each want
+    (c.in_ok-gather.ensures.still each want runs) in
+    record { ram = fails.ram; within = fails.within; its = c.in_ok-gather.ensures.same fails.ram _ fails.its })

@@ -4,8 +4,8 @@ use Rattle.budget_search.specs.ReachedSessions.{followed, sessions_of, Reach}
 use Rattle.budget_search.proofs.ItemLemmas.{next_item, no_item}
 use Rattle.budget_search.proofs.opened_sessions.OpenedSessions.follow.Goals as goal
 
-pub returns-then-not-branch : goal.returns-then-not-branch
-returns-then-not-branch g c =
+pub returns-then-not-branch-clause-sessions : goal.returns-then-not-branch-clause-sessions
+returns-then-not-branch-clause-sessions g c =
     let steps = c.args.steps.now in
     let place = c.loop-place.place in
     let item = c.index-steps-place.result in
@@ -25,8 +25,8 @@ loop-place-preserved g c = record {
       (c.in_ok-goes_on.ensures.on c.if-not-branch.false (drop (place + 1) steps) end reach));
 }
 
-pub returns : goal.returns
-returns g c =
+pub returns-clause-sessions : goal.returns-clause-sessions
+returns-clause-sessions g c =
     let steps = c.args.steps.now in
     let end = sessions_of c.loop-place.self in
     c.loop-place.invariant.left end

@@ -3,8 +3,8 @@ use Rattle.std.proofs.lemmas.Result.{on_ok_weaker}
 use Rattle.budget_search.specs.ReachedSessions.{came_with}
 use Rattle.budget_search.proofs.opened_sessions.OpenedSessions.go_on.Goals as goal
 
-pub returns : goal.returns
-returns g c =
+pub returns-clause-sessions : goal.returns-clause-sessions
+returns-clause-sessions g c =
     on_ok_weaker c.record.result
     (λ is. (
       c.in_ok-make.ensures,
@@ -15,4 +15,4 @@ returns g c =
           is,
         ),
       ),
-    )) c.record.ensures
+    )) c.record.ensures.sessions

@@ -12,7 +12,7 @@ pub returns-then-step-clause-on : goal.returns-then-step-clause-on
 returns-then-step-clause-on g c = λ _ steps end reach.
     steps_by c.args.step.now.is_left_out c.args.place (λ next. Reach steps (c.args.place + 1) next end) (followed c.args.client.now (sessions_of c.args.self.now)) end
     (call_said c.args.step.now.line.items) (model_call c.in-Some.call) (followed c.args.client.now (sessions_of c.leave_out.new.self)) (sym c.in-Some.ensures.call)
-    (ap (λ b. not b && is_exit (model_call c.in-Some.call)) c.if-step.true) reach true c.if-step.true (ap (followed c.args.client.now) c.in_ok-leave_out.ensures)
+    (ap (λ b. not b && is_exit (model_call c.in-Some.call)) c.if-step.true) reach true c.if-step.true (ap (followed c.args.client.now) c.in_ok-leave_out.ensures.sessions)
 
 pub returns-then-is_exit-clause-ends : goal.returns-then-is_exit-clause-ends
 returns-then-is_exit-clause-ends g c = λ _ steps.
@@ -25,4 +25,4 @@ pub returns-clause-on : goal.returns-clause-on
 returns-clause-on g c = λ _ steps end reach.
     steps_by c.args.step.now.is_left_out c.args.place (λ next. Reach steps (c.args.place + 1) next end) (followed c.args.client.now (sessions_of c.args.self.now)) end
     (call_said c.args.step.now.line.items) (model_call c.in-Some.call) (followed c.go_on.new.client (sessions_of c.go_on.new.self)) (sym c.in-Some.ensures.call)
-    (ap (λ b. not b && is_exit (model_call c.in-Some.call)) c.if-step.false ∙ sym c.is_exit.ensures ∙ c.if-is_exit.false) reach false c.if-step.false c.in_ok-go_on.ensures
+    (ap (λ b. not b && is_exit (model_call c.in-Some.call)) c.if-step.false ∙ sym c.is_exit.ensures ∙ c.if-is_exit.false) reach false c.if-step.false c.in_ok-go_on.ensures.sessions

@@ -8,19 +8,16 @@ use Rattle.budget_search.specs.Steps.{calls_of}
 use Rattle.budget_search.proofs.RunLemmas.{next_calls, all_done, no_calls}
 use Rattle.budget_search.proofs.own_run.OwnRun.go_through.Goals as goal
 
-pub returns-then-not-branch : goal.returns-then-not-branch
-returns-then-not-branch g c =
+pub returns-then-not-branch-clause-shows : goal.returns-then-not-branch-clause-shows
+returns-then-not-branch-clause-shows g c = λ calls budget s left.
     let now = c.loop-step.self in
     let steps = c.args.steps.now in
     let i = c.loop-step.step-index in
     let item = c.step-item.result in
-    record {
-      shows = λ calls budget s left.
-          subst (λ e. Shows e calls s budget (is_some c.goes_on.new.self.trial.refused) c.goes_on.new.self.heard.meter) c.loop-step.invariant.entry
-          (c.in_ok-goes_on.ensures.ends c.if-not-branch.true calls (calls_of (drop (i + 1) steps)) budget s
-          (subst (λ each. HasLeft now.core.now now.component now.heard calls each budget s) (next_calls steps i item c.loop-step-test.true c.step-item.is)
-          (c.loop-step.invariant.left calls budget s left)));
-    }
+    subst (λ e. Shows e calls s budget (is_some c.goes_on.new.self.trial.refused) c.goes_on.new.self.heard.meter) c.loop-step.invariant.entry
+    (c.in_ok-goes_on.ensures.ends c.if-not-branch.true calls (calls_of (drop (i + 1) steps)) budget s
+    (subst (λ each. HasLeft now.core.now now.component now.heard calls each budget s) (next_calls steps i item c.loop-step-test.true c.step-item.is)
+    (c.loop-step.invariant.left calls budget s left)))
 
 pub loop-step-preserved : goal.loop-step-preserved
 loop-step-preserved g c =
@@ -42,14 +39,11 @@ loop-step-preserved g c =
           (kept.left calls budget s before));
     }
 
-pub returns : goal.returns
-returns g c =
+pub returns-clause-shows : goal.returns-clause-shows
+returns-clause-shows g c = λ calls budget s left.
     let now = c.loop-step.self in
     let kept = c.loop-step.invariant in
-    record {
-      shows = λ calls budget s left.
-          subst (λ e. Shows e calls s budget (is_some now.trial.refused) now.heard.meter) kept.entry
-          (all_done now.core.now now.component now.heard calls budget s now.trial.refused kept.none
-          (subst (λ each. HasLeft now.core.now now.component now.heard calls each budget s)
-          (no_calls c.args.steps.now c.loop-step.step-index c.loop-step-test.false) (kept.left calls budget s left)));
-    }
+    subst (λ e. Shows e calls s budget (is_some now.trial.refused) now.heard.meter) kept.entry
+    (all_done now.core.now now.component now.heard calls budget s now.trial.refused kept.none
+    (subst (λ each. HasLeft now.core.now now.component now.heard calls each budget s)
+    (no_calls c.args.steps.now c.loop-step.step-index c.loop-step-test.false) (kept.left calls budget s left)))

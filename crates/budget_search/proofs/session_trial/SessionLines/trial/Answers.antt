@@ -1,13 +1,13 @@
 -- Opened, or too small.
 use Rattle.std.proofs.lemmas.Option.{slice_get_read}
 use Rattle.std.proofs.Common.{None, refl, sym, ap, ◌∙◌, subst}
-use Rattle.std.specs.Prelude.{Some}
+use Rattle.std.specs.Prelude.{Some, is_some}
 use Rattle.own_model.specs.Session.{Wish, new_session}
 use Rattle.own_model.specs.Transcript.{entry_at}
 use Rattle.core_calls.specs.Call.{model_call}
 use Rattle.budget_meter.specs.Needs.{amounts_of}
 use Rattle.budget_search.specs.OpenedSessions.{HasSelectors, IsReady, held, opened_by, opened_with, sent_at, is_too_small}
-use Rattle.budget_search.proofs.SessionLemmas.{account_told, none_told, each_ok, each_on, each_three, shows_run, small_run, was_not, was_opened, wish_again}
+use Rattle.budget_search.proofs.SessionLemmas.{account_told, none_told, each_ok, each_on, each_three, routed_few, routed_open, shows_run, small_run, was_not, was_opened, wish_again}
 use Rattle.budget_search.proofs.session_trial.SessionLines.trial.Goals as goal
 
 pub returns-in-Some-account-clause-run : goal.returns-in-Some-account-clause-run
@@ -23,7 +23,7 @@ returns-in-Some-account-clause-run g c =
     let again =
     wish_again entry c.in-Some-Open.service.now c.in-Some-Open.given.now text donation session
     (ap (opened_by entry) (ap (λ x. Some (model_call x)) (sym c.in-Some-Open.field-0-is) ∙ c.in-Some-Open.ensures.call) ∙ sym (ap (opened_with entry) found) ∙ opens)
-    (c.donates.ensures c.if-not-donates.false) in
+    (c.donates.ensures.named c.if-not-donates.false) in
     let wish : Wish = record again.0 { ram = donation.ram; caps = donation.caps } in
     let opened =
     was_opened world c.step.new.self.core client c.in-Some-Open.service.now text c.step.new.self.reply.text (c.step.ensures.answered ready.entry) (c.step.ensures.stepped ready.entry) ready wish
@@ -47,7 +47,7 @@ returns-in-Some-account-clause-ready g c =
     let again =
     wish_again entry c.in-Some-Open.service.now c.in-Some-Open.given.now text donation session
     (ap (opened_by entry) (ap (λ x. Some (model_call x)) (sym c.in-Some-Open.field-0-is) ∙ c.in-Some-Open.ensures.call) ∙ sym (ap (opened_with entry) found) ∙ opens)
-    (c.donates.ensures c.if-not-donates.false) in
+    (c.donates.ensures.named c.if-not-donates.false) in
     let wish : Wish = record again.0 { ram = donation.ram; caps = donation.caps } in
     let opened =
     was_opened world c.step.new.self.core client c.in-Some-Open.service.now text c.step.new.self.reply.text (c.step.ensures.answered ready.entry) (c.step.ensures.stepped ready.entry) ready wish
@@ -70,7 +70,7 @@ returns-clause-run g c =
     let again =
     wish_again entry c.in-Some-Open.service.now c.in-Some-Open.given.now text donation session
     (ap (opened_by entry) (ap (λ x. Some (model_call x)) (sym c.in-Some-Open.field-0-is) ∙ c.in-Some-Open.ensures.call) ∙ sym (ap (opened_with entry) found) ∙ opens)
-    (c.donates.ensures c.if-not-donates.false) in
+    (c.donates.ensures.named c.if-not-donates.false) in
     let wish : Wish = record again.0 { ram = donation.ram; caps = donation.caps } in
     let left =
     was_not world c.step.new.self.core client c.in-Some-Open.service.now text c.step.new.self.reply.text (c.step.ensures.answered ready.entry) (c.step.ensures.stepped ready.entry) ready wish
@@ -93,7 +93,7 @@ returns-clause-ready g c =
     let again =
     wish_again entry c.in-Some-Open.service.now c.in-Some-Open.given.now text donation session
     (ap (opened_by entry) (ap (λ x. Some (model_call x)) (sym c.in-Some-Open.field-0-is) ∙ c.in-Some-Open.ensures.call) ∙ sym (ap (opened_with entry) found) ∙ opens)
-    (c.donates.ensures c.if-not-donates.false) in
+    (c.donates.ensures.named c.if-not-donates.false) in
     let wish : Wish = record again.0 { ram = donation.ram; caps = donation.caps } in
     let left =
     was_not world c.step.new.self.core client c.in-Some-Open.service.now text c.step.new.self.reply.text (c.step.ensures.answered ready.entry) (c.step.ensures.stepped ready.entry) ready wish
@@ -101,4 +101,38 @@ returns-clause-ready g c =
     (none_told c.step.new.self.core c.step.new.self.client client world.entries c.account.result c.step.ensures.same c.step.ensures.entries ready.entry c.in-None.is c.account.ensures)
     (sym (ap is_too_small c.answer.ensures) ∙ small) in
     subst (λ p. IsReady c.step.new.self.core p) (sym c.step.ensures.same) left.still)
+    c.unopened.ensures.small
+
+pub returns-in-Some-account-clause-opened : goal.returns-in-Some-account-clause-opened
+returns-in-Some-account-clause-opened g c =
+    each_on c.run.result
+    (λ _ ready.
+    let world = c.args.client.now.core in
+    let client = c.args.client.now.client in
+    let entry = entry_at world.entries client in
+    let text = c.as_slice-args.result.now in
+    let found = slice_get_read c.args.self.steps.now _ c.args.self.opened.now.step c.in-Some.opening.now refl c.in-Some.ensures.lookup.3.0 c.in-Some.ensures.lookup.1 in
+    ap (λ o. is_some (opened_with entry o)) found
+    ∙ ap (λ o. is_some (opened_by entry o)) (sym (ap (λ x. Some (model_call x)) (sym c.in-Some-Open.field-0-is) ∙ c.in-Some-Open.ensures.call))
+    ∙ routed_open world c.step.new.self.core client c.in-Some-Open.service.now c.in-Some-Open.given.now text c.step.new.self.reply.text (amounts_of c.args.donation)
+    (c.step.ensures.answered ready.entry) (c.step.ensures.stepped ready.entry) ready (c.donates.ensures.read c.if-not-donates.false) (c.donates.ensures.named c.if-not-donates.false)
+    c.in-Some-account.account
+    (account_told c.step.new.self.core c.step.new.self.client client world.entries c.account.result c.in-Some-account.account c.step.ensures.same c.step.ensures.entries ready.entry
+    c.in-Some-account.is c.account.ensures))
+    c.run.ensures.ready
+
+pub returns-clause-opened : goal.returns-clause-opened
+returns-clause-opened g c =
+    each_on c.unopened.result
+    (λ small ready.
+    let world = c.args.client.now.core in
+    let client = c.args.client.now.client in
+    let entry = entry_at world.entries client in
+    let text = c.as_slice-args.result.now in
+    let found = slice_get_read c.args.self.steps.now _ c.args.self.opened.now.step c.in-Some.opening.now refl c.in-Some.ensures.lookup.3.0 c.in-Some.ensures.lookup.1 in
+    ap (λ o. is_some (opened_with entry o)) found
+    ∙ ap (λ o. is_some (opened_by entry o)) (sym (ap (λ x. Some (model_call x)) (sym c.in-Some-Open.field-0-is) ∙ c.in-Some-Open.ensures.call))
+    ∙ routed_few world c.step.new.self.core client c.in-Some-Open.service.now c.in-Some-Open.given.now text c.step.new.self.reply.text (amounts_of c.args.donation)
+    (c.step.ensures.answered ready.entry) (c.step.ensures.stepped ready.entry) ready (c.donates.ensures.read c.if-not-donates.false) (c.donates.ensures.named c.if-not-donates.false)
+    (sym (ap is_too_small c.answer.ensures) ∙ small))
     c.unopened.ensures.small

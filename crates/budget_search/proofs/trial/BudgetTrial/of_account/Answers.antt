@@ -31,12 +31,12 @@ first_shown list core component budget meter calls (Ok trial) started first show
     (shows calls budget s (first s begins))
 first_shown list core component budget meter calls (Err fault) started first none = tt
 
-pub returns : goal.returns
-returns c =
+pub returns-clause-shows : goal.returns-clause-shows
+returns-clause-shows c =
     let component = c.args.component in
     let budget = amounts_of c.args.start in
     let calls = calls_of c.args.steps.now in
     first_shown c.args.list.now c.in_ok-core.core component budget c.new-heard.result calls c.trial.result c.in_ok-core.ensures.started
     (λ s begins. at_first c.args.list.now c.in_ok-core.core component budget s c.account.result c.new-heard.result c.in_ok-core.ensures.started c.requires begins
     c.account.ensures.value c.new-heard.ensures calls)
-    c.trial.ensures
+    c.trial.ensures.shows

@@ -16,4 +16,5 @@ returns-clause-told g c = λ start earlier sees told. c.tell.ensures.told start 
 
 pub returns-clause-seen : goal.returns-clause-seen
 returns-clause-seen g c = λ start earlier sees told.
-    sees_both _ _ c.tell.result (c.tell.ensures.seen start earlier sees.peaks told) (c.in_ok-hear.ensures start earlier sees.needs told)
+    sees_both _ _ c.tell.result (c.tell.ensures.seen start earlier sees.peaks told) (c.in_ok-hear.ensures.meters start earlier sees.needs told)
+    (c.in_ok-hear.ensures.sessions start earlier sees.peaks sees.sessions told)

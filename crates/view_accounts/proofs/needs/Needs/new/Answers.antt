@@ -2,6 +2,7 @@
 use Rattle.std.proofs.Common.{ap, subst, arith, length, length-append, ◌∷◌, []}
 use Rattle.view_accounts.specs.Meters.{IsFresh}
 use Rattle.view_accounts.proofs.NeedLemmas.{fresh_more, sees_begun}
+use Rattle.view_accounts.proofs.SessionRunLemmas.{sees_no_sessions}
 use Rattle.view_accounts.proofs.needs.Needs.new.Goals as goal
 
 pub loop-component-preserved : goal.loop-component-preserved
@@ -11,7 +12,10 @@ loop-component-preserved g c = record {
       c.loop-component.invariant.fresh (subst (λ account. IsFresh account c.meter_of.result) c.account.ensures.value c.meter_of.ensures);
 }
 
-pub returns : goal.returns
-returns g c = λ listed begins.
+pub returns-clause-meters : goal.returns-clause-meters
+returns-clause-meters g c = λ listed begins.
     sees_begun listed begins (omega (arith, c.loop-component.invariant.count, c.loop-component-test.false, c.loop-component.auto.component-end, c.count-component-end.ensures.entries))
     (λ place within. c.loop-component.invariant.fresh place (omega (arith, within, c.loop-component-test.false, c.loop-component.auto.component-end, c.count-component-end.ensures.entries)))
+
+pub returns-clause-sessions : goal.returns-clause-sessions
+returns-clause-sessions g c = λ listed begins. sees_no_sessions listed c.args.core.now _ c.new.ensures.opened c.new.ensures.closed

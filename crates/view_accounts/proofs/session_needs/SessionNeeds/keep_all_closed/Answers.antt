@@ -1,7 +1,6 @@
 -- In the order of their openings.
 use Rattle.std.proofs.Common.{rules}
 use Rattle.std.proofs.lemmas.List.Sorted.{IsNonDecreasingBy-from_sort_by_key}
-use Rattle.view_accounts.specs.ClosedSessions.{closed_of}
 use Rattle.view_accounts.specs.Kept.{found}
 use Rattle.view_accounts.specs.declared.session_needs.Ended.{Ended}
 use Rattle.view_accounts.proofs.ClosingLemmas.{closes_all}

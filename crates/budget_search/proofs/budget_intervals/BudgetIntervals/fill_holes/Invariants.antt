@@ -1,0 +1,13 @@
+-- The runs are those of the same calls, with the same errors.
+use Rattle.std.proofs.Common.{◌≡◌, Bool, List, ℕ}
+use Rattle.own_model.specs.Amounts.{Amounts}
+use Rattle.list_parser.specs.declared.fault.BootFault.{BootFault}
+use Rattle.budget_theorems.specs.Need.{Need}
+use Rattle.budget_search.proofs.budget_intervals.BudgetIntervals.fill_holes.Given as goal
+
+abbrev pub invariant-loop-row : goal.invariant-loop-row
+invariant-loop-row g l = record {
+  rest : g.T.BudgetTrials.rest l.trials ≡ g.T.BudgetTrials.rest l.initial.trials;
+  runs : (each : Amounts → List Need) (want : Amounts → Bool) → g.T.BudgetTrials.AreRuns l.initial.trials each want → g.T.BudgetTrials.AreRuns l.trials each want;
+  same : (ram : ℕ) (fault : BootFault) → g.T.BudgetTrials.fails l.trials ram fault → g.T.BudgetTrials.fails l.initial.trials ram fault;
+}
