@@ -19,7 +19,7 @@ use Rattle.own_model.specs.StartList.{StartEntry, of_component, start_state}
 use Rattle.own_model.specs.StartList.Kind.{Script}
 use Rattle.own_model.specs.Transcript.{nobody, nothing}
 use Rattle.own_model.specs.World.{World, start_world}
-use Rattle.budget_theorems.specs.Need.{budgeted}
+use Rattle.budget_theorems.specs.Need.{budgeted, limited}
 use Rattle.list_parser.specs.Depth.{runs_script}
 use Rattle.budget_meter.specs.Needs.{amounts_of}
 use Rattle.budget_meter.specs.declared.budget.Budget.{Budget}
@@ -28,6 +28,7 @@ use Rattle.list_parser.proofs.BudgetLemmas.{budget_aside, changed_there, reserve
 use Rattle.budget_search.specs.Alike.{budget_at, given_in, IsFunded, own_entry, own_state}
 use Rattle.budget_search.specs.OpenedSessions.{IsReadyFor}
 use Rattle.budget_search.specs.Run.{Begins}
+use Rattle.budget_search.proofs.WholeLemmas.{whole_alone}
 
 -- ---- lists that a function makes
 
@@ -221,12 +222,12 @@ module _ (machine list : Listed) (component : ℕ) (budget : Amounts) (there : c
   pub funded_begins : (own_entry list component).kind ≡ Script → Begins (start_list_of machine) component budget (own_state list component)
   funded_begins script = begins machine list component (entry_with_budget budget given.0) given.0 has given.1 funded.alike script budget refl refl refl
 
-  -- where the list has just booted, the component has called nothing, if it is a script
+  -- where the list has just booted, the component has called nothing, if it is a script, and has the budget
   pub ready_first : (own_entry list component).kind ≡ Script → (core : World) → core ≡ start_world (start_list_of machine) → (client : ℕ) → client ≡ component →
-      IsReadyFor (own_entry list component) core client
+      IsReadyFor (own_entry list component) budget core client
   ready_first script core booted client is =
-      subst (λ n. IsReadyFor (own_entry list component) core n) (sym is)
-      (subst (λ w. IsReadyFor (own_entry list component) w component) (sym booted) (record {
+      subst (λ n. IsReadyFor (own_entry list component) budget core n) (sym is)
+      (subst (λ w. IsReadyFor (own_entry list component) budget w component) (sym booted) (record {
         ready = record {
           script = ap (λ entry. entry.kind) funded_entry ∙ script;
           entry = omega (arith, within, length-map (start_list_of machine).starts (λ (start : StartEntry). start.entry), length-map machine.entries (start_of machine));
@@ -235,6 +236,9 @@ module _ (machine list : Listed) (component : ℕ) (budget : Amounts) (there : c
           selectors = ap (λ s. s.selectors) started;
         };
         same = funded_entry;
+        whole_is =
+            whole_alone (own_state machine component) (ap (λ s. s.selectors) started)
+            ∙ ap (λ s. s.account) (funded_begins script).state ∙ ap (λ s. limited budget s.account) (state_named list component given.0 given.1);
       }))
     where
       within : component < length machine.entries

@@ -1,27 +1,33 @@
 -- Why there are no budgets.
 use Rattle.std.proofs.lemmas.Bool.Decides.{nat_tests}
 use Rattle.std.proofs.lemmas.Option.{none-some, slice_get-map, slice_get_read}
-use Rattle.std.proofs.Common.{arith, ◌≡◌, ◌≢◌, ℕ, zero, suc, ◌+◌, ◌-◌, ◌<◌, ◌≤◌, ◌&&◌, [], ◌∷◌, Bool, false, true, true≢false, inl, inr, List, get_or, length, map, refl, sym, ap, ◌∙◌, subst, IfErr, Result, Ok, Err}
-use Rattle.std.specs.Prelude.{◌⊎◌, Option, Some, None, nat_le, IsErrAnd}
+use Rattle.std.proofs.Common.{arith, ◌≡◌, ℕ, zero, suc, ◌+◌, ◌-◌, ◌<◌, ◌≤◌, ◌^◌, [], ◌∷◌, Bool, false, true, true≢false, inl, inr, List, get_or, length, map, refl, sym, ap, ◌∙◌, subst, IfErr, Result, Ok, Err}
+use Rattle.std.specs.Prelude.{◌⊎◌, Some, None, IsErrAnd}
 use Rattle.std.specs.List.{slice_get, AllByRecursion}
 use Rattle.std.specs.Option.{option_map, unwrap_or}
-use Rattle.own_model.specs.Amounts.{Amounts, no_amounts}
+use Rattle.own_model.specs.Account.{Fits, opened}
+use Rattle.own_model.specs.Amounts.{Amounts, more_of, no_amounts}
 use Rattle.own_model.specs.Listed.{Binary, Listed, ListedEntry, reserve_by, reserve_of}
 use Rattle.own_model.specs.Listed.Binary.{Script as AScript, Server as AServer, Init as AnInit}
 use Rattle.own_model.specs.StartList.Kind.{Script}
+use Rattle.own_model.specs.World.{World}
 use Rattle.list_parser.specs.Depth.{runs_script}
 use Rattle.list_parser.specs.Quota.{quota_fault}
 use Rattle.list_parser.specs.declared.fault.BootFault.{BootFault}
 use Rattle.list_parser.specs.declared.fault.BootFault.TheVariants.{BadConfig}
 use Rattle.list_parser.specs.declared.fault.ConfigField.TheVariants.{Start}
+use Rattle.budget_meter.specs.Needs.{amounts_of}
 use Rattle.budget_search.specs.Alike.{given_in, most_in, own_entry, reserve_in, IsFunded}
 use Rattle.budget_search.specs.BudgetIntervals.{FailsWithin, IsRowWithin}
 use Rattle.budget_search.specs.declared.budget_intervals.BudgetInterval.{BudgetInterval}
-use Rattle.budget_search.specs.NoBudgets.{has_room, HasUnlike, IsUnbooted, LacksBudgets}
-use Rattle.budget_search.specs.ReachedSessions.{followed_from, reached_of, Reach, Sessions}
+use Rattle.budget_search.specs.NoBudgets.{has_room, HasNoRoom, IsUnbooted, LacksBudgets}
+use Rattle.budget_search.specs.OpenedSessions.{CanDonate, raised_in, sent_at, whole_at}
+use Rattle.budget_search.specs.ReachedSessions.{followed_from, reached_of, IsOfLines, IsRaised, Reach, Reached, Sessions}
+use Rattle.budget_search.specs.SessionAccounts.{most_for}
 use Rattle.budget_search.specs.declared.component_line.ComponentLine.{ComponentLine}
 use Rattle.budget_search.specs.declared.opened_sessions.OpenedSession.{OpenedSession}
 use Rattle.budget_search.proofs.AlikeLemmas.{is_script}
+use Rattle.budget_search.proofs.RaisedLemmas.{all_at}
 
 -- an error that is passed on is the callee's
 pub passed_on : {X : Type 0} (P : BootFault → Type 0) (its : BootFault) (r : Result X BootFault) → IsErrAnd r (λ fault. fault ≡ its) → P its → IfErr r P
@@ -102,10 +108,10 @@ module _ (list : Listed) (component : ℕ) where
   -- or a session on it isn't measured
   pub ample_lacks : (machine : Listed) (steps : List ComponentLine) (sessions : Sessions) (fault : BootFault) → (own_entry list component).kind ≡ Script →
       IsFunded machine list component (most_in list component) → (has_room list component (most_in list component) ≡ true → quota_fault machine ≡ None) →
-      Reach steps 0 (followed_from machine component) sessions → (quota_fault machine ≡ Some fault) ⊎ HasUnlike sessions.opened fault → LacksBudgets list fault
+      Reach steps 0 (followed_from machine component) sessions → (quota_fault machine ≡ Some fault) ⊎ HasNoRoom list component sessions.opened fault → LacksBudgets list fault
   ample_lacks machine steps sessions fault script funded boots reach (inl is) = ample_large machine fault script funded boots is
-  ample_lacks machine steps sessions fault script funded boots reach (inr unlike) =
-      LacksBudgets.unlike component script (record { machine = machine; funded = funded; steps = steps; sessions = sessions; reach = reach; unlike = unlike })
+  ample_lacks machine steps sessions fault script funded boots reach (inr no_room) =
+      LacksBudgets.no_room component script (record { machine = machine; funded = funded; steps = steps; sessions = sessions; reach = reach; no_room = no_room })
 
   -- the given budget doesn't boot
   pub given_large : (budget : Amounts) (fault : BootFault) → (own_entry list component).kind ≡ Script → budget ≡ given_in list component → IsUnbooted list component budget fault →
@@ -113,15 +119,63 @@ module _ (list : Listed) (component : ℕ) where
   given_large budget fault script given fails =
       LacksBudgets.too_large component script (subst (λ b. has_room list component b ≡ false) given fails.lacks) budget fails
 
--- the session at a place
-pub unlike_at : (sessions : List OpenedSession) (place : ℕ) (session : OpenedSession) (fault : BootFault) → place < length sessions →
-    session ≡ get_or sessions place session → fault ≡ BadConfig Start → HasUnlike (map reached_of sessions) fault
-unlike_at sessions place session fault within is bad = record {
-  place = place;
-  session = reached_of session;
-  there = slice_get-map reached_of sessions place ∙ ap (option_map reached_of) (slice_get_read sessions (length sessions) place session refl within is);
-  fault_is = bad;
-}
+module _ (list : Listed) (component : ℕ) (steps : List ComponentLine) (sessions : List OpenedSession) (place : ℕ) (session : OpenedSession) (within : place < length sessions)
+    (is : session ≡ get_or sessions place session) where
+  seen : slice_get (map reached_of sessions) place ≡ Some (reached_of session)
+  seen = slice_get-map reached_of sessions place ∙ ap (option_map reached_of) (slice_get_read sessions (length sessions) place session refl within is)
+
+  -- the session at a place
+  pub no_room_at : (fault : BootFault) → fault ≡ BadConfig Start → AllByRecursion (IsOfLines (own_entry list component) steps) (map reached_of sessions) →
+      (IsOfLines (own_entry list component) steps (reached_of session) → has_room list component (more_of (amounts_of session.donation) (amounts_of session.raised)) ≡ false) →
+      HasNoRoom list component (map reached_of sessions) fault
+  no_room_at fault bad of_lines lacks = record {
+    place = place;
+    session = reached_of session;
+    there = seen;
+    fault_is = bad;
+    lacks = lacks (all_at (IsOfLines (own_entry list component) steps) (map reached_of sessions) place (reached_of session) seen of_lines);
+  }
+
+-- ---- what is donated for a session
+
+module _ (list : Listed) (component : ℕ) (steps : List ComponentLine) (one : Reached) (world : World) (client : ℕ)
+    (whole_is : whole_at world client ≡ opened (most_in list component).ram (most_in list component).caps) (raised : IsRaised steps one) where
+  abbrev sent : Amounts
+  sent = raised_in (sent_at steps one.places)
+
+  abbrev all_of : Amounts
+  all_of = more_of one.donation one.raised
+
+  -- the client covers what the largest machine has
+  can : (donation : Amounts) → donation.ram + one.raised.ram ≤ (most_in list component).ram → donation.caps + one.raised.caps ≤ (most_in list component).caps →
+      CanDonate world client (more_of donation sent)
+  can donation ram caps =
+      subst (λ account. Fits account (donation.ram + sent.ram) (donation.caps + sent.caps)) (sym whole_is) (record {
+        ram_fits = omega (arith, ram, raised.ram);
+        caps_fit = omega (arith, caps, raised.caps);
+      })
+
+  -- it doesn't cover the donation of the opening
+  pub lacks_donation : (one.donation.caps < 2 ^ 32 → CanDonate world client (more_of one.donation sent) → ⊥) → has_room list component all_of ≡ false
+  lacks_donation lacks = by (has_room list component all_of) refl
+    where
+      by : (room : Bool) → has_room list component all_of ≡ room → has_room list component all_of ≡ false
+      by true is =
+          let ram : (one.donation.ram + one.raised.ram) + (reserve_in list component).ram ≤ 16777216 = grind (arith, nat_tests, is) in
+          let caps : (one.donation.caps + one.raised.caps) + (reserve_in list component).caps ≤ 4096 = grind (arith, nat_tests, is) in
+          absurd (lacks (omega (arith, caps)) (can one.donation (omega (arith, ram)) (omega (arith, caps))))
+      by false is = is
+
+  -- or the most that it can donate by the opening
+  pub lacks_most : (CanDonate world client (more_of (most_for list component one) sent) → ⊥) → has_room list component all_of ≡ false
+  lacks_most lacks = by (has_room list component all_of) refl
+    where
+      by : (room : Bool) → has_room list component all_of ≡ room → has_room list component all_of ≡ false
+      by true is =
+          let ram : (one.donation.ram + one.raised.ram) + (reserve_in list component).ram ≤ 16777216 = grind (arith, nat_tests, is) in
+          let caps : (one.donation.caps + one.raised.caps) + (reserve_in list component).caps ≤ 4096 = grind (arith, nat_tests, is) in
+          absurd (lacks (can (most_for list component one) (omega (arith, ram)) (omega (arith, caps))))
+      by false is = is
 
 -- ---- intervals below so much RAM
 

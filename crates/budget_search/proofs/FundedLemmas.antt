@@ -7,8 +7,7 @@ use Rattle.std.proofs.Common.{arith, ◌≡◌, ◌≢◌, ℕ, zero, suc, ◌+�
 use Rattle.std.specs.Prelude.{◌⊎◌, ⊤, Option, Some, None, IfSome}
 use Rattle.std.specs.List.{slice_get}
 use Rattle.std.specs.Option.{option_map, unwrap_or}
-use Rattle.trade_base.specs.declared.refusal.Refusal.{Refusal}
-use Rattle.own_model.specs.Account.{Account, Fits, opened, parted_with, shortage}
+use Rattle.own_model.specs.Account.{Account, parted_with, shortage}
 use Rattle.own_model.specs.Amounts.{Amounts, no_amounts}
 use Rattle.own_model.specs.Listed.{Binary, Listed, ListedEntry, kind_of, reserve_by, reserve_of, start_of, start_list_of}
 use Rattle.own_model.specs.Listed.Binary.{Script, Server, Init}

@@ -19,6 +19,8 @@ use Rattle.own_model.specs.Session.{Session, Wish, Served, served, upgraded, new
 use Rattle.own_model.specs.SessionArgs.{Arguments}
 use Rattle.own_model.specs.Table.{lacks_ram, lacks_caps}
 use Rattle.budget_search.specs.OpenedSessions.{held, is_too_small}
+use Rattle.budget_search.specs.ShortRequests.{donated_shortage, refused_line, short_opening}
+use Rattle.budget_search.specs.declared.trial.RefusedLine.{RefusedLine}
 
 -- its buffer as it has it
 abbrev pub named_of : Option (List ℕ) → Option NamedBuffer
@@ -157,14 +159,15 @@ module _ (s : OwnState) (none : s.selectors ≡ map.empty) (wish : Wish) where
   pub record TooSmall (small : Option Refusal) (o : Outcome) : Type 0 where
     pub few : is_some small ≡ true
     pub is : o.next ≡ s
+    pub shows : (line : ℕ) (rest : Option RefusedLine) → refused_line line (donated_shortage (reply_text o.reply)) ≡ short_opening line small rest
 
   small_by : (u v x y : Bool) → is_some (session_named (get (opening u v (cond x (Some InsufficientRamQuota) (cond y (Some InsufficientCapQuota) None))).next.selectors 1)) ≡ false →
       is_too_small (reply_text (opening u v (cond x (Some InsufficientRamQuota) (cond y (Some InsufficientCapQuota) None))).reply) ≡ true →
       TooSmall (cond x (Some InsufficientRamQuota) (cond y (Some InsufficientCapQuota) None)) (opening u v (cond x (Some InsufficientRamQuota) (cond y (Some InsufficientCapQuota) None)))
   small_by true v x y out told = absurd (true≢false (sym told))
   small_by false true x y out told = absurd (true≢false (sym told))
-  small_by false false true y out told = record { few = refl; is = refl }
-  small_by false false false true out told = record { few = refl; is = refl }
+  small_by false false true y out told = record { few = refl; is = refl; shows = λ line rest. refl }
+  small_by false false false true out told = record { few = refl; is = refl; shows = λ line rest. refl }
   small_by false false false false out told =
       absurd (true≢false (sym (ap (λ m. is_some (session_named (get m 1))) opened_has ∙ ap is_some (named_there (new_session wish) None)) ∙ out))
 

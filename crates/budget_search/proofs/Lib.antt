@@ -3,7 +3,10 @@ pub mod ChangeLemmas
 pub mod ReachLemmas
 pub mod RowLemmas
 pub mod OrderLemmas
+pub mod GapLemmas
 pub mod SafeLemmas
+pub mod ShortLineLemmas
+pub mod ShortRequestLemmas
 pub mod RunLemmas
 pub mod AlikeLemmas
 pub mod HeldLemmas
@@ -13,3 +16,8 @@ pub mod CountLemmas
 pub mod SeenLemmas
 pub mod FundedLemmas
 pub mod FaultLemmas
+pub mod ArgumentLemmas
+pub mod RaisedLemmas
+pub mod WholeLemmas
+pub mod DueLemmas
+pub mod RoutedLemmas

@@ -1,7 +1,8 @@
 -- The run of a component's own calls on a core.
 use Rattle.std.proofs.lemmas.List.{drop_all, length-map}
-use Rattle.std.proofs.Common.{arith, ◌≡◌, ℕ, suc, ◌+◌, ◌<◌, ◌≤◌, true, false, true≢false, drop, get_or, drop-cons, add-one, List, [], ◌∷◌, length, refl, sym, ap, ◌∙◌, subst, get_or-set_same, length-set}
-use Rattle.std.specs.Prelude.{Option, Some, None, is_some}
+use Rattle.std.proofs.Math.Bool.{or-false}
+use Rattle.std.proofs.Common.{arith, ◌≡◌, ℕ, suc, ◌+◌, ◌<◌, ◌≤◌, Bool, true, false, true≢false, drop, get_or, drop-cons, add-one, List, [], ◌∷◌, ◌++◌, append_assoc, length, refl, sym, ap, ◌∙◌, subst, get_or-set_same, length-set}
+use Rattle.std.specs.Prelude.{if◌then◌else◌, Option, Some, None, is_some}
 use Rattle.own_model.specs.Account.{Account}
 use Rattle.own_model.specs.Amounts.{Amounts}
 use Rattle.own_model.specs.Call.{Call, is_exit}
@@ -19,11 +20,15 @@ use Rattle.core_calls.specs.Call.{model_call}
 use Rattle.core_calls.specs.declared.call.Call.{Call as Called}
 use Rattle.core_calls.specs.declared.quotas.Quotas.{Quotas}
 use Rattle.budget_theorems.specs.Need.{budgeted, limited}
+use Rattle.budget_theorems.specs.Shortfall.{wants}
 use Rattle.budget_meter.proofs.RunLemmas.{all_left, none_left}
 use Rattle.budget_meter.specs.Metered.{HasObserved, HasReply, is_script}
 use Rattle.budget_meter.specs.Run.{IsLeft, Shows}
 use Rattle.budget_meter.specs.declared.account.AccountMeter.{AccountMeter}
-use Rattle.budget_search.specs.Run.{Begins, HasLeft}
+use Rattle.budget_meter.specs.declared.meter.Meter.{Meter}
+use Rattle.budget_search.proofs.ShortLineLemmas.{wanted_shown}
+use Rattle.budget_search.specs.Run.{Begins, HasFirstShort, HasLeft}
+use Rattle.budget_search.specs.ShortLines.{quota_short, shown_short, short_by}
 use Rattle.budget_search.specs.Steps.{calls_of, calls_with, call_of}
 use Rattle.budget_search.specs.declared.component_line.ComponentLine.{ComponentLine}
 use Rattle.budget_search.specs.declared.trial.RefusedLine.{RefusedLine}
@@ -71,6 +76,53 @@ module _ (world after : World) (component : ℕ) (call : Call) (reply : List ℕ
         subst (λ es. IsLeft (entry_at es component) calls rest budget s (state_at after.states component) new) (sym entries_same)
         (subst (λ t. IsLeft entry calls rest budget s t new) (sym (stands before.there)) (follows before.left (is_told before.script before.there)));
   }
+
+  -- the first line that is short of quota, with this call before the rest
+  module _ (old : AccountMeter) (line : ℕ) (rest : OwnState → Option RefusedLine) (first : Option RefusedLine)
+      (before : HasFirstShort world component old (short_by entry line call rest) first) where
+    -- the observed calls and this one
+    abbrev these : List Call
+    these = before.heard ++ call ∷ []
+
+    alone : HasLeft world component old these (call ∷ []) before.budget before.s
+    alone = before.left (call ∷ [])
+
+    abbrev is_wanted : Bool
+    is_wanted = wants call (own_step entry call now).reply
+
+    chosen : (w : Bool) → is_wanted ≡ w → (if w then Some (record { line = line; shortage = quota_short (own_step entry call now).reply }) else rest next) ≡ first
+    chosen w is =
+        sym (ap (λ b. if b then Some (record { line = line; shortage = quota_short (own_step entry call now).reply }) else rest next) is)
+        ∙ before.first_is
+
+    -- a call that is short of quota is that of the first line
+    pub is_first : (new : Meter) → (IsLeft entry these (call ∷ []) before.budget before.s now old → HasReply reply account (own_step entry call now) →
+        Shows entry these before.s before.budget true new) →
+        Some (record { line = line; shortage = shown_short reply }) ≡ first
+    is_first new ends =
+        let is = sym (or-false is_wanted) ∙ sym ((ends alone.left (is_told alone.script alone.there)).want ∙ alone.left.want) in
+        ap (λ text. Some (record { line = line; shortage = shown_short text })) told
+        ∙ sym (ap (λ shortage. Some (record { line = line; shortage = shortage })) (wanted_shown call (own_step entry call now).reply is))
+        ∙ chosen true is
+
+    -- and if it isn't, the first line is one of the rest
+    pub is_later : (new : AccountMeter) →
+        ((calls more : List Call) (budget : Amounts) (s : OwnState) → IsLeft entry calls (call ∷ more) budget s now old →
+        HasReply reply account (own_step entry call now) → IsLeft entry calls more budget s next new) →
+        HasFirstShort after component new rest first
+    is_later new follows =
+        let after_this = follows these [] before.budget before.s alone.left (is_told alone.script alone.there) in
+        let is = sym (or-false is_wanted) ∙ sym alone.left.want ∙ after_this.want in
+        record {
+          heard = these;
+          budget = before.budget;
+          s = before.s;
+          left = λ more.
+              subst (λ each. HasLeft after component new each more before.budget before.s) (sym (append_assoc before.heard (call ∷ []) more))
+              (one_less old new (before.heard ++ call ∷ more) more before.budget before.s (before.left (call ∷ more))
+              (follows (before.heard ++ call ∷ more) more before.budget before.s));
+          first_is = ap rest (stands alone.there) ∙ chosen false is;
+        }
 
 -- ---- before the first call
 

@@ -3,17 +3,24 @@ use Rattle.std.proofs.Common.{◌≡◌, ℕ, ◌+◌, Bool, List, [], ◌∷◌
 use Rattle.std.proofs.lemmas.Option.{slice_get-map}
 use Rattle.std.specs.Prelude.{map, slice_get, Option, Some, None}
 use Rattle.std.specs.Option.{option_map, option_map_or}
+use Rattle.std.specs.List.{AllByRecursion}
+use Rattle.own_model.specs.Amounts.{Amounts}
 use Rattle.own_model.specs.Call.{Call}
 use Rattle.own_model.specs.Listed.{Listed}
-use Rattle.own_model.specs.Session.{Session}
+use Rattle.own_model.specs.OwnState.{OwnState}
+use Rattle.own_model.specs.Session.{Session, too_small}
 use Rattle.own_model.specs.StartList.{Entry}
+use Rattle.budget_theorems.specs.Need.{budgeted}
+use Rattle.budget_theorems.specs.Request.{donating}
 use Rattle.budget_meter.specs.SessionRuns.{Sent, opened_in_want}
-use Rattle.budget_search.specs.Alike.{own_entry}
-use Rattle.budget_search.specs.BudgetIntervals.{lowest_of, safe_of}
+use Rattle.budget_search.specs.Alike.{own_entry, own_state}
+use Rattle.budget_search.specs.BudgetIntervals.{lowest_of, safe_of, HasShortfalls}
 use Rattle.budget_search.specs.OpenedSessions.{opened_by, opened_with, sends, sent_at, sent_by, suffices_of, AreExactOf}
 use Rattle.budget_search.specs.ReachedSessions.{Followed, Reach, ReachBy, Reached, Sessions}
-use Rattle.budget_search.specs.SessionAccounts.{most_for, number_at, AreCounted, AreSessionAccounts, IsAccountOf}
-use Rattle.budget_search.specs.Steps.{call_said}
+use Rattle.budget_search.specs.SessionAccounts.{most_for, AreCounted, AreSessionAccounts, IsAccountOf}
+use Rattle.budget_search.specs.ShortLines.{short_as, short_as_written, short_line_with, short_with}
+use Rattle.budget_search.specs.ShortRequests.{FirstShort, short_at, short_call, short_opening, short_session, short_step}
+use Rattle.budget_search.specs.Steps.{call_of, call_said, call_written, number_at, with_args}
 use Rattle.budget_search.specs.Sufficient.{HasLeast, HasSafe}
 use Rattle.budget_search.specs.declared.account_budgets.AccountBudgets.{AccountBudgets}
 use Rattle.budget_search.specs.declared.account_budgets.SessionKey.{SessionKey}
@@ -66,6 +73,14 @@ opened_with_seen : (entry : Entry) (step : Option ComponentLine) → opened_with
 opened_with_seen entry None = refl
 opened_with_seen entry (Some step) = refl
 
+abbrev short_seen : Option Seen → FirstShort → FirstShort
+short_seen None rest = rest
+short_seen (Some line) rest = short_call line.number line.left_out (call_said line.text) rest
+
+short_by_seen : (step : Option ComponentLine) (rest : FirstShort) → short_step step rest ≡ short_seen (option_map seen step) rest
+short_by_seen None rest = refl
+short_by_seen (Some step) rest = refl
+
 number_seen : (step : Option ComponentLine) → option_map_or (λ (line : ComponentLine). line.number) step 0 ≡ option_map_or (λ (line : Seen). line.number) (option_map seen step) 0
 number_seen None = refl
 number_seen (Some step) = refl
@@ -85,6 +100,15 @@ module _ (steps others : List ComponentLine) (same : map seen steps ≡ map seen
   sent_same (place ∷ places) =
       sent_by_seen (slice_get steps place) (sent_at steps places) ∙ (λ i. sent_seen (at place i) (sent_same places i)) ∙ sym (sent_by_seen (slice_get others place) (sent_at others places))
 
+  short_same : (places : List ℕ) → short_at steps places ≡ short_at others places
+  short_same [] = refl
+  short_same (place ∷ places) =
+      short_by_seen (slice_get steps place) (short_at steps places) ∙ (λ i. short_seen (at place i) (short_same places i)) ∙ sym (short_by_seen (slice_get others place) (short_at others places))
+
+  session_same : (one : Reached) (session : Session) → short_session steps one.opening one.places session ≡ short_session others one.opening one.places session
+  session_same one session = λ i donation.
+      short_opening (number_same one.opening i) (too_small donation.ram donation.caps) (short_same one.places i None (donating donation session))
+
   -- ---- accounts
 
   account_still : (list : Listed) (component : ℕ) (one : Reached) (account : AccountBudgets) → IsAccountOf list component steps one account → IsAccountOf list component others one account
@@ -103,6 +127,8 @@ module _ (steps others : List ComponentLine) (same : map seen steps ≡ map seen
         exact = subst (λ s. AreExactOf s is.session most.caps most.ram account.found.rows.items) sent is.exact;
         least = subst (λ s. HasLeast (suffices_of s is.session) most (lowest_of account.found.rows.items)) sent is.least;
         safe = subst (λ s. HasSafe (suffices_of s is.session) most (safe_of account.found.rows.items)) sent is.safe;
+        line = is.line ∙ ap (λ short. short one.donation) (session_same one is.session);
+        shortfalls = subst (λ short. HasShortfalls short most account.found) (session_same one is.session) is.shortfalls;
       }
     where
       key_of : ℕ → SessionKey
@@ -128,3 +154,35 @@ accounts_still list component steps others same accounts are = record {
   };
   counted = counted_still steps others same list component are.opened [] accounts are.counted;
 }
+
+-- ---- the line that is short of quota in a script's own run, as the scenario writes its lines
+
+written_seen : (entry : Entry) (steps others : List ComponentLine) → map seen steps ≡ map seen others → (s : OwnState) →
+    short_as call_written entry steps s ≡ short_as call_written entry others s
+written_seen entry [] [] same s = refl
+written_seen entry [] (other ∷ others) same s = absurd (cc)
+written_seen entry (one ∷ steps) [] same s = absurd (cc)
+written_seen entry (one ∷ steps) (other ∷ others) same s = λ i.
+    (λ (line : Seen). short_with entry line.left_out line.number (call_said line.text) (λ next. written_seen entry steps others (ap (drop 1) same) next i) s)
+    (first_seen one other steps others same i)
+
+pub written_still : (list : Listed) (component : ℕ) (steps others : List ComponentLine) → map seen steps ≡ map seen others → (budget : Amounts) →
+    short_as_written list component steps budget ≡ short_as_written list component others budget
+written_still list component steps others same budget = written_seen (own_entry list component) steps others same (budgeted budget (own_state list component))
+
+-- lines with no other arguments make the calls that are written
+said_same : (said : Option Call) → option_map (with_args None) said ≡ said
+said_same None = refl
+said_same (Some call) = refl
+
+unset_call : (step : ComponentLine) → step.args ≡ None → call_of step ≡ call_written step
+unset_call step none = ap (λ args. option_map (with_args (option_map (λ a. a.items) args)) (call_said step.line.items)) none ∙ said_same (call_said step.line.items)
+
+unset_lines : (entry : Entry) (steps : List ComponentLine) → AllByRecursion (λ step. step.args ≡ None) steps → (s : OwnState) →
+    short_as call_of entry steps s ≡ short_as call_written entry steps s
+unset_lines entry [] unset s = refl
+unset_lines entry (step ∷ steps) unset s = λ i. short_with entry step.is_left_out step.number (unset_call step unset.0 i) (λ next. unset_lines entry steps unset.1 next i) s
+
+pub as_written : (list : Listed) (component : ℕ) (steps : List ComponentLine) → AllByRecursion (λ step. step.args ≡ None) steps → (budget : Amounts) →
+    short_line_with list component steps budget ≡ short_as_written list component steps budget
+as_written list component steps unset budget = unset_lines (own_entry list component) steps unset (budgeted budget (own_state list component))

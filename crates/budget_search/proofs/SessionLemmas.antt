@@ -38,8 +38,10 @@ use Rattle.budget_meter.specs.declared.budget.Budget.{Budget}
 use Rattle.budget_meter.specs.declared.session.SessionMeter.{SessionMeter}
 use Rattle.budget_search.specs.BudgetIntervals.{IsRun}
 use Rattle.budget_search.specs.OpenedSessions.{HasEnded, HasLeft, HasSelectors, IsReady, held, made_by, sent_at, sent_by, is_too_small}
+use Rattle.budget_search.specs.ShortRequests.{donated_shortage, refused_line, short_opening}
 use Rattle.budget_search.specs.declared.component_line.ComponentLine.{ComponentLine}
 use Rattle.budget_search.specs.declared.trial.BudgetTrial.{BudgetTrial}
+use Rattle.budget_search.specs.declared.trial.RefusedLine.{RefusedLine}
 use Rattle.budget_search.proofs.HeldLemmas.{named_of, bytes_back, named_there, called, called_has, closed, closed_has, raised, raised_has, opens, opened_has, small_told}
 
 -- ---- one call
@@ -103,13 +105,13 @@ module _ (world after : World) (client : ℕ) (selector : ℕ) (request reply : 
   outcome : own_step own call state ≡ session_served 1 named o state
   outcome = answered world after client call reply told stepped (held before.now before.buffer) before.has ∙ called state before.now before.buffer before.has.selectors request
 
-  has_then : HasSelectors after client (held o.session o.buffer)
+  pub has_then : HasSelectors after client (held o.session o.buffer)
   has_then =
       moved world after client call reply told stepped (held before.now before.buffer) before.has (held o.session o.buffer)
       (ap (λ (x : Outcome). x.next.gone) outcome ∙ before.has.here)
       (ap (λ (x : Outcome). x.next.selectors) outcome ∙ called_has state before.now before.buffer before.has.selectors o)
 
-  served_so : IsServedBy reply left named o
+  pub served_so : IsServedBy reply left named o
   served_so = record {
     selector = new_selector state.selectors;
     told = told ∙ ap (λ (x : Outcome). reply_text x.reply) outcome;
@@ -177,11 +179,17 @@ module _ (world after : World) (client : ℕ) (text reply : List ℕ) (told : re
       (sym (ap (λ a. bytes_eq (reply_text (upgraded_by 1 (session_named (get here.selectors 1)) a here).reply) (codes "ok")) reads)
       ∙ sym (ap (λ (x : Outcome). bytes_eq (reply_text x.reply) (codes "ok")) entered) ∙ sym (ap (λ t. bytes_eq t (codes "ok")) told) ∙ done)
 
-  has_raised : HasSelectors after client (held raised_to before.buffer)
+  pub has_raised : HasSelectors after client (held raised_to before.buffer)
   has_raised =
       moved world after client up reply told stepped (held before.now before.buffer) before.has (held raised_to before.buffer)
       (ap (λ (x : Outcome). x.next.gone) upgrades ∙ before.has.here)
       (ap (λ (x : Outcome). x.next.selectors) upgrades ∙ raised_has here before.now before.buffer before.has.selectors more)
+
+  pub raised_leaves : quotas_account left ≡ raised_to.account
+  raised_leaves =
+      same_Some (quotas_account left) raised_to.account
+      (account ∙ ap (λ m. option_map (λ (x : Session). x.account) (session_named (get m 1))) has_raised.selectors
+      ∙ ap (option_map (λ (x : Session). x.account)) (named_there raised_to before.buffer))
 
   pub raises_on :
       (IsLeft sent (Raises (record { ram = more.ram; caps = more.caps }) ∷ rest) donation session before.buffer before.now old → quotas_account left ≡ raised_to.account →
@@ -191,11 +199,7 @@ module _ (world after : World) (client : ℕ) (text reply : List ℕ) (told : re
     now = raised_to;
     buffer = before.buffer;
     has = has_raised;
-    left =
-        follows before.left
-        (same_Some (quotas_account left) raised_to.account
-        (account ∙ ap (λ m. option_map (λ (x : Session). x.account) (session_named (get m 1))) has_raised.selectors
-        ∙ ap (option_map (λ (x : Session). x.account)) (named_there raised_to before.buffer)));
+    left = follows before.left raised_leaves;
   }
 
 -- ---- the end
@@ -339,6 +343,7 @@ module _ (world after : World) (client : ℕ) (service text reply : List ℕ) (t
   pub record HasNot : Type 0 where
     pub small : is_some (too_small w.ram w.caps) ≡ true
     pub still : IsReady after client
+    pub shows : (line : ℕ) (rest : Option RefusedLine) → refused_line line (donated_shortage reply) ≡ short_opening line (too_small w.ram w.caps) rest
 
   pub was_not : None ≡ option_map (λ (x : Session). x.account) (session_named (get (state_at after.states client).selectors 1)) → is_too_small reply ≡ true → HasNot
   was_not out small =
@@ -347,6 +352,8 @@ module _ (world after : World) (client : ℕ) (service text reply : List ℕ) (t
       record {
         small = so.few;
         still = moved world after client opening reply told stepped map.empty ready map.empty (ap (λ x. x.gone) left ∙ ready.here) (ap (λ x. x.selectors) left ∙ ready.selectors);
+        shows = λ line rest.
+            ap (λ text. refused_line line (donated_shortage text)) (told ∙ ap (λ (x : Outcome). reply_text x.reply) enters) ∙ so.shows line rest;
       }
 
 -- ---- the run

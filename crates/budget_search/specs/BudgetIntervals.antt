@@ -1,5 +1,5 @@
 -- The budgets that intervals cover, and the runs from which they are made.
-use Rattle.std.specs.Prelude.{◌≡◌, ◌≤◌, ◌<◌, ℕ, suc, ◌&&◌, ◌||◌, Bool, true, List, [], ◌∷◌, ◌++◌, ⊤, max, nat_eq, nat_le, nat_lt, is_some, if◌then◌else◌, Option, Some, None, IfSome}
+use Rattle.std.specs.Prelude.{◌≡◌, ◌≤◌, ◌<◌, ◌-◌, ℕ, suc, ◌&&◌, ◌||◌, Bool, true, List, [], ◌∷◌, ◌++◌, ⊤, max, nat_eq, nat_le, nat_lt, is_some, if◌then◌else◌, Option, Some, None, IfSome}
 use Rattle.std.specs.List.{AllByRecursion, list_any}
 use Rattle.std.specs.Str.{bytes_eq}
 use Rattle.own_model.specs.Amounts.{Amounts}
@@ -9,11 +9,13 @@ use Rattle.budget_theorems.specs.Intervals.{is_covered, stretches}
 use Rattle.budget_meter.specs.Needs.{shown_by, shown_in}
 use Rattle.budget_search.specs.declared.budget_intervals.BudgetChoice.{BudgetChoice}
 use Rattle.budget_search.specs.declared.budget_intervals.BudgetChoice.TheVariants.{Minimum, Safe}
+use Rattle.budget_search.specs.declared.budget_intervals.BudgetGap.{BudgetGap}
 use Rattle.budget_search.specs.declared.budget_intervals.BudgetInterval.{BudgetInterval}
 use Rattle.budget_search.specs.declared.budget_intervals.BudgetIntervals.{BudgetIntervals}
 use Rattle.budget_search.specs.declared.budget_intervals.Likeness.{Likeness}
 use Rattle.budget_search.specs.declared.budget_intervals.Likeness.TheVariants.{Same, Mixed, Other}
 use Rattle.budget_search.specs.declared.trial.BudgetTrial.{BudgetTrial}
+use Rattle.budget_search.specs.declared.trial.RefusedLine.{RefusedLine}
 
 -- a number is below another, if there is one
 abbrev pub is_below : ℕ → Option ℕ → Bool
@@ -150,6 +152,32 @@ pub record Follows (each : Amounts → List Need) (want : Amounts → Bool) (cap
   pub within : IfSome next (λ n. n ≤ top)
   pub covers : (budget : Amounts) → budget.ram ≤ top → (runs : ℕ) →
       covered_with each want caps new runs next budget ≡ covered_with each want caps old (suc runs) (Some ram) budget
+
+-- ---- the lines that are short of quota
+
+-- the highest RAM has this line that is short of quota: either it is known, or the run from that RAM is still to come
+pub data HasHighest (ram top : ℕ) (told known : Option RefusedLine) : Type 0 where
+  is_known : known ≡ told → HasHighest ram top told known
+  to_come : ram ≡ top → known ≡ None → HasHighest ram top told known
+
+-- between the end of an interval and the next one is a gap, if that begins above the end: it has the line that is short of quota
+-- directly below the next one
+abbrev pub gap_before : (Amounts → Option RefusedLine) → ℕ → ℕ → BudgetInterval → List BudgetGap → List BudgetGap
+gap_before short caps end row rest =
+    if nat_lt end row.ram_from
+    then record { ram_from = end; ram_below = row.ram_from; refused = short (record { ram = row.ram_from - 1; caps = caps }) } ∷ rest
+    else rest
+
+-- the gaps between intervals, from the lowest RAM on, after an interval with this end; before the first one there is none
+abbrev pub gaps_after : (Amounts → Option RefusedLine) → ℕ → Option ℕ → List BudgetInterval → List BudgetGap
+gaps_after short caps end [] = []
+gaps_after short caps None (row ∷ rows) = gaps_after short caps row.ram_below rows
+gaps_after short caps (Some end) (row ∷ rows) = gap_before short caps end row (gaps_after short caps row.ram_below rows)
+
+-- what is found has the line that is short of quota with the most, if there is one, and the gaps between the intervals
+pub record HasShortfalls (short : Amounts → Option RefusedLine) (most : Amounts) (found : BudgetIntervals) : Type 0 where
+  pub highest : found.refused ≡ short most
+  pub gaps : found.holes.items ≡ gaps_after short most.caps None found.rows.items
 
 -- a run from no more than this RAM has this error
 pub record FailsWithin (fails : ℕ → BootFault → Type 0) (top : ℕ) (fault : BootFault) : Type 0 where

@@ -9,9 +9,11 @@ pub mod BudgetIntervals
 pub mod AccountNeeds
 pub mod Alike
 pub mod Own
+pub mod ShortLines
 pub mod OpenedSessions
 pub mod ReachedSessions
 pub mod SessionAccounts
 pub mod Shortages
+pub mod ShortRequests
 pub mod Replies
 pub mod NoBudgets

@@ -1,16 +1,22 @@
 -- What a script's lines send to one of its sessions, and the state of the client that makes them for it alone.
-use Rattle.std.specs.Prelude.{◌≡◌, ◌≤◌, ◌<◌, ◌||◌, ℕ, Bool, false, List, [], ◌∷◌, length, not, slice_get, if◌then◌else◌, Option, Some, None, Result, Ok, Err}
+use Rattle.std.specs.Prelude.{◌≡◌, ◌≤◌, ◌<◌, ◌^◌, ◌||◌, ℕ, Bool, false, List, [], ◌∷◌, length, not, slice_get, if◌then◌else◌, Option, Some, None, Result, Ok, Err}
 use Rattle.std.specs.FinMap as map
 use Rattle.std.specs.FinMap.{insert}
 use Rattle.std.specs.Str.{bytes_eq}
 use Rattle.trade_base.specs.Refusal.{refusal_name}
 use Rattle.trade_base.specs.declared.refusal.Refusal.{Refusal}
 use Rattle.trade_base.specs.declared.refusal.Refusal.TheVariants.{InsufficientRamQuota, InsufficientCapQuota}
-use Rattle.own_model.specs.Amounts.{Amounts}
+use Rattle.list_parser.specs.declared.fault.BootFault.{BootFault}
+use Rattle.list_parser.specs.declared.fault.BootFault.TheVariants.{BadConfig}
+use Rattle.list_parser.specs.declared.fault.ConfigField.TheVariants.{Start}
+use Rattle.own_model.specs.Account.{Account, Fits, opened}
+use Rattle.own_model.specs.Amounts.{Amounts, more_of, no_amounts}
 use Rattle.own_model.specs.Call.{Call}
 use Rattle.own_model.specs.Call.Call.{Open, CallSession, Upgrade}
-use Rattle.own_model.specs.NatMap.{NatMap}
-use Rattle.own_model.specs.OwnState.{Object}
+use Rattle.own_model.specs.Donation.{raised}
+use Rattle.own_model.specs.Limits.{ram_with, caps_with}
+use Rattle.own_model.specs.NatMap.{NatMap, total}
+use Rattle.own_model.specs.OwnState.{Object, OwnState}
 use Rattle.own_model.specs.OwnState.Object.{OpenSession, Buffer}
 use Rattle.own_model.specs.Session.{Session, Wish, wish, new_session}
 use Rattle.own_model.specs.SessionArgs.{Arguments, arguments_of}
@@ -53,6 +59,12 @@ abbrev pub sent_at : List ComponentLine → List ℕ → List Sent
 sent_at steps [] = []
 sent_at steps (place ∷ places) = sent_by (slice_get steps place) (sent_at steps places)
 
+-- what is sent donates in all
+abbrev pub raised_in : List Sent → Amounts
+raised_in [] = no_amounts
+raised_in (Asks request ∷ rest) = raised_in rest
+raised_in (Raises more ∷ rest) = more_of more (raised_in rest)
+
 -- the session that is made if a request is routed to a server
 abbrev pub made_by : Result Wish Refusal → Option Session
 made_by (Ok wish) = Some (new_session wish)
@@ -78,6 +90,18 @@ abbrev pub held : Session → Option (List ℕ) → NatMap Object
 held session None = insert map.empty 1 (OpenSession session)
 held session (Some bytes) = insert (insert map.empty 1 (OpenSession session)) 2 (Buffer 1 bytes)
 
+-- a component's account, whose limits include those of its sessions' accounts
+unfoldable pub whole_of : OwnState → Account
+whole_of s = raised s.account (total ram_with s.selectors) (total caps_with s.selectors)
+
+-- that of a client of a world
+abbrev pub whole_at : World → ℕ → Account
+whole_at world client = whole_of (state_at world.states client)
+
+-- a client covers donations of so much in all
+abbrev pub CanDonate : World → ℕ → Amounts → Type 0
+CanDonate world client due = Fits (whole_at world client) due.ram due.caps
+
 -- a script that is there, and whose selectors name just these
 pub record HasSelectors (world : World) (client : ℕ) (which : NatMap Object) : Type 0 where
   pub script : (entry_at world.entries client).kind ≡ Script
@@ -90,10 +114,18 @@ pub record HasSelectors (world : World) (client : ℕ) (which : NatMap Object) :
 abbrev pub IsReady : World → ℕ → Type 0
 IsReady world client = HasSelectors world client map.empty
 
--- and its list has this entry for it
-pub record IsReadyFor (entry : Entry) (world : World) (client : ℕ) : Type 0 where
+-- and its list has this entry for it, and it has so much, of which nothing is used
+pub record IsReadyFor (entry : Entry) (whole : Amounts) (world : World) (client : ℕ) : Type 0 where
   pub ready : IsReady world client
   pub same : entry_at world.entries client ≡ entry
+  pub whole_is : whole_at world client ≡ opened whole.ram whole.caps
+
+-- it has one session. The limits of that session's account, and what is still to be sent to the session, make so much in all
+pub record HasDue (world : World) (client : ℕ) (due : Amounts) (rest : List Sent) : Type 0 where
+  pub now : Session
+  pub buffer : Option (List ℕ)
+  pub has : HasSelectors world client (held now buffer)
+  pub due_is : due ≡ more_of (record { ram = now.account.ram_limit; caps = now.account.caps_limit }) (raised_in rest)
 
 -- of what it sends to its session in a run from a donation this is left, and nothing that its meter observed was short of quota
 pub record HasLeft (world : World) (client : ℕ) (heard : SessionMeter) (sent rest : List Sent) (session : Session) (donation : Amounts) : Type 0 where
@@ -118,6 +150,12 @@ pub record AreSessionRuns (world : World) (client : ℕ) (opening : Option Compo
   pub opens : opened_with (entry_at world.entries client) opening ≡ Some session
   pub needs : each ≡ opened_needs sent session
   pub want : wanting ≡ opened_in_want sent session
+
+-- a run from a donation has this error, and the client doesn't cover the donation in addition to what is sent. That is so for
+-- capabilities within the bounds of the grammar
+pub record FailsToDonate (world : World) (client : ℕ) (sent : List Sent) (donation : Amounts) (fault : BootFault) : Type 0 where
+  pub fault_is : fault ≡ BadConfig Start
+  pub lacks : donation.caps < 2 ^ 32 → CanDonate world client (more_of donation (raised_in sent)) → ⊥
 
 -- a donation suffices: the session opens with it, and its own run isn't short of quota
 abbrev pub suffices_of : List Sent → Session → Amounts → Bool

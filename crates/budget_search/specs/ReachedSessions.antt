@@ -1,5 +1,5 @@
 -- The lines that reach the sessions of a component.
-use Rattle.std.specs.Prelude.{◌≡◌, ◌≢◌, ◌⊎◌, ◌+◌, ◌&&◌, ℕ, Bool, true, false, not, List, [], ◌∷◌, ◌++◌, codes, length, map, replicate, slice_get, if◌then◌else◌, Option, Some, None, IfSome, IfNone}
+use Rattle.std.specs.Prelude.{◌≡◌, ◌≢◌, ◌⊎◌, ◌+◌, ◌&&◌, ℕ, Bool, true, false, not, List, [], ◌∷◌, ◌++◌, codes, is_some, length, map, replicate, slice_get, if◌then◌else◌, Option, Some, None, IfSome, IfNone}
 use Rattle.std.specs.Option.{option_and_then}
 use Rattle.std.specs.Str.{bytes_eq}
 use Rattle.own_model.specs.Amounts.{Amounts, no_amounts}
@@ -9,9 +9,11 @@ use Rattle.own_model.specs.Listed.{Listed}
 use Rattle.own_model.specs.Reply.{reply_text}
 use Rattle.own_model.specs.Reply.Reply.{Selected}
 use Rattle.own_model.specs.SessionArgs.{Arguments, arguments_of}
+use Rattle.own_model.specs.StartList.{Entry}
 use Rattle.list_parser.specs.Budgets.{changed_at}
 use Rattle.budget_meter.specs.Needs.{amounts_of}
 use Rattle.budget_search.specs.AmpleCalls.{Client, first_client, made_with_enough, of_word}
+use Rattle.budget_search.specs.OpenedSessions.{opened_with, raised_in, sent_at}
 use Rattle.budget_search.specs.Steps.{call_said}
 use Rattle.budget_search.specs.declared.component_line.ComponentLine.{ComponentLine}
 use Rattle.budget_search.specs.declared.opened_sessions.OpenedSession.{OpenedSession}
@@ -42,6 +44,16 @@ pub record Sessions : Type 0 where
 
 abbrev pub sessions_of : OpenedSessions → Sessions
 sessions_of sessions = record { opened = map reached_of sessions.opened.items; owners = sessions.owners.items }
+
+-- the upgrades of a session donate what the lines at its places do, at most 2^64 - 1 of each
+pub record IsRaised (steps : List ComponentLine) (one : Reached) : Type 0 where
+  pub ram : one.raised.ram ≡ of_word (raised_in (sent_at steps one.places)).ram
+  pub caps : one.raised.caps ≡ of_word (raised_in (sent_at steps one.places)).caps
+
+-- and a client with this entry has a route for its opening
+pub record IsOfLines (entry : Entry) (steps : List ComponentLine) (one : Reached) : Type 0 where
+  pub routed : is_some (opened_with entry (slice_get steps one.opening)) ≡ true
+  pub raised : IsRaised steps one
 
 -- before the first line: the 4096 selectors, and 0, which is none, name nothing
 abbrev pub unopened : Sessions

@@ -1,7 +1,6 @@
 -- The accounts of the sessions that a component's lines open.
 use Rattle.std.specs.Prelude.{◌≡◌, ℕ, ◌+◌, ◌-◌, true, List, [], ◌∷◌, ◌++◌, is_some, slice_get, Option, Some, None}
 use Rattle.std.specs.List.{AllByRecursion}
-use Rattle.std.specs.Option.{option_map_or}
 use Rattle.own_model.specs.Amounts.{Amounts, no_amounts}
 use Rattle.own_model.specs.Listed.{Listed}
 use Rattle.own_model.specs.Session.{Session}
@@ -10,10 +9,12 @@ use Rattle.budget_meter.specs.Needs.{amounts_of}
 use Rattle.budget_meter.specs.SessionRuns.{opened_in_want}
 use Rattle.budget_search.specs.Alike.{most_in, own_entry, IsFunded}
 use Rattle.budget_search.specs.AmpleCalls.{of_word}
-use Rattle.budget_search.specs.BudgetIntervals.{lowest_of, safe_of, IsFoundAlike}
+use Rattle.budget_search.specs.BudgetIntervals.{lowest_of, safe_of, HasShortfalls, IsFoundAlike}
 use Rattle.budget_search.specs.LineNumbers.{has_number}
 use Rattle.budget_search.specs.OpenedSessions.{opened_with, sent_at, suffices_of, AreExactOf}
 use Rattle.budget_search.specs.ReachedSessions.{followed_from, Reach, Reached, Sessions}
+use Rattle.budget_search.specs.ShortRequests.{short_session}
+use Rattle.budget_search.specs.Steps.{number_at}
 use Rattle.budget_search.specs.Sufficient.{HasLeast, HasSafe}
 use Rattle.budget_search.specs.declared.account_budgets.AccountBudgets.{AccountBudgets}
 use Rattle.budget_search.specs.declared.account_budgets.SessionKey.{SessionKey}
@@ -41,14 +42,10 @@ most_for list component one = record {
   caps = (most_in list component).caps - one.raised.caps;
 }
 
--- the number of the scenario's line for the line at a place
-abbrev pub number_at : List ComponentLine → ℕ → ℕ
-number_at steps place = option_map_or (λ step. step.number) (slice_get steps place) 0
-
 -- an account is that of one session, which it names by its selector and the number of the line that opens it. It is given the
 -- donation of that line, under which a line is refused exactly if the session's run is short of quota. It has no reserve. It has
 -- exactly the donations with which the session opens and its run isn't short of quota, up to the most, with their minimum and
--- their safe budget
+-- their safe budget, and the lines that are short of quota: under the donation that is given, and below its intervals
 pub record IsAccountOf (list : Listed) (component : ℕ) (steps : List ComponentLine) (one : Reached) (account : AccountBudgets) : Type 0 where
   pub same : account.component ≡ component
   pub key : account.session ≡ Some (record { selector = one.selector; line = number_at steps one.opening })
@@ -58,12 +55,14 @@ pub record IsAccountOf (list : Listed) (component : ℕ) (steps : List Component
   pub session : Session
   pub opens : opened_with (own_entry list component) (slice_get steps one.opening) ≡ Some session
   pub refused : is_some account.given.refused ≡ opened_in_want (sent_at steps one.places) session one.donation
+  pub line : account.given.refused ≡ short_session steps one.opening one.places session one.donation
   pub exact : AreExactOf (sent_at steps one.places) session (most_for list component one).caps (most_for list component one).ram
       account.found.rows.items
   pub least : HasLeast (suffices_of (sent_at steps one.places) session) (most_for list component one)
       (lowest_of account.found.rows.items)
   pub safe : HasSafe (suffices_of (sent_at steps one.places) session) (most_for list component one)
       (safe_of account.found.rows.items)
+  pub shortfalls : HasShortfalls (short_session steps one.opening one.places session) (most_for list component one) account.found
 
 -- ---- sessions of one line that are alike
 

@@ -1,6 +1,6 @@
 -- The calls that lines of a script make.
-use Rattle.std.specs.Prelude.{ℕ, Bool, true, false, List, [], ◌∷◌, Option, Some, None}
-use Rattle.std.specs.Option.{option_map}
+use Rattle.std.specs.Prelude.{ℕ, Bool, true, false, List, [], ◌∷◌, slice_get, Option, Some, None}
+use Rattle.std.specs.Option.{option_map, option_map_or}
 use Rattle.own_model.specs.Call.{Call, parsed_call}
 use Rattle.own_model.specs.Call.Call.{Open, Exit}
 use Rattle.budget_search.specs.declared.component_line.ComponentLine.{ComponentLine}
@@ -14,8 +14,16 @@ with_args args call = call
 abbrev pub call_said : List ℕ → Option Call
 call_said line = option_map (λ said. said.call) (parsed_call line)
 
+-- the call that is written in a line, and the one that the line makes, with the arguments that were set for it
+abbrev pub call_written : ComponentLine → Option Call
+call_written step = call_said step.line.items
+
 abbrev pub call_of : ComponentLine → Option Call
 call_of step = option_map (with_args (option_map (λ args. args.items) step.args)) (call_said step.line.items)
+
+-- the number of the scenario's line for the line at a place
+abbrev pub number_at : List ComponentLine → ℕ → ℕ
+number_at steps place = option_map_or (λ step. step.number) (slice_get steps place) 0
 
 -- the calls of a line and of those after it: a line that is left out makes none, and an exit ends them
 abbrev pub calls_with : Bool → Option Call → List Call → List Call

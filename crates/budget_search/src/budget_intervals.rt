@@ -1,5 +1,5 @@
 //! All budgets under which an account isn't short of quota, from a few runs.
-ghost use Rattle.std.specs.Prelude.{◌≡◌, ◌≤◌, ◌↔◌, ◌||◌, ◌∷◌, [], IsTrue, nat_le, suc, ℕ, Bool, List, None, true, reverse, IfOk, IfSome, OnOk, ◌≢◌, IfErr};
+ghost use Rattle.std.specs.Prelude.{◌≡◌, ◌≤◌, ◌↔◌, ◌||◌, ◌∷◌, [], IsTrue, nat_le, suc, ℕ, Bool, List, Option, None, true, reverse, IfOk, IfSome, OnOk, ◌≢◌, IfErr};
 ghost use Rattle.list_parser.specs.declared.fault.BootFault.{BootFault as Fault};
 ghost use Rattle.list_parser.specs.declared.fault.BootFault.TheVariants.{NoMemory};
 ghost use Rattle.std.specs.List.{AllByRecursion};
@@ -8,7 +8,8 @@ ghost use Rattle.own_model.specs.Amounts.{Amounts};
 ghost use Rattle.budget_theorems.specs.Need.{Need, IsBelow};
 ghost use Rattle.budget_theorems.specs.Intervals.{is_covered, interval_of, stretches};
 ghost use Rattle.budget_meter.specs.Needs.{amounts_of};
-ghost use Rattle.budget_search.specs.BudgetIntervals.{both_alike, chosen_of, covers, is_below, joined_with, likeness_of, lowest_of, safe_before, safe_of, serves, AreOrdered, ArePast, AreRows, BeginFrom, EndsAbove, Follows, IsAdded, IsFoundAlike, IsRowWithin, IsRun, FailsWithin};
+ghost use Rattle.budget_search.specs.BudgetIntervals.{both_alike, chosen_of, covers, is_below, joined_with, likeness_of, lowest_of, safe_before, safe_of, serves, AreOrdered, ArePast, AreRows, BeginFrom, EndsAbove, Follows, IsAdded, IsFoundAlike, IsRowWithin, IsRun, FailsWithin, HasHighest, HasShortfalls, gaps_after};
+ghost use Rattle.budget_search.specs.declared.trial.RefusedLine.{RefusedLine};
 
 use crate::trial::{BudgetTrial, RefusedLine, SkippedLine};
 use budget_meter::Budget;
@@ -126,6 +127,9 @@ pub(crate) trait BudgetTrials {
     // The need of the run from a budget, and whether it is short of quota.
     ghost AreRuns: { Self → (Amounts → List Need) → (Amounts → Bool) → Type 0 };
 
+    // The first line that is short of quota in the run from a budget.
+    ghost AreShort: { Self → (Amounts → Option RefusedLine) → Type 0 };
+
     // The errors of the run from so much RAM, except that the host is out of memory.
     ghost fails: { Self → ℕ → Fault → Type 0 };
 
@@ -138,6 +142,11 @@ pub(crate) trait BudgetTrials {
             (record { ram = ram; caps = caps self.old }) trial) }
         ensures still { OnOk result ((each : Amounts → List Need) (want : Amounts → Bool) →
             AreRuns self.old each want → AreRuns self.new each want) }
+        ensures short { IfOk result (λ trial. (short : Amounts → Option RefusedLine) →
+            AreShort self.old short →
+            trial.refused ≡ short (record { ram = ram; caps = caps self.old })) }
+        ensures short_still { OnOk result ((short : Amounts → Option RefusedLine) →
+            AreShort self.old short → AreShort self.new short) }
         ensures caps { caps self.new ≡ caps self.old }
         ensures rest { rest self.new ≡ rest self.old }
         ensures fault { IfErr result (λ fault. fault ≢ NoMemory →
@@ -177,8 +186,13 @@ impl BudgetIntervals {
         ensures ordered { IfOk result (λ found. (each : Amounts → List Need)
             (want : Amounts → Bool) → T.AreRuns trials.old each want →
             AreOrdered (T.caps trials.old) top found.rows.items) }
+        ensures shortfalls { IfOk result (λ found. (short : Amounts → Option RefusedLine) →
+            T.AreShort trials.old short →
+            HasShortfalls short (record { ram = top; caps = T.caps trials.old }) found) }
         ensures still { OnOk result ((each : Amounts → List Need) (want : Amounts → Bool) →
             T.AreRuns trials.old each want → T.AreRuns trials.new each want) }
+        ensures short_still { OnOk result ((short : Amounts → Option RefusedLine) →
+            T.AreShort trials.old short → T.AreShort trials.new short) }
         ensures rest { T.rest trials.new ≡ T.rest trials.old }
         ensures fault { IfErr result (λ fault. fault ≢ NoMemory →
             (each : Amounts → List Need) (want : Amounts → Bool) →
@@ -205,6 +219,7 @@ impl BudgetIntervals {
         given: Option<&[u8]>,
     ) -> Result<(), BootFault>
         requires none { self.old.rows.items ≡ [] }
+        requires first { self.old.refused ≡ None }
         ensures exact { OnOk result ((each : Amounts → List Need) (want : Amounts → Bool) →
             T.AreRuns trials.old each want → (budget : Amounts) → budget.ram ≤ top →
             serves self.new.rows.items budget
@@ -212,8 +227,15 @@ impl BudgetIntervals {
         ensures ordered { OnOk result ((each : Amounts → List Need) (want : Amounts → Bool) →
             T.AreRuns trials.old each want →
             AreOrdered (T.caps trials.old) top (reverse self.new.rows.items)) }
+        ensures refused { OnOk result ((short : Amounts → Option RefusedLine) →
+            T.AreShort trials.old short →
+            self.new.refused ≡ short (record { ram = top; caps = T.caps trials.old })) }
+        ensures holes { self.new.holes ≡ self.old.holes }
         ensures still { OnOk result ((each : Amounts → List Need) (want : Amounts → Bool) →
             T.AreRuns trials.old each want → T.AreRuns trials.new each want) }
+        ensures short_still { OnOk result ((short : Amounts → Option RefusedLine) →
+            T.AreShort trials.old short → T.AreShort trials.new short) }
+        ensures caps { T.caps trials.new ≡ T.caps trials.old }
         ensures rest { T.rest trials.new ≡ T.rest trials.old }
         ensures same { (ram : ℕ) (fault : Fault) → T.fails trials.new ram fault →
             T.fails trials.old ram fault }
@@ -253,8 +275,15 @@ impl BudgetIntervals {
             BeginFrom (suc ram) (reverse self.old.rows.items) →
             AreOrdered (T.caps trials.old) top (reverse self.new.rows.items)
             × IfSome next (λ n. BeginFrom (suc n) (reverse self.new.rows.items))) }
+        ensures refused { OnOk result ((short : Amounts → Option RefusedLine) →
+            T.AreShort trials.old short →
+            HasHighest ram top (short (record { ram = top; caps = T.caps trials.old })) self.old.refused →
+            self.new.refused ≡ short (record { ram = top; caps = T.caps trials.old })) }
+        ensures holes { self.new.holes ≡ self.old.holes }
         ensures still { OnOk result ((each : Amounts → List Need) (want : Amounts → Bool) →
             T.AreRuns trials.old each want → T.AreRuns trials.new each want) }
+        ensures short_still { OnOk result ((short : Amounts → Option RefusedLine) →
+            T.AreShort trials.old short → T.AreShort trials.new short) }
         ensures caps { T.caps trials.new ≡ T.caps trials.old }
         ensures rest { T.rest trials.new ≡ T.rest trials.old }
         ensures same { (ram : ℕ) (fault : Fault) → T.fails trials.new ram fault →
@@ -293,6 +322,10 @@ impl BudgetIntervals {
             BeginFrom (suc ram) (reverse self.old.rows.items) →
             AreOrdered caps top (reverse self.new.rows.items)
             × BeginFrom trial.meter.choice (reverse self.new.rows.items)) }
+        ensures refused { OnOk result ((told : Option RefusedLine) →
+            (ram ≡ top → trial.refused ≡ told) → HasHighest ram top told self.old.refused →
+            self.new.refused ≡ told) }
+        ensures holes { self.new.holes ≡ self.old.holes }
         ensures likeness { OnOk result (trial.refused ≡ None →
             IsAdded (likeness_of trial.replies.items (option_copied given.entry))
             self.old.rows.items self.new.rows.items) }
@@ -329,6 +362,8 @@ impl BudgetIntervals {
             × BeginFrom row.ram_from (reverse self.new.rows.items)) }
         ensures likeness { OnOk result
             (IsAdded row.likeness self.old.rows.items self.new.rows.items) }
+        ensures refused { self.new.refused ≡ self.old.refused }
+        ensures holes { self.new.holes ≡ self.old.holes }
         ensures fault { IfErr result (λ fault. fault ≡ NoMemory) }
     {
         if let Some(above) = self.rows.pop() {
@@ -348,7 +383,14 @@ impl BudgetIntervals {
         alloc: Global,
         trials: &mut T,
     ) -> Result<(), BootFault>
+        requires none { self.old.holes.items ≡ [] }
         ensures rows { self.new.rows ≡ self.old.rows }
+        ensures refused { self.new.refused ≡ self.old.refused }
+        ensures gaps { OnOk result ((short : Amounts → Option RefusedLine) →
+            T.AreShort trials.old short →
+            self.new.holes.items ≡ gaps_after short (T.caps trials.old) None self.old.rows.items) }
+        ensures short_still { OnOk result ((short : Amounts → Option RefusedLine) →
+            T.AreShort trials.old short → T.AreShort trials.new short) }
         ensures still { OnOk result ((each : Amounts → List Need) (want : Amounts → Bool) →
             T.AreRuns trials.old each want → T.AreRuns trials.new each want) }
         ensures rest { T.rest trials.new ≡ T.rest trials.old }

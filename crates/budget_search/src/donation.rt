@@ -1,5 +1,5 @@
 //! Donations as the arguments of sessions.
-ghost use Rattle.std.specs.Prelude.{◌≡◌, true, is_some, Some, IfOk};
+ghost use Rattle.std.specs.Prelude.{◌≡◌, ◌<◌, ◌^◌, true, is_some, Some, IfOk};
 ghost use Rattle.own_model.specs.SessionArgs.{Arguments, arguments_of};
 ghost use Rattle.budget_meter.specs.Needs.{amounts_of};
 ghost use Rattle.budget_search.specs.Donations.{donated_text};
@@ -26,6 +26,8 @@ pub(crate) fn donates(args: &[u8], donation: Budget, given: &[u8]) -> bool
         arguments_of given.now ≡ Some arguments →
         arguments_of args.now
         ≡ Some (record { ram = donation.ram; caps = donation.caps; label = arguments.label }) }
+    ensures written { donation.caps < 2 ^ 32 → is_some (arguments_of given.now) ≡ true →
+        args.now ≡ donated_text (amounts_of donation) given.now → result ≡ true }
 {
     let Ok(given) = SessionArgs::read(given) else {
         return false;

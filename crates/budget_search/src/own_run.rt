@@ -1,5 +1,5 @@
 //! A run of a component's own calls from a budget.
-ghost use Rattle.std.specs.Prelude.{◌≡◌, ◌≢◌, ◌<◌, ◌∷◌, [], ℕ, List, false, true, is_some, length, IfErr, IfOk, IfSome, OnOk, Some, None};
+ghost use Rattle.std.specs.Prelude.{◌≡◌, ◌≢◌, ◌<◌, ◌∷◌, [], ℕ, List, false, true, is_some, length, IfErr, IfOk, IfSome, OnOk, Option, Some, None};
 ghost use Rattle.list_parser.specs.Quota.{quota_fault};
 ghost use Rattle.list_parser.specs.declared.fault.BootFault.TheVariants.{NoMemory};
 ghost use Rattle.own_model.specs.Amounts.{Amounts};
@@ -9,15 +9,18 @@ ghost use Rattle.own_model.specs.OwnState.{OwnState};
 ghost use Rattle.own_model.specs.StartList.{entries_of};
 ghost use Rattle.own_model.specs.Transcript.{entry_at};
 ghost use Rattle.core_calls.specs.Call.{model_call, IsWellFormed};
+ghost use Rattle.budget_theorems.specs.Need.{budgeted};
 ghost use Rattle.budget_meter.specs.Needs.{amounts_of};
 ghost use Rattle.budget_meter.specs.Run.{Shows};
 ghost use Rattle.budget_search.specs.Steps.{calls_of, calls_with, call_of};
-ghost use Rattle.budget_search.specs.Run.{Begins, HasLeft};
+ghost use Rattle.budget_search.specs.Run.{Begins, HasFirstShort, HasLeft};
+ghost use Rattle.budget_search.specs.ShortLines.{shown_short, short_by, short_line, short_with};
+ghost use Rattle.budget_search.specs.declared.trial.RefusedLine.{RefusedLine};
 
 use crate::component_line::ComponentLine;
 use crate::trial::{BudgetTrial, RefusedLine, Shortage};
 use budget_meter::{AccountMeter, Budget, call_amounts};
-use core_calls::{Call, Outcome, Reply};
+use core_calls::{Answer, Call, Outcome, Reply};
 use init_core::boot;
 use list_parser::{BootFault, StartList};
 use pd_core::{Core, Router};
@@ -39,6 +42,10 @@ impl BudgetTrial {
             Begins (start_list_of list.now) component (amounts_of start) s →
             Shows (entry_at (entries_of (start_list_of list.now)) component) (calls_of steps.now) s
             (amounts_of start) (is_some trial.refused) trial.meter) }
+        ensures short { IfOk result (λ trial. (s : OwnState) →
+            Begins (start_list_of list.now) component (amounts_of start) s → trial.refused
+            ≡ short_line (entry_at (entries_of (start_list_of list.now)) component) steps.now
+            (budgeted (amounts_of start) s)) }
         ensures fault { IfErr result
             (λ fault. fault ≢ NoMemory → quota_fault list.now ≡ Some fault) }
     {
@@ -73,6 +80,10 @@ impl<'a, R: Router + Drop> OwnRun<'a, R> {
             (s : OwnState) → HasLeft core.old component heard calls (calls_of steps.now) budget s →
             Shows (entry_at core.old.entries component) calls s budget
             (is_some trial.refused) trial.meter) }
+        ensures short { IfOk result (λ trial. (first : Option RefusedLine) →
+            HasFirstShort core.old component heard
+            (short_line (entry_at core.old.entries component) steps.now) first →
+            trial.refused ≡ first) }
         ensures fault { IfErr result (λ fault. fault ≡ NoMemory) }
     {
         let mut run = OwnRun {
@@ -97,6 +108,10 @@ impl<'a, R: Router + Drop> OwnRun<'a, R> {
             budget s →
             Shows (entry_at self.old.core.now.entries self.old.component) calls s budget
             (is_some self.new.trial.refused) self.new.heard.meter) }
+        ensures short { OnOk result ((first : Option RefusedLine) →
+            HasFirstShort self.old.core.now self.old.component self.old.heard
+            (short_line (entry_at self.old.core.now.entries self.old.component) steps.now) first →
+            self.new.trial.refused ≡ first) }
         ensures fault { IfErr result (λ fault. fault ≡ NoMemory) }
     {
         for step in steps {
@@ -125,6 +140,18 @@ impl<'a, R: Router + Drop> OwnRun<'a, R> {
             (calls_with step.now.is_left_out (call_of step.now) rest) budget s →
             Shows (entry_at self.old.core.now.entries self.old.component) calls s budget
             (is_some self.new.trial.refused) self.new.heard.meter) }
+        ensures later { IfOk result (λ goes_on. goes_on ≡ true →
+            (rest : OwnState → Option RefusedLine) (first : Option RefusedLine) →
+            HasFirstShort self.old.core.now self.old.component self.old.heard
+            (short_with (entry_at self.old.core.now.entries self.old.component)
+            step.now.is_left_out step.now.number (call_of step.now) rest) first →
+            HasFirstShort self.new.core.now self.new.component self.new.heard rest first) }
+        ensures short { IfOk result (λ goes_on. goes_on ≡ false →
+            (rest : OwnState → Option RefusedLine) (first : Option RefusedLine) →
+            HasFirstShort self.old.core.now self.old.component self.old.heard
+            (short_with (entry_at self.old.core.now.entries self.old.component)
+            step.now.is_left_out step.now.number (call_of step.now) rest) first →
+            self.new.trial.refused ≡ first) }
         ensures fault { IfErr result (λ fault. fault ≡ NoMemory) }
     {
         let Some(call) = step.call() else {
@@ -162,12 +189,24 @@ impl<'a, R: Router + Drop> OwnRun<'a, R> {
             (model_call call.entry ∷ rest) budget s →
             Shows (entry_at self.old.core.now.entries self.old.component) calls s budget
             (is_some self.new.trial.refused) self.new.heard.meter) }
+        ensures later { IfOk result (λ goes_on. goes_on ≡ true →
+            (rest : OwnState → Option RefusedLine) (first : Option RefusedLine) →
+            HasFirstShort self.old.core.now self.old.component self.old.heard
+            (short_by (entry_at self.old.core.now.entries self.old.component)
+            line (model_call call.entry) rest) first →
+            HasFirstShort self.new.core.now self.new.component self.new.heard rest first) }
+        ensures short { IfOk result (λ goes_on. goes_on ≡ false →
+            (rest : OwnState → Option RefusedLine) (first : Option RefusedLine) →
+            HasFirstShort self.old.core.now self.old.component self.old.heard
+            (short_by (entry_at self.old.core.now.entries self.old.component)
+            line (model_call call.entry) rest) first →
+            self.new.trial.refused ≡ first) }
         ensures fault { IfErr result (λ fault. fault ≡ NoMemory) }
     {
         self.core.step(self.component, call, &mut self.reply);
         let after = self.core.account(self.component);
         if self.heard.follow(call, self.reply.answer(), after) {
-            self.trial.refused = Some(refused_at(line, self.reply.outcome()));
+            self.trial.refused = Some(refused_at(line, self.reply.answer()));
             return Ok(false);
         }
         self.trial.keep_reply(self.reply.answer())?;
@@ -182,9 +221,12 @@ pub(crate) fn is_exit(call: Call<'_>) -> bool
     matches!(call, Call::Exit)
 }
 
-// Returns the refusal of a line that is short of quota.
-fn refused_at(line: u64, outcome: Outcome) -> RefusedLine {
-    let shortage = match outcome {
+// Returns the refusal of a line that is short of quota, by the reply to its call.
+fn refused_at(line: u64, answer: Answer<'_>) -> RefusedLine
+    ensures line { result.line ≡ line }
+    ensures shortage { result.shortage ≡ shown_short answer.entry.text.now }
+{
+    let shortage = match answer.outcome {
         Outcome::Refused(Refusal::OutOfRam) => Shortage::Ram,
         _ => Shortage::Caps,
     };

@@ -1,6 +1,6 @@
 //! The accounts of a script: its sessions', and its own.
 ghost use Rattle.std.specs.Prelude.{◌≡◌, ◌-◌, ◌<◌, ◌^◌, length, IfOk};
-ghost use Rattle.budget_search.specs.SessionAccounts.{number_at};
+ghost use Rattle.budget_search.specs.Steps.{number_at};
 
 use crate::account_budgets::{AccountBudgets, GivenBudget, SessionKey};
 use crate::component_line::ComponentLine;
@@ -39,20 +39,23 @@ pub struct ScriptSessions {
 }
 
 impl ScriptSearch<'_> {
-    ghost use Rattle.std.specs.Prelude.{◌≡◌, ◌≢◌, ◌<◌, ◌∷◌, [], true, length, map, is_some, List, None, IfNone, IfOk, IfSome, OnOk, ◌⊎◌, IfErr, Some};
+    ghost use Rattle.std.specs.Prelude.{◌≡◌, ◌≢◌, ◌<◌, ◌∷◌, [], false, true, length, map, is_some, List, None, IfNone, IfOk, IfSome, OnOk, ◌⊎◌, IfErr, Some};
+    ghost use Rattle.std.specs.List.{AllByRecursion};
     ghost use Rattle.list_parser.specs.Quota.{quota_fault};
     ghost use Rattle.list_parser.specs.declared.fault.BootFault.TheVariants.{BadConfig, NoMemory};
     ghost use Rattle.list_parser.specs.declared.fault.ConfigField.TheVariants.{Start};
-    ghost use Rattle.budget_search.specs.NoBudgets.{HasUnlike, LacksBudgets};
+    ghost use Rattle.budget_search.specs.NoBudgets.{has_room, HasNoRoom, LacksBudgets};
     ghost use Rattle.budget_meter.specs.Needs.{amounts_of};
+    ghost use Rattle.own_model.specs.Amounts.{more_of};
     ghost use Rattle.own_model.specs.StartList.Kind.{Script as AScript};
     ghost use Rattle.budget_meter.specs.Run.{Shows};
     ghost use Rattle.budget_search.specs.Alike.{given_in, most_in, own_entry, own_state, reserve_in, IsFunded};
-    ghost use Rattle.budget_search.specs.BudgetIntervals.{lowest_of, safe_of};
+    ghost use Rattle.budget_search.specs.BudgetIntervals.{lowest_of, safe_of, HasShortfalls};
     ghost use Rattle.budget_search.specs.OpenedSessions.{IsReadyFor};
     ghost use Rattle.budget_search.specs.Own.{suffices_with, AreExact};
-    ghost use Rattle.budget_search.specs.ReachedSessions.{reached_of, Reached};
+    ghost use Rattle.budget_search.specs.ReachedSessions.{reached_of, IsOfLines, Reached};
     ghost use Rattle.budget_search.specs.SessionAccounts.{AreCounted, AreSessionAccounts, HaveLines, IsAccountOf};
+    ghost use Rattle.budget_search.specs.ShortLines.{short_line_with};
     ghost use Rattle.budget_search.specs.Steps.{calls_of};
     ghost use Rattle.budget_search.specs.Sufficient.{HasLeast, HasSafe};
     ghost use Rattle.budget_search.specs.declared.account_budgets.AccountBudgets.{AccountBudgets};
@@ -89,6 +92,10 @@ impl ScriptSearch<'_> {
             Shows (own_entry self.now.list.now self.now.component) (calls_of steps.now)
             (own_state self.now.list.now self.now.component) (amounts_of self.now.given)
             (is_some found.given.refused) found.given.meter) }
+        ensures refused { IfOk result (λ found.
+            (own_entry self.now.list.now self.now.component).kind ≡ AScript →
+            found.given.refused ≡ short_line_with self.now.list.now self.now.component steps.now
+            (amounts_of self.now.given)) }
         ensures accounts { IfOk result (λ found.
             (own_entry self.now.list.now self.now.component).kind ≡ AScript →
             AreSessionAccounts self.now.list.now self.now.component steps.now found.accounts.items) }
@@ -138,7 +145,10 @@ impl ScriptSearch<'_> {
             (own_entry self.now.list.now self.now.component).kind ≡ AScript →
             IsFunded ample.now self.now.list.now self.now.component
             (most_in self.now.list.now self.now.component) →
-            (quota_fault ample.now ≡ Some fault) ⊎ HasUnlike (map reached_of sessions.now) fault) }
+            AllByRecursion (IsOfLines (own_entry self.now.list.now self.now.component) steps.now)
+            (map reached_of sessions.now) →
+            (quota_fault ample.now ≡ Some fault)
+            ⊎ HasNoRoom self.now.list.now self.now.component (map reached_of sessions.now) fault) }
     {
         let reply = Reply::boot(alloc)?;
         let core = boot(alloc, ample)?;
@@ -155,12 +165,16 @@ impl ScriptSearch<'_> {
         sessions: &[OpenedSession],
     ) -> Result<Vec<AccountBudgets>, BootFault>
         ensures accounts { IfOk result (λ found.
-            IsReadyFor (own_entry self.now.list.now self.now.component) client.core client.client →
+            IsReadyFor (own_entry self.now.list.now self.now.component)
+            (most_in self.now.list.now self.now.component) client.core client.client →
             AreCounted self.now.list.now self.now.component steps.now (map reached_of sessions.now) []
             found.items) }
         ensures fault { IfErr result (λ fault. fault ≢ NoMemory →
-            IsReadyFor (own_entry self.now.list.now self.now.component) client.core client.client →
-            HasUnlike (map reached_of sessions.now) fault) }
+            IsReadyFor (own_entry self.now.list.now self.now.component)
+            (most_in self.now.list.now self.now.component) client.core client.client →
+            AllByRecursion (IsOfLines (own_entry self.now.list.now self.now.component) steps.now)
+            (map reached_of sessions.now) →
+            HasNoRoom self.now.list.now self.now.component (map reached_of sessions.now) fault) }
     {
         let mut client = client;
         let mut accounts = SessionAccounts::new(alloc);
@@ -180,19 +194,29 @@ impl ScriptSearch<'_> {
         accounts: &mut SessionAccounts,
     ) -> Result<(), BootFault>
         ensures ready { OnOk result
-            (IsReadyFor (own_entry self.now.list.now self.now.component) client.old.core client.old.client →
-            IsReadyFor (own_entry self.now.list.now self.now.component) client.new.core client.new.client) }
+            (IsReadyFor (own_entry self.now.list.now self.now.component)
+            (most_in self.now.list.now self.now.component) client.old.core client.old.client →
+            IsReadyFor (own_entry self.now.list.now self.now.component)
+            (most_in self.now.list.now self.now.component) client.new.core client.new.client) }
         ensures lines { OnOk result (HaveLines accounts.old → HaveLines accounts.new) }
         ensures counted { OnOk result
-            (IsReadyFor (own_entry self.now.list.now self.now.component) client.old.core client.old.client →
+            (IsReadyFor (own_entry self.now.list.now self.now.component)
+            (most_in self.now.list.now self.now.component) client.old.core client.old.client →
             HaveLines accounts.old → (rest : List Reached) (end : List AccountBudgets) →
             AreCounted self.now.list.now self.now.component steps.now rest accounts.new.accounts.items
             end →
             AreCounted self.now.list.now self.now.component steps.now (reached_of opened.now ∷ rest)
             accounts.old.accounts.items end) }
         ensures fault { IfErr result (λ fault. fault ≢ NoMemory →
-            IsReadyFor (own_entry self.now.list.now self.now.component) client.old.core client.old.client →
+            IsReadyFor (own_entry self.now.list.now self.now.component)
+            (most_in self.now.list.now self.now.component) client.old.core client.old.client →
             fault ≡ BadConfig Start) }
+        ensures lacks { IfErr result (λ fault. fault ≢ NoMemory →
+            IsReadyFor (own_entry self.now.list.now self.now.component)
+            (most_in self.now.list.now self.now.component) client.old.core client.old.client →
+            IsOfLines (own_entry self.now.list.now self.now.component) steps.now (reached_of opened.now) →
+            has_room self.now.list.now self.now.component
+            (more_of (amounts_of opened.now.donation) (amounts_of opened.now.raised)) ≡ false) }
     {
         let account = self.session(alloc, client, steps, opened)?;
         accounts.add(account)?;
@@ -210,6 +234,7 @@ impl ScriptSearch<'_> {
         ensures component { IfOk result (λ account. account.component ≡ self.now.component) }
         ensures own { IfOk result (λ account. account.session ≡ None) }
         ensures given { IfOk result (λ account. account.given.budget ≡ self.now.given) }
+        ensures refused { IfOk result (λ account. account.given.refused ≡ given.now.refused) }
         ensures reserve { IfOk result (λ account. amounts_of account.reserve
             ≡ reserve_in self.now.list.now self.now.component) }
         ensures exact { IfOk result (λ account.
@@ -227,6 +252,10 @@ impl ScriptSearch<'_> {
             HasSafe (suffices_with self.now.list.now self.now.component steps.now)
             (most_in self.now.list.now self.now.component)
             (safe_of account.found.rows.items)) }
+        ensures shortfalls { IfOk result (λ account.
+            (own_entry self.now.list.now self.now.component).kind ≡ AScript →
+            HasShortfalls (short_line_with self.now.list.now self.now.component steps.now)
+            (most_in self.now.list.now self.now.component) account.found) }
         ensures fault { IfErr result (λ fault. fault ≢ NoMemory →
             (own_entry self.now.list.now self.now.component).kind ≡ AScript →
             LacksBudgets self.now.list.now fault) }
@@ -263,15 +292,25 @@ impl ScriptSearch<'_> {
         opened: &OpenedSession,
     ) -> Result<AccountBudgets, BootFault>
         ensures account { IfOk result (λ account.
-            IsReadyFor (own_entry self.now.list.now self.now.component) client.old.core client.old.client →
+            IsReadyFor (own_entry self.now.list.now self.now.component)
+            (most_in self.now.list.now self.now.component) client.old.core client.old.client →
             IsAccountOf self.now.list.now self.now.component steps.now (reached_of opened.now) account) }
         ensures key { IfOk result (λ account. is_some account.session ≡ true) }
         ensures ready { OnOk result
-            (IsReadyFor (own_entry self.now.list.now self.now.component) client.old.core client.old.client →
-            IsReadyFor (own_entry self.now.list.now self.now.component) client.new.core client.new.client) }
+            (IsReadyFor (own_entry self.now.list.now self.now.component)
+            (most_in self.now.list.now self.now.component) client.old.core client.old.client →
+            IsReadyFor (own_entry self.now.list.now self.now.component)
+            (most_in self.now.list.now self.now.component) client.new.core client.new.client) }
         ensures fault { IfErr result (λ fault. fault ≢ NoMemory →
-            IsReadyFor (own_entry self.now.list.now self.now.component) client.old.core client.old.client →
+            IsReadyFor (own_entry self.now.list.now self.now.component)
+            (most_in self.now.list.now self.now.component) client.old.core client.old.client →
             fault ≡ BadConfig Start) }
+        ensures lacks { IfErr result (λ fault. fault ≢ NoMemory →
+            IsReadyFor (own_entry self.now.list.now self.now.component)
+            (most_in self.now.list.now self.now.component) client.old.core client.old.client →
+            IsOfLines (own_entry self.now.list.now self.now.component) steps.now (reached_of opened.now) →
+            has_room self.now.list.now self.now.component
+            (more_of (amounts_of opened.now.donation) (amounts_of opened.now.raised)) ≡ false) }
     {
         let reached = SessionLines { steps, opened };
         let given = reached.trial(alloc, client, opened.donation)?;

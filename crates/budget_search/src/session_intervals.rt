@@ -1,13 +1,15 @@
 //! Runs of a session from any donation.
-ghost use Rattle.std.specs.Prelude.{◌≡◌, Some, slice_get, IfOk, OnOk, ◌≢◌, IfErr};
+ghost use Rattle.std.specs.Prelude.{◌≡◌, ◌<◌, ◌^◌, Some, slice_get, IfOk, OnOk, ◌≢◌, IfErr};
 ghost use Rattle.list_parser.specs.declared.fault.BootFault.TheVariants.{BadConfig, NoMemory};
 ghost use Rattle.list_parser.specs.declared.fault.ConfigField.TheVariants.{Start};
+ghost use Rattle.own_model.specs.Amounts.{Amounts, more_of};
 ghost use Rattle.own_model.specs.Session.{Session};
 ghost use Rattle.own_model.specs.StartList.{Entry};
 ghost use Rattle.own_model.specs.Transcript.{entry_at};
 ghost use Rattle.budget_meter.specs.Needs.{amounts_of};
-ghost use Rattle.budget_search.specs.BudgetIntervals.{lowest_of, safe_of};
-ghost use Rattle.budget_search.specs.OpenedSessions.{AreExactOf, AreSessionRuns, IsReady, IsReadyFor, opened_with, sent_at, suffices_of};
+ghost use Rattle.budget_search.specs.BudgetIntervals.{lowest_of, safe_of, HasShortfalls};
+ghost use Rattle.budget_search.specs.OpenedSessions.{AreExactOf, AreSessionRuns, IsReady, IsReadyFor, opened_with, sent_at, suffices_of, CanDonate, raised_in};
+ghost use Rattle.budget_search.specs.ShortRequests.{short_session};
 ghost use Rattle.budget_search.specs.Sufficient.{HasLeast, HasSafe};
 
 use crate::budget_intervals::{BudgetIntervals, BudgetTrials};
@@ -45,15 +47,27 @@ pub(crate) fn session_rows<R: Router + Drop>(
         (slice_get reached.entry.steps.now reached.entry.opened.now.step) ≡ Some session →
         HasSafe (suffices_of (sent_at reached.entry.steps.now reached.entry.opened.now.steps.items) session)
         (amounts_of most) (safe_of found.rows.items)) }
-    ensures ready { OnOk result ((entry : Entry) (session : Session) →
-        IsReadyFor entry client.old.core client.old.client →
+    ensures shortfalls { IfOk result (λ found. (session : Session) →
+        IsReady client.old.core client.old.client →
+        opened_with (entry_at client.old.core.entries client.old.client)
+        (slice_get reached.entry.steps.now reached.entry.opened.now.step) ≡ Some session →
+        HasShortfalls (short_session reached.entry.steps.now reached.entry.opened.now.step
+        reached.entry.opened.now.steps.items session) (amounts_of most) found) }
+    ensures ready { OnOk result ((entry : Entry) (whole : Amounts) (session : Session) →
+        IsReadyFor entry whole client.old.core client.old.client →
         opened_with entry (slice_get reached.entry.steps.now reached.entry.opened.now.step) ≡ Some session →
-        IsReadyFor entry client.new.core client.new.client) }
+        IsReadyFor entry whole client.new.core client.new.client) }
     ensures fault { IfErr result (λ fault. fault ≢ NoMemory → (session : Session) →
         IsReady client.old.core client.old.client →
         opened_with (entry_at client.old.core.entries client.old.client)
         (slice_get reached.entry.steps.now reached.entry.opened.now.step) ≡ Some session →
         fault ≡ BadConfig Start) }
+    ensures lacks { IfErr result (λ fault. fault ≢ NoMemory → most.caps < 2 ^ 32 →
+        (session : Session) → IsReady client.old.core client.old.client →
+        opened_with (entry_at client.old.core.entries client.old.client)
+        (slice_get reached.entry.steps.now reached.entry.opened.now.step) ≡ Some session →
+        CanDonate client.old.core client.old.client (more_of (amounts_of most)
+        (raised_in (sent_at reached.entry.steps.now reached.entry.opened.now.steps.items))) → ⊥) }
 {
     let mut trials = SessionTrials {
         client,
@@ -86,24 +100,43 @@ impl<R: Router + Drop> Drop for SessionTrials<'_, R> {
 
 impl<R: Router + Drop> BudgetTrials for SessionTrials<'_, R> {
     ghost use Rattle.std.specs.Borrow.{GName};
-    ghost use Rattle.std.specs.Prelude.{slice_get};
+    ghost use Rattle.std.specs.Prelude.{◌≡◌, Some, slice_get};
     ghost use Rattle.own_model.specs.StartList.{Entry};
     ghost use Rattle.own_model.specs.Transcript.{entry_at};
-    ghost use Rattle.budget_search.specs.OpenedSessions.{AreSessionRuns, sent_at};
+    ghost use Rattle.own_model.specs.Session.{Session};
+    ghost use Rattle.budget_search.specs.OpenedSessions.{AreSessionRuns, IsReady, opened_with, sent_at, FailsToDonate, whole_at};
+    ghost use Rattle.budget_search.specs.ShortRequests.{short_session};
+    ghost use Rattle.own_model.specs.Account.{Account};
 
     ghost caps = { λ trials. trials.caps };
 
-    ghost Rest = { Entry × GName };
+    ghost Rest = { (Entry × Account) × GName };
 
-    ghost rest = { λ trials.
-        (entry_at trials.client.now.core.entries trials.client.now.client, trials.client.ghost_name) };
+    ghost rest = { λ trials. (
+      (
+        entry_at trials.client.now.core.entries trials.client.now.client,
+        whole_at trials.client.now.core trials.client.now.client,
+      ),
+      trials.client.ghost_name,
+    ) };
 
     ghost AreRuns = { λ trials each want.
         AreSessionRuns trials.client.now.core trials.client.now.client
         (slice_get trials.reached.steps.now trials.reached.opened.now.step)
         (sent_at trials.reached.steps.now trials.reached.opened.now.steps.items) each want };
 
-    ghost fails = { λ trials ram fault. fault ≡ BadConfig Start };
+    ghost AreShort = { λ trials short.
+        IsReady trials.client.now.core trials.client.now.client
+        × ((session : Session)
+        × ((opened_with (entry_at trials.client.now.core.entries trials.client.now.client)
+        (slice_get trials.reached.steps.now trials.reached.opened.now.step) ≡ Some session)
+        × (short ≡ short_session trials.reached.steps.now trials.reached.opened.now.step
+        trials.reached.opened.now.steps.items session))) };
+
+    ghost fails = { λ trials ram fault.
+        FailsToDonate trials.client.now.core trials.client.now.client
+        (sent_at trials.reached.steps.now trials.reached.opened.now.steps.items)
+        (record { ram = ram; caps = trials.caps }) fault };
 
     fn run(&mut self, alloc: Global, ram: u64) -> Result<BudgetTrial, BootFault> {
         let caps = self.caps;

@@ -1,11 +1,11 @@
 //! A run of one session's calls from a donation.
-ghost use Rattle.std.specs.Prelude.{◌≡◌, ◌≢◌, ◌<◌, ◌∷◌, ℕ, [], List, codes, None, Some, true, false, is_some, length, slice_get, IfErr, IfOk, OnOk};
+ghost use Rattle.std.specs.Prelude.{◌≡◌, ◌≢◌, ◌<◌, ◌^◌, ◌∷◌, ℕ, [], List, codes, None, Some, true, false, is_some, length, slice_get, IfErr, IfOk, OnErr, OnOk};
 ghost use Rattle.list_parser.specs.declared.fault.BootFault.TheVariants.{BadConfig, NoMemory};
 ghost use Rattle.list_parser.specs.declared.fault.ConfigField.TheVariants.{Start};
 ghost use Rattle.std.specs.FinMap.{get};
 ghost use Rattle.std.specs.Option.{option_map};
 ghost use Rattle.std.specs.Str.{bytes_eq};
-ghost use Rattle.own_model.specs.Amounts.{Amounts};
+ghost use Rattle.own_model.specs.Amounts.{Amounts, more_of};
 ghost use Rattle.own_model.specs.Call.Call.{CallSession, Upgrade};
 ghost use Rattle.own_model.specs.OwnState.{session_named};
 ghost use Rattle.own_model.specs.Reply.{reply_text};
@@ -18,7 +18,8 @@ ghost use Rattle.budget_meter.specs.Needs.{amounts_of, shown_by, shown_in};
 ghost use Rattle.budget_meter.specs.SessionRuns.{Sent, opening_need, opened_needs, opened_in_want};
 ghost use Rattle.budget_meter.specs.Sessions.{Shows};
 ghost use Rattle.budget_search.specs.BudgetIntervals.{IsRun};
-ghost use Rattle.budget_search.specs.OpenedSessions.{HasSelectors, IsReady, held, opened_with, sent_at, is_too_small};
+ghost use Rattle.budget_search.specs.OpenedSessions.{HasSelectors, IsReady, held, opened_with, sent_at, is_too_small, CanDonate, HasDue, raised_in, whole_at};
+ghost use Rattle.budget_search.specs.ShortRequests.{donated_shortage, refused_line, session_shortage, short_at, short_session};
 ghost use Rattle.budget_search.specs.Steps.{call_said};
 
 use crate::component_line::ComponentLine;
@@ -36,8 +37,8 @@ use trade_base::Refusal;
 /// The selector of the only session of a component that has made no other call.
 const FIRST: u64 = 1;
 
-/// The error of a run whose session isn't the one of its lines.
-const UNLIKE: BootFault = BootFault::BadConfig(ConfigField::Start);
+/// The error of a run whose client doesn't cover what is donated for the session.
+const NO_ROOM: BootFault = BootFault::BadConfig(ConfigField::Start);
 
 /// A session with the lines that reach it.
 #[derive(Clone, Copy)]
@@ -50,7 +51,8 @@ pub(crate) struct SessionLines<'a> {
 
 impl SessionLines<'_> {
     /// Runs the session's calls from a donation, by its client, which has enough and no other session. The error is that of the
-    /// run, or that the host is out of memory.
+    /// run, or that the host is out of memory. A run of a session that is routed has an error only if its client doesn't cover the
+    /// donation and those of the upgrades.
     ///
     /// The opening is made with the donation. Before the run its arguments are compared: they name exactly this donation.
     pub(crate) fn trial<R: Router + Drop>(
@@ -72,15 +74,29 @@ impl SessionLines<'_> {
             opened_with (entry_at client.old.core.entries client.old.client)
             (slice_get self.entry.steps.now self.entry.opened.now.step) ≡ Some session →
             IsReady client.new.core client.new.client) }
+        ensures short { IfOk result (λ trial. (session : Session) →
+            IsReady client.old.core client.old.client →
+            opened_with (entry_at client.old.core.entries client.old.client)
+            (slice_get self.entry.steps.now self.entry.opened.now.step) ≡ Some session →
+            trial.refused ≡ short_session self.entry.steps.now self.entry.opened.now.step
+            self.entry.opened.now.steps.items session (amounts_of donation)) }
         ensures opened { OnOk result (IsReady client.old.core client.old.client →
             is_some (opened_with (entry_at client.old.core.entries client.old.client)
             (slice_get self.entry.steps.now self.entry.opened.now.step)) ≡ true) }
         ensures entries { client.new.core.entries ≡ client.old.core.entries }
         ensures same { client.new.client ≡ client.old.client }
+        ensures whole { whole_at client.new.core client.new.client
+            ≡ whole_at client.old.core client.old.client }
         ensures fault { IfErr result (λ fault. fault ≢ NoMemory → fault ≡ BadConfig Start) }
+        ensures lacks { IfErr result (λ fault. fault ≢ NoMemory → donation.caps < 2 ^ 32 →
+            (session : Session) → IsReady client.old.core client.old.client →
+            opened_with (entry_at client.old.core.entries client.old.client)
+            (slice_get self.entry.steps.now self.entry.opened.now.step) ≡ Some session →
+            CanDonate client.old.core client.old.client (more_of (amounts_of donation)
+            (raised_in (sent_at self.entry.steps.now self.entry.opened.now.steps.items))) → ⊥) }
     {
         let Some(opening) = self.steps.get(self.opened.step) else {
-            return Err(UNLIKE);
+            return Err(NO_ROOM);
         };
         let Some(
             Call::Open {
@@ -89,12 +105,12 @@ impl SessionLines<'_> {
             },
         ) = opening.said()
         else {
-            return Err(UNLIKE);
+            return Err(NO_ROOM);
         };
         let named = args_with(alloc, donation, given)?;
         let args = named.as_slice();
         if !donates(args, donation, given) {
-            return Err(UNLIKE);
+            return Err(NO_ROOM);
         }
         client.step(Call::Open { service, args });
         match client.account() {
@@ -114,18 +130,30 @@ impl SessionLines<'_> {
     ) -> Result<BudgetTrial, BootFault>
         ensures entries { client.new.core.entries ≡ client.old.core.entries }
         ensures same { client.new.client ≡ client.old.client }
+        ensures whole { whole_at client.new.core client.new.client
+            ≡ whole_at client.old.core client.old.client }
         ensures run { IfOk result (λ trial. (wish : Wish) →
             session_too_small wish.ram wish.caps ≡ None →
             quotas_account account ≡ (new_session wish).account →
             HasSelectors client.old.core client.old.client (held (new_session wish) None) →
             Shows (sent_at self.entry.steps.now self.entry.opened.now.steps.items) (new_session wish)
             (record { ram = wish.ram; caps = wish.caps }) (is_some trial.refused) trial.meter) }
+        ensures short { IfOk result (λ trial. (wish : Wish) →
+            session_too_small wish.ram wish.caps ≡ None →
+            quotas_account account ≡ (new_session wish).account →
+            HasSelectors client.old.core client.old.client (held (new_session wish) None) →
+            trial.refused ≡ short_at self.entry.steps.now self.entry.opened.now.steps.items None
+            (new_session wish)) }
         ensures ready { OnOk result ((wish : Wish) →
             session_too_small wish.ram wish.caps ≡ None →
             quotas_account account ≡ (new_session wish).account →
             HasSelectors client.old.core client.old.client (held (new_session wish) None) →
             IsReady client.new.core client.new.client) }
         ensures fault { IfErr result (λ fault. fault ≢ NoMemory → fault ≡ BadConfig Start) }
+        ensures lacks { IfErr result (λ fault. fault ≢ NoMemory → (due : Amounts) →
+            HasDue client.old.core client.old.client due
+            (sent_at self.entry.steps.now self.entry.opened.now.steps.items) →
+            CanDonate client.old.core client.old.client due → ⊥) }
     {
         let heard = SessionMeter::new(alloc, account, client.kinds())?;
         let mut run = SessionRun {
@@ -149,12 +177,15 @@ fn unopened(
 ) -> Result<BudgetTrial, BootFault>
     ensures small { OnOk result (is_too_small answer.entry.text.now ≡ true) }
     ensures refused { IfOk result (λ trial. is_some trial.refused ≡ true) }
+    ensures short { IfOk result (λ trial. trial.refused
+        ≡ refused_line line (donated_shortage answer.entry.text.now)) }
     ensures shown { IfOk result (λ trial. shown_in trial.meter
         ≡ shown_by (amounts_of donation) (opening_need (amounts_of donation) ∷ [])) }
     ensures fault { IfErr result (λ fault. fault ≢ NoMemory → fault ≡ BadConfig Start) }
+    ensures large { OnErr result (is_too_small answer.entry.text.now ≡ false) }
 {
     let Some(shortage) = too_small(answer) else {
-        return Err(UNLIKE);
+        return Err(NO_ROOM);
     };
     let mut trial = BudgetTrial::new(alloc, donation);
     trial.refused = Some(RefusedLine { line, shortage });
@@ -164,7 +195,8 @@ fn unopened(
 
 // Returns what a donation is short of, if an opening is answered so.
 fn too_small(answer: Answer<'_>) -> Option<Shortage>
-    ensures { is_some result ≡ is_too_small answer.entry.text.now }
+    ensures small { is_some result ≡ is_too_small answer.entry.text.now }
+    ensures shortage { result ≡ donated_shortage answer.entry.text.now }
 {
     match answer.outcome {
         Outcome::Refused(Refusal::InsufficientRamQuota) => Some(Shortage::DonatedRam),
@@ -189,12 +221,13 @@ pub(crate) struct SessionClient<R: Router + Drop> {
 }
 
 impl<R: Router + Drop> SessionClient<R> {
-    ghost use Rattle.std.specs.Prelude.{◌≡◌, ◌≢◌, ◌<◌, ℕ, List, None, Some, true, false, is_some, length, slice_get, IfErr, IfOk, OnOk};
+    ghost use Rattle.std.specs.Prelude.{◌≡◌, ◌≢◌, ◌<◌, ℕ, List, None, Option, Some, true, false, is_some, length, slice_get, IfErr, IfOk, OnOk};
     ghost use Rattle.list_parser.specs.declared.fault.BootFault.TheVariants.{BadConfig, NoMemory};
     ghost use Rattle.list_parser.specs.declared.fault.ConfigField.TheVariants.{Start};
     ghost use Rattle.std.specs.FinMap.{get};
     ghost use Rattle.std.specs.Option.{option_and_then, option_copied, option_map};
     ghost use Rattle.own_model.specs.Amounts.{Amounts};
+    ghost use Rattle.own_model.specs.Call.{is_of_session};
     ghost use Rattle.own_model.specs.Call.Call.{CallSession, Upgrade};
     ghost use Rattle.own_model.specs.OwnState.{session_named};
     ghost use Rattle.own_model.specs.Reply.{reply_text};
@@ -205,8 +238,10 @@ impl<R: Router + Drop> SessionClient<R> {
     ghost use Rattle.object_kinds.specs.Offered.{offered_kinds};
     ghost use Rattle.core_calls.specs.Call.{model_call, IsWellFormed};
     ghost use Rattle.budget_meter.specs.SessionRuns.{Sent};
-    ghost use Rattle.budget_search.specs.OpenedSessions.{HasEnded, HasLeft, sends, sent_at, sent_by};
+    ghost use Rattle.budget_search.specs.OpenedSessions.{HasEnded, HasLeft, sends, sent_at, sent_by, CanDonate, HasDue, whole_at};
+    ghost use Rattle.budget_search.specs.ShortRequests.{FirstShort, IsShortBy, short_at, short_call, short_step};
     ghost use Rattle.budget_search.specs.Steps.{call_said};
+    ghost use Rattle.budget_search.specs.declared.trial.RefusedLine.{RefusedLine};
 
     /// Returns the client for a component of a core that has made no call, with the reply that its calls write.
     pub(crate) fn new(core: Core<R>, client: usize, reply: Reply) -> SessionClient<R>
@@ -249,6 +284,8 @@ impl<R: Router + Drop> SessionClient<R> {
         requires { IsWellFormed call }
         ensures same { self.new.client ≡ self.old.client }
         ensures entries { self.new.core.entries ≡ self.old.core.entries }
+        ensures whole { is_of_session (model_call call.entry) ≡ true →
+            whole_at self.new.core self.new.client ≡ whole_at self.old.core self.old.client }
         ensures answered { self.old.client < length self.old.core.entries → self.new.reply.text
             ≡ reply_text (outcome_at self.old.core self.old.client (model_call call.entry)).reply }
         ensures stepped { self.old.client < length self.old.core.entries → self.new.core
@@ -270,12 +307,23 @@ impl<R: Router + Drop> SessionClient<R> {
         requires none { run.old.trial.refused ≡ None }
         ensures same { self.new.client ≡ self.old.client }
         ensures entries { self.new.core.entries ≡ self.old.core.entries }
+        ensures whole { whole_at self.new.core self.new.client ≡ whole_at self.old.core self.old.client }
         ensures ended { OnOk result ((sent : List Sent) (session : Session) (donation : Amounts) →
             HasLeft self.old.core self.old.client run.old.heard sent (sent_at steps.now places.now)
             session donation →
             HasEnded self.new.core self.new.client sent session donation
             (is_some run.new.trial.refused) run.new.heard.meter) }
+        ensures short { OnOk result ((session : Session) (donation : Amounts)
+            (first : Option RefusedLine) →
+            IsShortBy self.old.core self.old.client run.old.heard session donation
+            (short_at steps.now places.now) first →
+            run.new.trial.refused ≡ first) }
         ensures fault { IfErr result (λ fault. fault ≢ NoMemory → fault ≡ BadConfig Start) }
+        ensures lacks { IfErr result (λ fault. fault ≢ NoMemory →
+            (due : Amounts) →
+            HasDue self.old.core self.old.client due
+            (sent_at steps.now places.now) →
+            CanDonate self.old.core self.old.client due → ⊥) }
     {
         for place in places {
             if !self.reach(run, steps, *place)? {
@@ -295,6 +343,7 @@ impl<R: Router + Drop> SessionClient<R> {
         requires none { run.old.trial.refused ≡ None }
         ensures same { self.new.client ≡ self.old.client }
         ensures entries { self.new.core.entries ≡ self.old.core.entries }
+        ensures whole { whole_at self.new.core self.new.client ≡ whole_at self.old.core self.old.client }
         ensures on { IfOk result (λ goes_on. goes_on ≡ true → run.new.trial.refused ≡ None) }
         ensures left { IfOk result (λ goes_on. goes_on ≡ true → (sent rest : List Sent)
             (session : Session) (donation : Amounts) →
@@ -309,7 +358,26 @@ impl<R: Router + Drop> SessionClient<R> {
             session donation →
             HasEnded self.new.core self.new.client sent session donation
             (is_some run.new.trial.refused) run.new.heard.meter) }
+        ensures short { IfOk result (λ goes_on. goes_on ≡ true → (session : Session)
+            (donation : Amounts) (rest : FirstShort) (first : Option RefusedLine) →
+            IsShortBy self.old.core self.old.client run.old.heard session donation
+            (short_step (slice_get steps.now place) rest) first →
+            IsShortBy self.new.core self.new.client run.new.heard session donation rest first) }
+        ensures refused { IfOk result (λ goes_on. goes_on ≡ false → (session : Session)
+            (donation : Amounts) (rest : FirstShort) (first : Option RefusedLine) →
+            IsShortBy self.old.core self.old.client run.old.heard session donation
+            (short_step (slice_get steps.now place) rest) first →
+            run.new.trial.refused ≡ first) }
+        ensures due { OnOk result ((due : Amounts) (rest : List Sent) →
+            HasDue self.old.core self.old.client due
+            (sent_by (slice_get steps.now place) rest) →
+            HasDue self.new.core self.new.client due rest) }
         ensures fault { IfErr result (λ fault. fault ≢ NoMemory → fault ≡ BadConfig Start) }
+        ensures lacks { IfErr result (λ fault. fault ≢ NoMemory →
+            (due : Amounts) (rest : List Sent) →
+            HasDue self.old.core self.old.client due
+            (sent_by (slice_get steps.now place) rest) →
+            CanDonate self.old.core self.old.client due → ⊥) }
     {
         match steps.get(place) {
             Some(step) => self.goes_on(run, step),
@@ -322,6 +390,7 @@ impl<R: Router + Drop> SessionClient<R> {
         requires none { run.old.trial.refused ≡ None }
         ensures same { self.new.client ≡ self.old.client }
         ensures entries { self.new.core.entries ≡ self.old.core.entries }
+        ensures whole { whole_at self.new.core self.new.client ≡ whole_at self.old.core self.old.client }
         ensures on { IfOk result (λ goes_on. goes_on ≡ true → run.new.trial.refused ≡ None) }
         ensures left { IfOk result (λ goes_on. goes_on ≡ true → (sent rest : List Sent)
             (session : Session) (donation : Amounts) →
@@ -336,7 +405,28 @@ impl<R: Router + Drop> SessionClient<R> {
             session donation →
             HasEnded self.new.core self.new.client sent session donation
             (is_some run.new.trial.refused) run.new.heard.meter) }
+        ensures short { IfOk result (λ goes_on. goes_on ≡ true → (session : Session)
+            (donation : Amounts) (rest : FirstShort) (first : Option RefusedLine) →
+            IsShortBy self.old.core self.old.client run.old.heard session donation
+            (short_call step.now.number step.now.is_left_out (call_said step.now.line.items)
+            rest) first →
+            IsShortBy self.new.core self.new.client run.new.heard session donation rest first) }
+        ensures refused { IfOk result (λ goes_on. goes_on ≡ false → (session : Session)
+            (donation : Amounts) (rest : FirstShort) (first : Option RefusedLine) →
+            IsShortBy self.old.core self.old.client run.old.heard session donation
+            (short_call step.now.number step.now.is_left_out (call_said step.now.line.items)
+            rest) first →
+            run.new.trial.refused ≡ first) }
+        ensures due { OnOk result ((due : Amounts) (rest : List Sent) →
+            HasDue self.old.core self.old.client due
+            (sends step.now.is_left_out (call_said step.now.line.items) rest) →
+            HasDue self.new.core self.new.client due rest) }
         ensures fault { IfErr result (λ fault. fault ≢ NoMemory → fault ≡ BadConfig Start) }
+        ensures lacks { IfErr result (λ fault. fault ≢ NoMemory →
+            (due : Amounts) (rest : List Sent) →
+            HasDue self.old.core self.old.client due
+            (sends step.now.is_left_out (call_said step.now.line.items) rest) →
+            CanDonate self.old.core self.old.client due → ⊥) }
     {
         let Some(call) = step.said() else {
             return Ok(true);
@@ -361,6 +451,7 @@ impl<R: Router + Drop> SessionClient<R> {
         requires none { run.old.trial.refused ≡ None }
         ensures same { self.new.client ≡ self.old.client }
         ensures entries { self.new.core.entries ≡ self.old.core.entries }
+        ensures whole { whole_at self.new.core self.new.client ≡ whole_at self.old.core self.old.client }
         ensures on { IfOk result (λ goes_on. goes_on ≡ true → run.new.trial.refused ≡ None) }
         ensures left { IfOk result (λ goes_on. goes_on ≡ true → (sent rest : List Sent)
             (session : Session) (donation : Amounts) (selector : ℕ) →
@@ -375,7 +466,28 @@ impl<R: Router + Drop> SessionClient<R> {
             session donation →
             HasEnded self.new.core self.new.client sent session donation
             (is_some run.new.trial.refused) run.new.heard.meter) }
+        ensures short { IfOk result (λ goes_on. goes_on ≡ true → (session : Session)
+            (donation : Amounts) (rest : FirstShort) (first : Option RefusedLine) (selector : ℕ) →
+            IsShortBy self.old.core self.old.client run.old.heard session donation
+            (short_call step.now.number step.now.is_left_out
+            (Some (CallSession selector request.now)) rest) first →
+            IsShortBy self.new.core self.new.client run.new.heard session donation rest first) }
+        ensures refused { IfOk result (λ goes_on. goes_on ≡ false → (session : Session)
+            (donation : Amounts) (rest : FirstShort) (first : Option RefusedLine) (selector : ℕ) →
+            IsShortBy self.old.core self.old.client run.old.heard session donation
+            (short_call step.now.number step.now.is_left_out
+            (Some (CallSession selector request.now)) rest) first →
+            run.new.trial.refused ≡ first) }
+        ensures due { OnOk result ((due : Amounts) (rest : List Sent) (selector : ℕ) →
+            HasDue self.old.core self.old.client due
+            (sends step.now.is_left_out (Some (CallSession selector request.now)) rest) →
+            HasDue self.new.core self.new.client due rest) }
         ensures fault { IfErr result (λ fault. fault ≢ NoMemory → fault ≡ BadConfig Start) }
+        ensures lacks { IfErr result (λ fault. fault ≢ NoMemory →
+            (due : Amounts) (rest : List Sent) (selector : ℕ) →
+            HasDue self.old.core self.old.client due
+            (sends step.now.is_left_out (Some (CallSession selector request.now)) rest) →
+            CanDonate self.old.core self.old.client due → ⊥) }
     {
         if step.is_left_out {
             run.leave_out(step, self.account(), request)?;
@@ -386,10 +498,10 @@ impl<R: Router + Drop> SessionClient<R> {
             request,
         });
         let Some(after) = self.account() else {
-            return Err(UNLIKE);
+            return Err(NO_ROOM);
         };
         if run.heard.follow(request, self.reply.answer(), after)? {
-            run.trial.refused = Some(refused_at(step.number, self.reply.outcome()));
+            run.trial.refused = Some(refused_at(step.number, self.reply.answer()));
             return Ok(false);
         }
         run.trial.keep_reply(self.reply.answer())?;
@@ -405,13 +517,28 @@ impl<R: Router + Drop> SessionClient<R> {
     ) -> Result<(), BootFault>
         ensures same { self.new.client ≡ self.old.client }
         ensures entries { self.new.core.entries ≡ self.old.core.entries }
+        ensures whole { whole_at self.new.core self.new.client ≡ whole_at self.old.core self.old.client }
         ensures refused { run.new.trial.refused ≡ run.old.trial.refused }
         ensures left { OnOk result ((sent rest : List Sent) (session : Session)
             (donation : Amounts) (selector : ℕ) →
             HasLeft self.old.core self.old.client run.old.heard sent
             (sends is_left_out (Some (Upgrade selector args.now)) rest) session donation →
             HasLeft self.new.core self.new.client run.new.heard sent rest session donation) }
+        ensures short { OnOk result ((session : Session) (donation : Amounts) (rest : FirstShort)
+            (first : Option RefusedLine) (line selector : ℕ) →
+            IsShortBy self.old.core self.old.client run.old.heard session donation
+            (short_call line is_left_out (Some (Upgrade selector args.now)) rest) first →
+            IsShortBy self.new.core self.new.client run.new.heard session donation rest first) }
+        ensures due { OnOk result ((due : Amounts) (rest : List Sent) (selector : ℕ) →
+            HasDue self.old.core self.old.client due
+            (sends is_left_out (Some (Upgrade selector args.now)) rest) →
+            HasDue self.new.core self.new.client due rest) }
         ensures fault { IfErr result (λ fault. fault ≢ NoMemory → fault ≡ BadConfig Start) }
+        ensures lacks { IfErr result (λ fault. fault ≢ NoMemory →
+            (due : Amounts) (rest : List Sent) (selector : ℕ) →
+            HasDue self.old.core self.old.client due
+            (sends is_left_out (Some (Upgrade selector args.now)) rest) →
+            CanDonate self.old.core self.old.client due → ⊥) }
     {
         if is_left_out {
             return Ok(());
@@ -424,10 +551,10 @@ impl<R: Router + Drop> SessionClient<R> {
             args,
         });
         if !is_done(self.reply.answer()) {
-            return Err(UNLIKE);
+            return Err(NO_ROOM);
         }
         let Some(account) = self.account() else {
-            return Err(UNLIKE);
+            return Err(NO_ROOM);
         };
         run.heard.raise(account);
         run.trial.keep_reply(self.reply.answer())?;
@@ -466,8 +593,11 @@ pub(crate) fn is_done(answer: Answer<'_>) -> bool
 }
 
 // Returns the refusal of a request for which the session's account is short of quota.
-fn refused_at(line: u64, outcome: Outcome) -> RefusedLine {
-    let shortage = match outcome {
+fn refused_at(line: u64, answer: Answer<'_>) -> RefusedLine
+    ensures line { result.line ≡ line }
+    ensures shortage { result.shortage ≡ session_shortage answer.entry.text.now }
+{
+    let shortage = match answer.outcome {
         Outcome::Served(ServiceOutcome::Refused(FileError::OutOfRam)) => Shortage::SessionRam,
         _ => Shortage::SessionCaps,
     };

@@ -1,5 +1,5 @@
 -- By the stretches of runs that end with their first want.
-use Rattle.std.proofs.Common.{rules, ap, refl, ◌∙◌}
+use Rattle.std.proofs.Common.{rules, ap, refl, ◌∙◌, arith}
 use Rattle.std.specs.Prelude.{slice_get}
 use Rattle.budget_meter.proofs.ReachedLemmas.{runs_exact}
 use Rattle.budget_meter.specs.Needs.{amounts_of}
@@ -7,6 +7,7 @@ use Rattle.budget_meter.specs.SessionRuns.{opened_needs, opened_in_want}
 use Rattle.budget_search.proofs.FaultLemmas.{passed_on}
 use Rattle.budget_search.proofs.SafeLemmas.{has_least, has_safe}
 use Rattle.budget_search.specs.OpenedSessions.{opened_with, sent_at, suffices_of, IsReadyFor}
+use Rattle.budget_search.specs.ShortRequests.{short_session}
 use Rattle.budget_search.proofs.session_intervals.session_rows.Goals as goal
 
 pub returns-clause-exact : goal.returns-clause-exact
@@ -30,8 +31,13 @@ returns-clause-safe g c = λ session ready opens.
     (c.in_ok-found.ensures.ordered (opened_needs sent session) (opened_in_want sent session) (record { ready = ready; session = session; opens = opens; needs = refl; want = refl }))
     (returns-clause-exact g c session ready opens)
 
+pub returns-clause-shortfalls : goal.returns-clause-shortfalls
+returns-clause-shortfalls g c = λ session ready opens.
+    c.in_ok-found.ensures.shortfalls (short_session c.args.reached.steps.now c.args.reached.opened.now.step c.args.reached.opened.now.steps.items session)
+    (ready, (session, (opens, refl)))
+
 pub returns-clause-ready : goal.returns-clause-ready
-returns-clause-ready g c = λ entry session before opens.
+returns-clause-ready g c = λ entry whole session before opens.
     let sent = sent_at c.args.reached.steps.now c.args.reached.opened.now.steps.items in
     let runs =
     c.in_ok-found.ensures.still (opened_needs sent session) (opened_in_want sent session)
@@ -42,7 +48,8 @@ returns-clause-ready g c = λ entry session before opens.
       needs = refl;
       want = refl;
     }) in
-    let there : IsReadyFor entry c.of.new.trials.client.now.core c.of.new.trials.client.now.client = record { ready = runs.ready; same = ap (λ r. r.0) c.in_ok-found.ensures.rest ∙ before.same } in
+    let there : IsReadyFor entry whole c.of.new.trials.client.now.core c.of.new.trials.client.now.client =
+    record { ready = runs.ready; same = ap (λ r. r.0.0) c.in_ok-found.ensures.rest ∙ before.same; whole_is = ap (λ r. r.0.1) c.in_ok-found.ensures.rest ∙ before.whole_is } in
     search (rules, there, c.drop-trials-2.ensures)
 
 pub returns-in_err-found-clause-fault : goal.returns-in_err-found-clause-fault
@@ -51,4 +58,14 @@ returns-in_err-found-clause-fault g c =
     passed_on _ _ c.from_residual.result c.from_residual.ensures.1
     (λ other session ready opens.
     (c.in_err-found.ensures.fault other (opened_needs sent session) (opened_in_want sent session)
-    (record { ready = ready; session = session; opens = opens; needs = refl; want = refl })).its)
+    (record { ready = ready; session = session; opens = opens; needs = refl; want = refl })).its.fault_is)
+
+pub returns-in_err-found-clause-lacks : goal.returns-in_err-found-clause-lacks
+returns-in_err-found-clause-lacks g c =
+    let sent = sent_at c.args.reached.steps.now c.args.reached.opened.now.steps.items in
+    passed_on _ _ c.from_residual.result c.from_residual.ensures.1
+    (λ other few session ready opens can.
+    let fails =
+    c.in_err-found.ensures.fault other (opened_needs sent session) (opened_in_want sent session)
+    (record { ready = ready; session = session; opens = opens; needs = refl; want = refl }) in
+    fails.its.lacks few (record { ram_fits = omega (arith, can.ram_fits, fails.within); caps_fit = can.caps_fit }))

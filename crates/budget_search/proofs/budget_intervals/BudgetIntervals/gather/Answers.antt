@@ -4,8 +4,10 @@ use Rattle.std.specs.Prelude.{IfSome}
 use Rattle.own_model.specs.Amounts.{Amounts}
 use Rattle.budget_theorems.specs.Need.{Need}
 use Rattle.budget_theorems.specs.Intervals.{is_covered, stretches}
-use Rattle.budget_search.specs.BudgetIntervals.{serves, AreOrdered, AreRows, BeginFrom, Follows}
+use Rattle.budget_search.specs.BudgetIntervals.{serves, AreOrdered, AreRows, BeginFrom, Follows, HasHighest}
+use Rattle.budget_search.specs.BudgetIntervals.HasHighest.{is_known, to_come}
 use Rattle.budget_search.specs.declared.budget_intervals.BudgetInterval.{BudgetInterval}
+use Rattle.budget_search.specs.declared.trial.RefusedLine.{RefusedLine}
 use Rattle.budget_search.proofs.FaultLemmas.{passed_on}
 use Rattle.budget_search.proofs.RowLemmas.{none_left}
 use Rattle.budget_search.proofs.budget_intervals.BudgetIntervals.gather.Goals as goal
@@ -23,6 +25,13 @@ order_kept here caps ram top old new next told same is made =
     subst (λ k. AreOrdered k top (reverse old) → BeginFrom (suc ram) (reverse old) → AreOrdered k top (reverse new) × IfSome told (λ n. BeginFrom (suc n) (reverse new))) same
     (subst (λ o. AreOrdered here top (reverse old) → BeginFrom (suc ram) (reverse old) → AreOrdered here top (reverse new) × IfSome o (λ n. BeginFrom (suc n) (reverse new))) is made)
 
+-- and of the line with the highest RAM
+known_by : (top here caps : ℕ) (short : Amounts → Option RefusedLine) (old new : Option RefusedLine) {ram : ℕ} → here ≡ caps →
+    (HasHighest ram top (short (record { ram = top; caps = here })) old → new ≡ short (record { ram = top; caps = here })) →
+    HasHighest ram top (short (record { ram = top; caps = caps })) old → new ≡ short (record { ram = top; caps = caps })
+known_by top here caps short old new {ram} same made =
+    subst (λ k. HasHighest ram top (short (record { ram = top; caps = k })) old → new ≡ short (record { ram = top; caps = k })) same made
+
 pub loop-made-init : goal.loop-made-init
 loop-made-init g c = record {
   caps = refl;
@@ -39,6 +48,9 @@ loop-made-init g c = record {
       let exact : left ≡ suc c.args.top = omega (arith, same) in
       ap (λ rows. serves rows budget || is_covered (stretches each want caps left c.args.top) budget) c.requires.none
       ∙ ap (λ n. is_covered (stretches each want caps n c.args.top) budget) exact;
+  short = λ short shorts. shorts;
+  highest = λ short shorts. to_come refl c.requires.first;
+  holes = refl;
 }
 
 pub returns-in-None-clause-exact : goal.returns-in-None-clause-exact
@@ -80,6 +92,9 @@ loop-made-preserved g c =
       rows = λ each want runs. (follows each want runs).rows;
       all = λ each want runs budget up left same.
           (follows each want runs).covers budget up left ∙ inv.all each want runs budget up (suc left) (omega (arith, same));
+      short = λ short shorts. c.in_ok-next.ensures.short_still short (inv.short short shorts);
+      highest = λ short shorts. is_known (known_by c.args.top _ _ short _ _ inv.caps (c.in_ok-next.ensures.refused short (inv.short short shorts)) (inv.highest short shorts));
+      holes = c.take_run.ensures.holes ∙ inv.holes;
     }
 
 pub returns-clause-exact : goal.returns-clause-exact
@@ -137,3 +152,19 @@ returns-in_err-_next-clause-fault g c =
 
 pub returns-clause-same : goal.returns-clause-same
 returns-clause-same g c = λ ram fault fails. c.loop-made.invariant.same ram fault (c.in_ok-_next.ensures.same ram fault fails)
+
+pub returns-in-None-clause-refused : goal.returns-in-None-clause-refused
+returns-in-None-clause-refused g c = λ short shorts.
+    let inv = c.loop-made.invariant in
+    known_by c.args.top _ _ short _ _ inv.caps (c.in_ok-next.ensures.refused short (inv.short short shorts)) (inv.highest short shorts)
+
+pub returns-clause-refused : goal.returns-clause-refused
+returns-clause-refused g c = λ short shorts.
+    let inv = c.loop-made.invariant in
+    known_by c.args.top _ _ short _ _ inv.caps (c.in_ok-_next.ensures.refused short (inv.short short shorts)) (inv.highest short shorts)
+
+pub returns-in-None-clause-short_still : goal.returns-in-None-clause-short_still
+returns-in-None-clause-short_still g c = λ short shorts. c.in_ok-next.ensures.short_still short (c.loop-made.invariant.short short shorts)
+
+pub returns-clause-short_still : goal.returns-clause-short_still
+returns-clause-short_still g c = λ short shorts. c.in_ok-_next.ensures.short_still short (c.loop-made.invariant.short short shorts)

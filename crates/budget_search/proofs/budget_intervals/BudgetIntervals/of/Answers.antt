@@ -1,8 +1,8 @@
 -- The other way round the rows cover the same.
 use Rattle.std.specs.List.{AllByRecursion}
-use Rattle.std.proofs.Common.{◌≤◌, drop, length, reverse, sym, ap, subst, ◌∙◌}
+use Rattle.std.proofs.Common.{◌≤◌, None, drop, length, reverse, sym, ap, subst, ◌∙◌}
 use Rattle.std.proofs.lemmas.List.Sorted.{list_any-IsPermutation}
-use Rattle.budget_search.specs.BudgetIntervals.{covers, serves, AreOrdered}
+use Rattle.budget_search.specs.BudgetIntervals.{covers, gaps_after, serves, AreOrdered}
 use Rattle.budget_search.proofs.FaultLemmas.{passed_on, rows_below}
 use Rattle.budget_search.proofs.RowLemmas.{front}
 use Rattle.budget_search.proofs.budget_intervals.BudgetIntervals.of.Goals as goal
@@ -43,3 +43,15 @@ returns-in_err-fill_holes-clause-fault g c =
     (rows_below (g.T.BudgetTrials.caps c.args.trials.now) c.args.top (reverse c.gather.new.self.rows.items) ordered.within)) each want
     (c.in_ok-gather.ensures.still each want runs) in
     record { ram = fails.ram; within = fails.within; its = c.in_ok-gather.ensures.same fails.ram _ fails.its })
+
+pub returns-clause-short_still : goal.returns-clause-short_still
+returns-clause-short_still g c = λ short shorts. c.in_ok-fill_holes.ensures.short_still short (c.in_ok-gather.ensures.short_still short shorts)
+
+pub returns-clause-shortfalls : goal.returns-clause-shortfalls
+returns-clause-shortfalls g c = λ short shorts. record {
+  highest = c.fill_holes.ensures.refused ∙ c.in_ok-gather.ensures.refused short shorts;
+  gaps =
+      c.in_ok-fill_holes.ensures.gaps short (c.in_ok-gather.ensures.short_still short shorts)
+      ∙ ap (λ rows. gaps_after short (g.T.BudgetTrials.caps c.gather.new.trials) None rows.items) (sym c.fill_holes.ensures.rows)
+      ∙ ap (λ caps. gaps_after short caps None c.fill_holes.new.self.rows.items) c.gather.ensures.caps;
+}

@@ -2,6 +2,7 @@
 use Rattle.std.proofs.Common.{◌≡◌, false, reverse, refl, sym, ap, subst, ◌∙◌}
 use Rattle.std.specs.Prelude.{is_some}
 use Rattle.budget_search.specs.declared.budget_intervals.BudgetInterval.{BudgetInterval}
+use Rattle.budget_search.proofs.GapLemmas.{highest_before, highest_kept}
 use Rattle.budget_search.proofs.OrderLemmas.{granted_order, refused_order}
 use Rattle.budget_search.proofs.RowLemmas.{adds_run}
 use Rattle.std.specs.Option.{option_copied}
@@ -46,3 +47,13 @@ pub returns-clause-likeness : goal.returns-clause-likeness
 returns-clause-likeness c = λ granted.
     subst (λ told. IsAdded told c.args.self.now.rows.items c.add.new.self.rows.items)
     (c.compare_replies.ensures ∙ ap (λ replies. likeness_of replies (option_copied c.args.given)) c.as_slice.ensures.value) c.in_ok-add.ensures.likeness
+
+pub returns-then-is_some-clause-refused : goal.returns-then-is_some-clause-refused
+returns-then-is_some-clause-refused c = λ told is highest. elim c.if-ram-top.branch [
+  | then-ram-top w ↦ ap (λ (s : BudgetIntervals). s.refused) w.self-is ∙ is w.if-ram-top.true
+  | else-ram-top w ↦ ap (λ (s : BudgetIntervals). s.refused) w.self-is ∙ highest_before c.args.ram c.args.top told c.args.self.now.refused w.if-ram-top.false highest
+]
+
+pub returns-clause-refused : goal.returns-clause-refused
+returns-clause-refused c = λ told is highest.
+    c.add.ensures.refused ∙ highest_kept c.args.ram c.args.top told c.args.self.now.refused c.args.trial.refused (sym c.is_some.ensures ∙ c.if-is_some.false) is highest

@@ -3,9 +3,11 @@ use Rattle.std.proofs.Common.{◌+◌, ◌<◌, length, drop, sym, ◌∙◌, su
 use Rattle.std.specs.Prelude.{is_some}
 use Rattle.own_model.specs.Transcript.{entry_at}
 use Rattle.budget_meter.specs.Run.{Shows}
-use Rattle.budget_search.specs.Run.{HasLeft}
+use Rattle.budget_search.specs.Run.{HasFirstShort, HasLeft}
+use Rattle.budget_search.specs.ShortLines.{short_line}
 use Rattle.budget_search.specs.Steps.{calls_of}
 use Rattle.budget_search.proofs.RunLemmas.{next_calls, all_done, no_calls}
+use Rattle.budget_search.proofs.ShortLineLemmas.{last_first, next_first}
 use Rattle.budget_search.proofs.own_run.OwnRun.go_through.Goals as goal
 
 pub returns-then-not-branch-clause-shows : goal.returns-then-not-branch-clause-shows
@@ -37,6 +39,12 @@ loop-step-preserved g c =
           c.in_ok-goes_on.ensures.left c.if-not-branch.false calls (calls_of (drop (i + 1) steps)) budget s
           (subst (λ each. HasLeft now.core.now now.component now.heard calls each budget s) (next_calls steps i item c.loop-step-test.true c.step-item.is)
           (kept.left calls budget s before));
+      first = λ first before.
+          let entry = entry_at now.core.now.entries now.component in
+          subst (λ e. HasFirstShort new.core.now new.component new.heard (short_line e (drop (i + 1) steps)) first)
+          (sym (λ k. entry_at (c.goes_on.ensures.entries k) (c.goes_on.ensures.same k)))
+          (c.in_ok-goes_on.ensures.later c.if-not-branch.false (short_line entry (drop (i + 1) steps)) first
+          (next_first now.core.now now.component now.heard entry steps i first item c.loop-step-test.true c.step-item.is (kept.first first before)));
     }
 
 pub returns-clause-shows : goal.returns-clause-shows
@@ -47,3 +55,21 @@ returns-clause-shows g c = λ calls budget s left.
     (all_done now.core.now now.component now.heard calls budget s now.trial.refused kept.none
     (subst (λ each. HasLeft now.core.now now.component now.heard calls each budget s)
     (no_calls c.args.steps.now c.loop-step.step-index c.loop-step-test.false) (kept.left calls budget s left)))
+
+pub returns-then-not-branch-clause-short : goal.returns-then-not-branch-clause-short
+returns-then-not-branch-clause-short g c = λ first before.
+    let now = c.loop-step.self in
+    let steps = c.args.steps.now in
+    let i = c.loop-step.step-index in
+    let entry = entry_at now.core.now.entries now.component in
+    c.in_ok-goes_on.ensures.short c.if-not-branch.true (short_line entry (drop (i + 1) steps)) first
+    (next_first now.core.now now.component now.heard entry steps i first c.step-item.result c.loop-step-test.true c.step-item.is
+    (c.loop-step.invariant.first first before))
+
+pub returns-clause-short : goal.returns-clause-short
+returns-clause-short g c = λ first before.
+    let now = c.loop-step.self in
+    let kept = c.loop-step.invariant in
+    kept.none
+    ∙ last_first now.core.now now.component now.heard (entry_at now.core.now.entries now.component) c.args.steps.now c.loop-step.step-index first c.loop-step-test.false
+    (kept.first first before)

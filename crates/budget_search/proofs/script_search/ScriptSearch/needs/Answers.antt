@@ -5,7 +5,7 @@ use Rattle.std.specs.List.{AllByRecursion}
 use Rattle.budget_search.specs.ReachedSessions.{reached_of}
 use Rattle.budget_search.specs.SessionAccounts.{AreCounted, HasLine}
 use Rattle.budget_search.specs.declared.account_budgets.AccountBudgets.{AccountBudgets}
-use Rattle.budget_search.proofs.FaultLemmas.{passed_on, unlike_at}
+use Rattle.budget_search.proofs.FaultLemmas.{passed_on, no_room_at}
 use Rattle.budget_search.proofs.ItemLemmas.{next_item, no_item}
 use Rattle.budget_search.proofs.script_search.ScriptSearch.needs.Goals as goal
 
@@ -44,6 +44,8 @@ returns-clause-accounts g c = λ before.
 pub returns-in_err-add_session-clause-fault : goal.returns-in_err-add_session-clause-fault
 returns-in_err-add_session-clause-fault g c =
     passed_on _ _ c.from_residual.result c.from_residual.ensures.1
-    (λ other before.
-    unlike_at c.args.sessions.now c.loop-opened.opened-index c.opened-item.result _ c.loop-opened-test.true c.opened-item.is
-    (c.in_err-add_session.ensures.fault other (c.loop-opened.invariant.ready before)))
+    (λ other before of_lines.
+    no_room_at c.args.self.now.list.now c.args.self.now.component c.args.steps.now c.args.sessions.now c.loop-opened.opened-index c.opened-item.result c.loop-opened-test.true
+    c.opened-item.is _
+    (c.in_err-add_session.ensures.fault other (c.loop-opened.invariant.ready before)) of_lines
+    (c.in_err-add_session.ensures.lacks other (c.loop-opened.invariant.ready before)))

@@ -1,15 +1,16 @@
 -- The run from the donation, and the runs from all others.
-use Rattle.std.proofs.Common.{arith, ◌≡◌, ℕ, Some, refl, sym, ap, subst, ◌∙◌}
+use Rattle.std.proofs.Common.{arith, ◌≡◌, ℕ, Some, refl, sym, ap, subst, ◌∙◌, ◌<◌, ◌^◌}
 use Rattle.std.specs.Prelude.{slice_get}
 use Rattle.own_model.specs.Amounts.{Amounts}
 use Rattle.own_model.specs.Transcript.{entry_at}
-use Rattle.budget_search.specs.Alike.{own_entry}
-use Rattle.budget_search.specs.BudgetIntervals.{lowest_of, safe_of}
+use Rattle.budget_search.specs.Alike.{own_entry, most_in}
+use Rattle.budget_search.specs.BudgetIntervals.{lowest_of, safe_of, HasShortfalls}
 use Rattle.budget_search.specs.OpenedSessions.{opened_with, sent_at, suffices_of, AreExactOf}
 use Rattle.budget_search.specs.ReachedSessions.{reached_of}
 use Rattle.budget_search.specs.SessionAccounts.{most_for}
+use Rattle.budget_search.specs.ShortRequests.{short_session}
 use Rattle.budget_search.specs.Sufficient.{HasLeast, HasSafe}
-use Rattle.budget_search.proofs.FaultLemmas.{passed_on}
+use Rattle.budget_search.proofs.FaultLemmas.{passed_on, lacks_donation, lacks_most}
 use Rattle.budget_search.proofs.SessionLemmas.{some_is}
 use Rattle.budget_search.proofs.script_search.ScriptSearch.session.Goals as goal
 
@@ -42,9 +43,13 @@ returns-clause-account g c = λ before.
       session = session;
       opens = sym (ap (λ entry. opened_with entry opening) before.same) ∙ some.1;
       refused = (c.in_ok-given.ensures.run session before.ready some.1).want;
+      line = c.in_ok-given.ensures.short session before.ready some.1;
       exact = subst (λ (most : Amounts). AreExactOf sent session most.caps most.ram rows) most (c.in_ok-found.ensures.exact session ready again);
       least = subst (λ most. HasLeast (suffices_of sent session) most (lowest_of rows)) most (c.in_ok-found.ensures.least session ready again);
       safe = subst (λ most. HasSafe (suffices_of sent session) most (safe_of rows)) most (c.in_ok-found.ensures.safe session ready again);
+      shortfalls =
+          subst (λ most. HasShortfalls (short_session c.args.steps.now one.opening one.places session) most c.in_ok-found.found) most
+          (c.in_ok-found.ensures.shortfalls session ready again);
     }
 
 pub returns-clause-ready : goal.returns-clause-ready
@@ -52,10 +57,11 @@ returns-clause-ready g c = λ before.
     let opening = slice_get c.args.steps.now c.args.opened.now.step in
     let entry = own_entry c.args.self.now.list.now c.args.self.now.component in
     let some = some_is (opened_with (entry_at c.args.client.now.core.entries c.args.client.now.client) opening) (c.in_ok-given.ensures.opened before.ready) in
-    c.in_ok-found.ensures.ready entry some.0
+    c.in_ok-found.ensures.ready entry (most_in c.args.self.now.list.now c.args.self.now.component) some.0
     (record {
       ready = c.in_ok-given.ensures.ready some.0 before.ready some.1;
       same = (λ i. entry_at (c.trial.ensures.entries i) (c.trial.ensures.same i)) ∙ before.same;
+      whole_is = c.trial.ensures.whole ∙ before.whole_is;
     })
     (sym (ap (λ e. opened_with e opening) before.same) ∙ some.1)
 
@@ -67,3 +73,34 @@ returns-in_err-found-clause-fault g c =
     let some = some_is (opened_with (entry_at c.args.client.now.core.entries c.args.client.now.client) opening) (c.in_ok-given.ensures.opened before.ready) in
     c.in_err-found.ensures.fault other some.0 (c.in_ok-given.ensures.ready some.0 before.ready some.1)
     ((λ i. opened_with (entry_at (c.trial.ensures.entries i) (c.trial.ensures.same i)) opening) ∙ some.1))
+
+pub returns-in_err-given-clause-lacks : goal.returns-in_err-given-clause-lacks
+returns-in_err-given-clause-lacks g c =
+    let list = c.args.self.now.list.now in
+    let component = c.args.self.now.component in
+    let one = reached_of c.args.opened.now in
+    let opening = slice_get c.args.steps.now one.opening in
+    passed_on _ _ c.from_residual.result c.from_residual.ensures.1
+    (λ other before of_lines.
+    let some = some_is (opened_with (own_entry list component) opening) of_lines.routed in
+    lacks_donation list component c.args.steps.now one c.args.client.now.core c.args.client.now.client before.whole_is of_lines.raised
+    (λ few. c.in_err-given.ensures.lacks other few some.0 before.ready (ap (λ entry. opened_with entry opening) before.same ∙ some.1)))
+
+pub returns-in_err-found-clause-lacks : goal.returns-in_err-found-clause-lacks
+returns-in_err-found-clause-lacks g c =
+    let list = c.args.self.now.list.now in
+    let component = c.args.self.now.component in
+    let one = reached_of c.args.opened.now in
+    let opening = slice_get c.args.steps.now one.opening in
+    let ram : c.saturating_sub.result ≡ (most_for list component one).ram =
+    omega (arith, c.saturating_sub.ensures, c.most_beside-most.ensures.ram, ap (λ (reserve : Amounts). reserve.ram) c.reserve_of.ensures) in
+    let caps : c.saturating_sub-2.result ≡ (most_for list component one).caps =
+    omega (arith, c.saturating_sub-2.ensures, c.most_beside-most.ensures.caps, ap (λ (reserve : Amounts). reserve.caps) c.reserve_of.ensures) in
+    let few : c.saturating_sub-2.result < 2 ^ 32 = omega (arith, c.saturating_sub-2.ensures, c.most_beside-most.ensures.caps) in
+    passed_on _ _ c.from_residual-in_err-found.result c.from_residual-in_err-found.ensures.1
+    (λ other before of_lines.
+    let some = some_is (opened_with (entry_at c.args.client.now.core.entries c.args.client.now.client) opening) (c.in_ok-given.ensures.opened before.ready) in
+    lacks_most list component c.args.steps.now one c.trial.new.client.core c.trial.new.client.client (c.trial.ensures.whole ∙ before.whole_is) of_lines.raised
+    (λ can. c.in_err-found.ensures.lacks other few some.0 (c.in_ok-given.ensures.ready some.0 before.ready some.1)
+    ((λ i. opened_with (entry_at (c.trial.ensures.entries i) (c.trial.ensures.same i)) opening) ∙ some.1)
+    (record { ram_fits = omega (arith, can.ram_fits, ram); caps_fit = omega (arith, can.caps_fit, caps) })))

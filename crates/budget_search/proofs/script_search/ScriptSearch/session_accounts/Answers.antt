@@ -1,12 +1,15 @@
 -- On a machine on which every account is ample.
 use Rattle.std.proofs.lemmas.Result.{IfErr-weaker}
-use Rattle.std.proofs.Common.{◌≡◌, [], refl, subst}
+use Rattle.std.proofs.Common.{rules, ◌≡◌, [], refl, sym, subst}
 use Rattle.std.specs.Prelude.{◌⊎◌, map, Some}
+use Rattle.std.specs.List.{AllByRecursion}
 use Rattle.list_parser.specs.Quota.{quota_fault}
-use Rattle.budget_search.specs.NoBudgets.{HasUnlike}
+use Rattle.budget_search.specs.Alike.{most_in, own_entry}
+use Rattle.budget_search.specs.NoBudgets.{HasNoRoom}
 use Rattle.budget_search.proofs.FaultLemmas.{ample_lacks, ample_large, passed_on}
-use Rattle.budget_search.specs.ReachedSessions.{reached_of, sessions_of}
+use Rattle.budget_search.specs.ReachedSessions.{reached_of, sessions_of, IsOfLines}
 use Rattle.budget_search.specs.SessionAccounts.{AreCounted}
+use Rattle.budget_search.proofs.RoutedLemmas.{all_of_lines}
 use Rattle.budget_search.proofs.SessionLemmas.{each_ok}
 use Rattle.budget_search.proofs.script_search.ScriptSearch.session_accounts.Goals as goal
 
@@ -44,5 +47,9 @@ returns-clause-fault c =
     (λ fault lacks other script.
     ample_lacks list component c.in_ok-ample.ample c.args.steps.now (sessions_of c.in_ok-opened.opened) fault script c.in_ok-ample.ensures.funded
     c.in_ok-ample.ensures.boots c.in_ok-opened.ensures.reached
-    (subst (λ sessions. (quota_fault c.in_ok-ample.ample ≡ Some fault) ⊎ HasUnlike (map reached_of sessions) fault) c.as_slice.ensures.value (lacks other script c.in_ok-ample.ensures.funded)))
+    (subst (λ sessions. (quota_fault c.in_ok-ample.ample ≡ Some fault) ⊎ HasNoRoom list component (map reached_of sessions) fault) c.as_slice.ensures.value
+    (lacks other script c.in_ok-ample.ensures.funded
+    (subst (λ sessions. AllByRecursion (IsOfLines (own_entry list component) c.args.steps.now) (map reached_of sessions)) (sym c.as_slice.ensures.value)
+    (all_of_lines c.in_ok-ample.ample list component (most_in list component) (search rules) c.in_ok-ample.ensures.funded c.args.steps.now (sessions_of c.in_ok-opened.opened)
+    c.in_ok-opened.ensures.reached)))))
     c.opened_accounts.ensures.fault

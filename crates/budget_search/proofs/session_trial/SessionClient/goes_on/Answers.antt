@@ -3,9 +3,12 @@ use Rattle.std.proofs.lemmas.Bool.Decides.{nat_tests}
 use Rattle.std.proofs.Common.{arith, ◌≡◌, sym, ap, ◌∙◌, subst}
 use Rattle.std.specs.Prelude.{Some}
 use Rattle.core_calls.specs.Call.{model_call}
-use Rattle.budget_search.specs.OpenedSessions.{HasLeft, sends}
-use Rattle.budget_search.proofs.SessionLemmas.{each_ok}
+use Rattle.budget_search.specs.OpenedSessions.{HasLeft, sends, HasDue}
+use Rattle.budget_search.specs.ShortRequests.{IsShortBy, short_call}
+use Rattle.budget_search.proofs.SessionLemmas.{each_ok, each_on}
 use Rattle.budget_search.proofs.session_trial.SessionClient.goes_on.Goals as goal
+use Rattle.std.proofs.lemmas.Result.{IfErr-weaker}
+use Rattle.budget_search.proofs.FaultLemmas.{passed_on}
 
 pub returns-in-CallSession-clause-left : goal.returns-in-CallSession-clause-left
 returns-in-CallSession-clause-left g c =
@@ -37,3 +40,74 @@ returns-in_default-call-clause-left g c = λ _ sent rest session donation before
     let other : sends left (Some (model_call c.in-Some.call)) rest ≡ rest = grind (arith, nat_tests, c.in_default-call.not-Upgrade, c.in_default-call.not-CallSession) in
     subst (λ each. HasLeft c.args.self.now.core c.args.self.now.client c.args.run.now.heard sent each session donation)
     (ap (λ call. sends left call rest) (sym c.in-Some.ensures.call) ∙ other) before
+
+pub returns-in-CallSession-clause-due : goal.returns-in-CallSession-clause-due
+returns-in-CallSession-clause-due g c =
+    each_on c.ask.result
+    (λ follows due rest before.
+    follows due rest c.in-CallSession.selector
+    (subst (λ call. HasDue c.args.self.now.core c.args.self.now.client due (sends c.args.step.now.is_left_out call rest))
+    (sym (ap (λ x. Some (model_call x)) (sym c.in-CallSession.is) ∙ c.in-Some.ensures.call)) before))
+    c.ask.ensures.due
+
+pub returns-in-CallSession-clause-lacks : goal.returns-in-CallSession-clause-lacks
+returns-in-CallSession-clause-lacks g c =
+    IfErr-weaker c.ask.result _ _
+    (λ fault lacks other due rest before.
+    lacks other due rest c.in-CallSession.selector
+    (subst (λ call. HasDue c.args.self.now.core c.args.self.now.client due (sends c.args.step.now.is_left_out call rest))
+    (sym (ap (λ x. Some (model_call x)) (sym c.in-CallSession.is) ∙ c.in-Some.ensures.call)) before))
+    c.ask.ensures.lacks
+
+pub returns-in_ok-raise-in-Upgrade-clause-due : goal.returns-in_ok-raise-in-Upgrade-clause-due
+returns-in_ok-raise-in-Upgrade-clause-due g c = λ due rest before.
+    c.in_ok-raise-in-Upgrade.ensures.due due rest c.in-Upgrade.selector
+    (subst (λ call. HasDue c.args.self.now.core c.args.self.now.client due (sends c.args.step.now.is_left_out call rest))
+    (sym (ap (λ x. Some (model_call x)) (sym c.in-Upgrade.is) ∙ c.in-Some.ensures.call)) before)
+
+pub returns-in_err-raise-in-Upgrade-clause-lacks : goal.returns-in_err-raise-in-Upgrade-clause-lacks
+returns-in_err-raise-in-Upgrade-clause-lacks g c =
+    passed_on _ _ c.from_residual.result c.from_residual.ensures.1
+    (λ other due rest before.
+    c.in_err-raise-in-Upgrade.ensures.lacks other due rest c.in-Upgrade.selector
+    (subst (λ call. HasDue c.args.self.now.core c.args.self.now.client due (sends c.args.step.now.is_left_out call rest))
+    (sym (ap (λ x. Some (model_call x)) (sym c.in-Upgrade.is) ∙ c.in-Some.ensures.call)) before))
+
+pub returns-in_default-call-clause-due : goal.returns-in_default-call-clause-due
+returns-in_default-call-clause-due g c = λ due rest before.
+    let left = c.args.step.now.is_left_out in
+    let other : sends left (Some (model_call c.in-Some.call)) rest ≡ rest = grind (arith, nat_tests, c.in_default-call.not-Upgrade, c.in_default-call.not-CallSession) in
+    subst (λ each. HasDue c.args.self.now.core c.args.self.now.client due each)
+    (ap (λ call. sends left call rest) (sym c.in-Some.ensures.call) ∙ other) before
+
+pub returns-in-CallSession-clause-short : goal.returns-in-CallSession-clause-short
+returns-in-CallSession-clause-short g c =
+    each_ok c.ask.result
+    (λ on follows is session donation rest first before.
+    follows is session donation rest first c.in-CallSession.selector
+    (subst (λ call. IsShortBy c.args.self.now.core c.args.self.now.client c.args.run.now.heard session donation (short_call c.args.step.now.number c.args.step.now.is_left_out call rest) first)
+    (sym (ap (λ x. Some (model_call x)) (sym c.in-CallSession.is) ∙ c.in-Some.ensures.call)) before))
+    c.ask.ensures.short
+
+pub returns-in-CallSession-clause-refused : goal.returns-in-CallSession-clause-refused
+returns-in-CallSession-clause-refused g c =
+    each_ok c.ask.result
+    (λ on follows is session donation rest first before.
+    follows is session donation rest first c.in-CallSession.selector
+    (subst (λ call. IsShortBy c.args.self.now.core c.args.self.now.client c.args.run.now.heard session donation (short_call c.args.step.now.number c.args.step.now.is_left_out call rest) first)
+    (sym (ap (λ x. Some (model_call x)) (sym c.in-CallSession.is) ∙ c.in-Some.ensures.call)) before))
+    c.ask.ensures.refused
+
+pub returns-in_ok-raise-in-Upgrade-clause-short : goal.returns-in_ok-raise-in-Upgrade-clause-short
+returns-in_ok-raise-in-Upgrade-clause-short g c = λ _ session donation rest first before.
+    c.in_ok-raise-in-Upgrade.ensures.short session donation rest first c.args.step.now.number c.in-Upgrade.selector
+    (subst (λ call. IsShortBy c.args.self.now.core c.args.self.now.client c.args.run.now.heard session donation (short_call c.args.step.now.number c.args.step.now.is_left_out call rest) first)
+    (sym (ap (λ x. Some (model_call x)) (sym c.in-Upgrade.is) ∙ c.in-Some.ensures.call)) before)
+
+pub returns-in_default-call-clause-short : goal.returns-in_default-call-clause-short
+returns-in_default-call-clause-short g c = λ _ session donation rest first before.
+    let left = c.args.step.now.is_left_out in
+    let other : short_call c.args.step.now.number left (Some (model_call c.in-Some.call)) rest ≡ rest
+    = grind (arith, nat_tests, c.in_default-call.not-Upgrade, c.in_default-call.not-CallSession) in
+    subst (λ each. IsShortBy c.args.self.now.core c.args.self.now.client c.args.run.now.heard session donation each first)
+    (ap (λ call. short_call c.args.step.now.number left call rest) (sym c.in-Some.ensures.call) ∙ other) before

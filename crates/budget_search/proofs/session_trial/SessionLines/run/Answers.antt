@@ -1,13 +1,16 @@
 -- From the first request on, and then the close.
-use Rattle.std.proofs.Common.{sym, subst}
+use Rattle.std.proofs.Common.{None, sym, ap, ◌∙◌, subst}
 use Rattle.std.specs.Prelude.{is_some}
 use Rattle.std.specs.Option.{option_copied}
 use Rattle.own_model.specs.Amounts.{Amounts}
 use Rattle.own_model.specs.Session.{new_session}
 use Rattle.budget_meter.specs.Sessions.{Shows}
-use Rattle.budget_search.specs.OpenedSessions.{IsReady, sent_at}
+use Rattle.budget_search.specs.OpenedSessions.{IsReady, sent_at, HasDue}
+use Rattle.budget_search.specs.ShortRequests.{short_at}
 use Rattle.budget_search.proofs.SessionLemmas.{begins, closes, kinds_told}
+use Rattle.budget_search.proofs.ShortRequestLemmas.{short_begins}
 use Rattle.budget_search.proofs.session_trial.SessionLines.run.Goals as goal
+use Rattle.budget_search.proofs.FaultLemmas.{passed_on}
 
 pub returns-clause-run : goal.returns-clause-run
 returns-clause-run g c = λ wish enough same has.
@@ -32,3 +35,19 @@ returns-clause-ready g c = λ wish enough same has.
     subst (λ p. IsReady c.step.new.self.core p) (sym c.step.ensures.same)
     (closes c.go_through.new.self.core c.step.new.self.core c.go_through.new.self.client c.step.new.self.reply.text (c.step.ensures.answered entry) (c.step.ensures.stepped entry)
     ended.now ended.buffer ended.has)
+
+pub returns-in_err-go_through-clause-lacks : goal.returns-in_err-go_through-clause-lacks
+returns-in_err-go_through-clause-lacks g c =
+    passed_on _ _ c.from_residual-in_err-go_through.result c.from_residual-in_err-go_through.ensures.1
+    (λ other due before.
+    c.in_err-go_through.ensures.lacks other due
+    (subst (λ places. HasDue c.args.client.now.core c.args.client.now.client due (sent_at c.args.self.steps.now places)) (sym c.as_slice.ensures.value) before))
+
+pub returns-clause-short : goal.returns-clause-short
+returns-clause-short g c = λ wish enough same has.
+    let donation : Amounts = record { ram = wish.ram; caps = wish.caps } in
+    let first = short_at c.args.self.steps.now c.as_slice.result.now None (new_session wish) in
+    c.in_ok-go_through.ensures.short (new_session wish) donation first
+    (short_begins c.args.client.now.core c.args.client.now.client wish c.in_ok-heard.heard (short_at c.args.self.steps.now c.as_slice.result.now) has
+    (c.in_ok-heard.ensures wish (kinds_told c.args.client.now.core c.args.client.now.client (new_session wish) has (option_copied c.kinds.result) c.kinds.ensures) enough same))
+    ∙ ap (λ places. short_at c.args.self.steps.now places None (new_session wish)) c.as_slice.ensures.value
