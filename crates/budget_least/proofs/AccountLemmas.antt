@@ -13,18 +13,19 @@ use Rattle.list_parser.specs.Depth.{is_init, runs_init}
 use Rattle.budget_meter.specs.Needs.{amounts_of}
 use Rattle.budget_search.proofs.AlikeLemmas.{entry_named}
 use Rattle.budget_search.proofs.CountLemmas.{accounts_own}
-use Rattle.budget_search.proofs.SeenLemmas.{Seen, seen, accounts_still}
+use Rattle.budget_search.proofs.SeenLemmas.{Seen, seen, accounts_still, written_still}
 use Rattle.budget_search.specs.AccountNeeds.{need_rows, IsChanged, IsIdle}
-use Rattle.budget_search.specs.Alike.{most_in, own_entry}
-use Rattle.budget_search.specs.BudgetIntervals.{lowest_of, safe_of}
+use Rattle.budget_search.specs.Alike.{given_in, most_in, own_entry}
+use Rattle.budget_search.specs.BudgetIntervals.{gaps_after, lowest_of, safe_of}
 use Rattle.budget_search.specs.Own.{suffices_with, AreExact}
 use Rattle.budget_search.specs.SessionAccounts.{AreSessionAccounts}
+use Rattle.budget_search.specs.ShortLines.{short_line_with}
 use Rattle.budget_search.specs.Sufficient.{HasLeast, HasSafe}
 use Rattle.budget_search.specs.declared.account_budgets.AccountBudgets.{AccountBudgets}
 use Rattle.budget_search.specs.declared.component_line.ComponentLine.{ComponentLine}
 use Rattle.budget_search.specs.declared.script_search.ScriptSessions.{ScriptSessions}
 use Rattle.budget_least.specs.ComponentAccounts.{steps_at, AreAccounts, AreAccountsOf, AreSessionsFrom, AreSessionsOf, IsMeasured, IsOwnOf, IsSessionsOf}
-use Rattle.budget_least.specs.ComponentLines.{lines_of, ReadLine}
+use Rattle.budget_least.specs.ComponentLines.{lines_of, AreAllWritten, AreWritten, ReadLine}
 use Rattle.budget_least.specs.InitNeeds.{is_init_at, AreChanged}
 
 -- ---- sessions of one component more
@@ -70,7 +71,11 @@ module _ {Z : Type 0} (list : Listed) (olds news : List (Vec ComponentLine Z))
   session_still : (component : ℕ) (script : Option ScriptSessions) → IsSessionsOf list component (steps_at olds component) script →
       IsSessionsOf list component (steps_at news component) script
   session_still component None is = is
-  session_still component (Some found) is = (is.0, accounts_still list component (steps_at olds component) (steps_at news component) (seen_at component) found.accounts.items is.1)
+  session_still component (Some found) is = record {
+    script = is.script;
+    accounts = accounts_still list component (steps_at olds component) (steps_at news component) (seen_at component) found.accounts.items is.accounts;
+    refused = is.refused ∙ written_still list component (steps_at olds component) (steps_at news component) (seen_at component) (given_in list component);
+  }
 
   pub sessions_still : (component : ℕ) (scripts : List (Option ScriptSessions)) → AreSessionsFrom list olds component scripts → AreSessionsFrom list news component scripts
   sessions_still component [] are = tt
@@ -120,13 +125,18 @@ split_in place need (old ∷ firsts) rest (new ∷ news) are =
 -- ---- accounts of one component, while those of an init change
 
 module _ (list : Listed) (place : ℕ) (need : Option Amounts) (starts : is_init_at list place ≡ true) where
-  measured_kept : (component : ℕ) (steps : List ComponentLine) (old new : AccountBudgets) → new.reserve ≡ old.reserve → new.found.rows.items ≡ old.found.rows.items →
+  measured_kept : (component : ℕ) (steps : List ComponentLine) (old new : AccountBudgets) → IsChanged place need old new → new.found.rows.items ≡ old.found.rows.items →
       IsMeasured list component steps old → IsMeasured list component steps new
-  measured_kept component steps old new reserve rows is = record {
-    reserve = ap amounts_of reserve ∙ is.reserve;
+  measured_kept component steps old new kept rows is = record {
+    reserve = ap amounts_of kept.reserve ∙ is.reserve;
+    refused = ap (λ g. g.refused) kept.given ∙ is.refused;
     exact = subst (λ r. AreExact list component steps (most_in list component).caps (most_in list component).ram r) (sym rows) is.exact;
     least = subst (λ r. HasLeast (suffices_with list component steps) (most_in list component) (lowest_of r)) (sym rows) is.least;
     safe = subst (λ r. HasSafe (suffices_with list component steps) (most_in list component) (safe_of r)) (sym rows) is.safe;
+    shortfalls = record {
+      highest = kept.refused ∙ is.shortfalls.highest;
+      gaps = kept.gaps ∙ is.shortfalls.gaps ∙ ap (gaps_after (short_line_with list component steps) (most_in list component).caps None) (sym rows);
+    };
   }
 
   idle_kept : (component : ℕ) (given : Amounts) (old new : AccountBudgets) → IsChanged place need old new → new.found.rows.items ≡ old.found.rows.items →
@@ -164,7 +174,7 @@ module _ (list : Listed) (place : ℕ) (need : Option Amounts) (starts : is_init
               same = is.same ∙ own.same;
               own = is.session ∙ own.own;
               given = ap (λ g. amounts_of g.budget) is.given ∙ own.given;
-              script = λ kind. measured_kept component steps old new is.reserve rows (own.script kind);
+              script = λ kind. measured_kept component steps old new is rows (own.script kind);
               server = λ kind none. idle_kept component _ old new is rows (own.server kind none);
             }
       ] refl
@@ -261,3 +271,10 @@ sessions_after list steps component script scripts rest these are =
     let next : suc component ≡ component + 1 = omega arith in
     let both : AreSessionsFrom list steps component (script ∷ rest) = subst (λ l. AreSessionsFrom list steps component l) these are in
     (both.0, subst (λ n. AreSessionsFrom list steps n rest) next both.1)
+
+-- ---- lines as the scenario writes them
+
+pub written_at : {Z : Type 0} (steps : List (Vec ComponentLine Z)) → AreAllWritten steps → (component : ℕ) → AreWritten (steps_at steps component)
+written_at [] all component = tt
+written_at (lines ∷ steps) all zero = all.0
+written_at (lines ∷ steps) all (suc component) = written_at steps all.1 component

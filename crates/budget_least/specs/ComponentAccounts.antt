@@ -7,9 +7,10 @@ use Rattle.own_model.specs.StartList.Kind.{Script}
 use Rattle.budget_meter.specs.Needs.{amounts_of}
 use Rattle.budget_search.specs.AccountNeeds.{IsIdle}
 use Rattle.budget_search.specs.Alike.{given_in, most_in, own_entry, reserve_in}
-use Rattle.budget_search.specs.BudgetIntervals.{lowest_of, safe_of}
+use Rattle.budget_search.specs.BudgetIntervals.{lowest_of, safe_of, HasShortfalls}
 use Rattle.budget_search.specs.Own.{suffices_with, AreExact}
 use Rattle.budget_search.specs.SessionAccounts.{AreSessionAccounts}
+use Rattle.budget_search.specs.ShortLines.{short_as_written, short_line_with}
 use Rattle.budget_search.specs.Sufficient.{HasLeast, HasSafe}
 use Rattle.budget_search.specs.declared.account_budgets.AccountBudgets.{AccountBudgets}
 use Rattle.budget_search.specs.declared.component_line.ComponentLine.{ComponentLine}
@@ -22,12 +23,15 @@ abbrev pub steps_at : {Z : Type 0} → List (Vec ComponentLine Z) → ℕ → Li
 steps_at steps component = unwrap_or (option_map (λ lines. lines.items) (slice_get steps component)) []
 
 -- an account has exactly the budgets under which the run of a script's lines isn't short of quota, up to the largest machine's less
--- the script's reserve. Its minimum and its safe budget are those of these
+-- the script's reserve. Its minimum and its safe budget are those of these. It has the line that is short of quota under the
+-- budget of the list, with the donations that the scenario writes, and those below the intervals
 pub record IsMeasured (list : Listed) (component : ℕ) (steps : List ComponentLine) (account : AccountBudgets) : Type 0 where
   pub reserve : amounts_of account.reserve ≡ reserve_in list component
+  pub refused : account.given.refused ≡ short_as_written list component steps (given_in list component)
   pub exact : AreExact list component steps (most_in list component).caps (most_in list component).ram account.found.rows.items
   pub least : HasLeast (suffices_with list component steps) (most_in list component) (lowest_of account.found.rows.items)
   pub safe : HasSafe (suffices_with list component steps) (most_in list component) (safe_of account.found.rows.items)
+  pub shortfalls : HasShortfalls (short_line_with list component steps) (most_in list component) account.found
 
 -- an account is the own account of a component with these lines, with the budget of the list: that of a script is measured, and
 -- that of a server makes no calls
@@ -73,11 +77,16 @@ pub record IsGiven (search : ScriptSearch) : Type 0 where
   pub script : (own_entry search.list.now search.component).kind ≡ Script
   pub given : amounts_of search.given ≡ given_in search.list.now search.component
 
--- the accounts of a script's sessions, or none of another component
+-- what is found of a script's sessions: their accounts, and the line of the script that is short of quota under its budget
+pub record AreFoundFor (list : Listed) (component : ℕ) (steps : List ComponentLine) (found : ScriptSessions) : Type 0 where
+  pub script : (own_entry list component).kind ≡ Script
+  pub accounts : AreSessionAccounts list component steps found.accounts.items
+  pub refused : found.given.refused ≡ short_as_written list component steps (given_in list component)
+
+-- the sessions of a script, or none of another component
 abbrev pub IsSessionsOf : Listed → ℕ → List ComponentLine → Option ScriptSessions → Type 0
 IsSessionsOf list component steps None = (own_entry list component).kind ≢ Script
-IsSessionsOf list component steps (Some found) =
-    ((own_entry list component).kind ≡ Script) × AreSessionAccounts list component steps found.accounts.items
+IsSessionsOf list component steps (Some found) = AreFoundFor list component steps found
 
 -- those of the components from a place on
 abbrev pub AreSessionsFrom : {Z : Type 0} → Listed → List (Vec ComponentLine Z) → ℕ → List (Option ScriptSessions) → Type 0

@@ -1,6 +1,6 @@
 -- How the lines of a scenario become the lines of components, and which of them are left out.
-use Rattle.std.specs.Prelude.{◌≡◌, ℕ, ◌||◌, ◌&&◌, ◌==◌, Bool, true, false, not, List, [], ◌∷◌, ◌++◌, codes, is_some, length, map, nat_le, replicate, if◌then◌else◌, Option, Some, None}
-use Rattle.std.specs.List.{position, slice_get, slice_split}
+use Rattle.std.specs.Prelude.{◌≡◌, ℕ, ◌||◌, ◌&&◌, ◌==◌, Bool, true, false, not, List, [], ◌∷◌, ◌++◌, codes, is_some, length, map, nat_le, replicate, if◌then◌else◌, Option, Some, None, Vec}
+use Rattle.std.specs.List.{AllByRecursion, position, slice_get, slice_split}
 use Rattle.std.specs.Option.{unwrap_or}
 use Rattle.std.specs.Str.{bytes_eq}
 use Rattle.own_model.specs.Call.{Call, Spoken, parsed_call}
@@ -34,6 +34,13 @@ lines_of steps = map line_of steps
 
 abbrev pub lines_in : LinesByComponent → List (List ReadLine)
 lines_in lines = map (λ steps. lines_of steps.items) lines.steps.items
+
+-- no line has other arguments than the scenario writes
+abbrev pub AreWritten : List ComponentLine → Type 0
+AreWritten steps = AllByRecursion (λ step. step.args ≡ None) steps
+
+abbrev pub AreAllWritten : {Z : Type 0} → List (Vec ComponentLine Z) → Type 0
+AreAllWritten steps = AllByRecursion (λ lines. AreWritten lines.items) steps
 
 -- the numbers of lines that aren't measured
 abbrev pub numbers_in : LinesByComponent → List ℕ

@@ -202,7 +202,7 @@ impl<'a, 'b, 'm> Model for BindingRun<'a, 'b, 'm> {
 impl<'a, 'b, 'm> BindingRun<'a, 'b, 'm> {
     ghost use Rattle.std.specs.Prelude.{◌≡◌, ◌≢◌, ◌<◌, length, replicate, IfErr, IfOk, None, OnOk};
     ghost use Rattle.list_parser.specs.declared.fault.BootFault.TheVariants.{NoMemory};
-    ghost use Rattle.budget_search.specs.NoBudgets.{LacksBudgets};
+    ghost use Rattle.budget_search.specs.NoBudgets.{IsSearchFault};
     ghost use Rattle.core_calls.specs.Call.{model_call, IsWellFormed};
     ghost use Rattle.line_names.specs.Learning.{learnt};
     ghost use Rattle.line_names.specs.Views.{directive_view, filled_view};
@@ -286,8 +286,7 @@ impl<'a, 'b, 'm> BindingRun<'a, 'b, 'm> {
         requires call { IsWellFormed call }
         ensures answered { OnOk result (IsAnsweredIf self.old.binds component place (model_call call.entry)
             (filled_view filled.now) self.old self.new) }
-        ensures fault { IfErr result
-            (λ fault. fault ≢ NoMemory → LacksBudgets self.old.list fault) }
+        ensures fault { IfErr result (IsSearchFault self.old.list) }
     {
         if !self.binds() {
             return Ok(());
@@ -308,8 +307,7 @@ impl<'a, 'b, 'm> BindingRun<'a, 'b, 'm> {
         requires call { IsWellFormed call }
         ensures answered { OnOk result (IsAnswered component place (model_call call.entry)
             (filled_view filled.now) self.old self.new) }
-        ensures fault { IfErr result
-            (λ fault. fault ≢ NoMemory → LacksBudgets self.old.list fault) }
+        ensures fault { IfErr result (IsSearchFault self.old.list) }
     {
         let mut client = self.take_client(alloc, component)?;
         self.budgets()
@@ -353,8 +351,7 @@ impl<'a, 'b, 'm> BindingRun<'a, 'b, 'm> {
         requires { component < length self.old.list.entries }
         ensures client { IfOk result (IsClient self.old component) }
         ensures taken { OnOk result (self.new ≡ without_client component self.old) }
-        ensures fault { IfErr result
-            (λ fault. fault ≢ NoMemory → LacksBudgets self.old.list fault) }
+        ensures fault { IfErr result (IsSearchFault self.old.list) }
     {
         match self.take_known(component) {
             Some(client) => Ok(client),
@@ -384,8 +381,7 @@ impl<'a, 'b, 'm> BindingRun<'a, 'b, 'm> {
     fn boot(&self, alloc: Global, component: usize) -> Result<AmpleClient<RouteTable>, BootFault>
         requires { component < length self.now.list.entries }
         ensures booted { IfOk result (HasBooted self.now.list self.now.budgets component) }
-        ensures fault { IfErr result
-            (λ fault. fault ≢ NoMemory → LacksBudgets self.now.list fault) }
+        ensures fault { IfErr result (IsSearchFault self.now.list) }
     {
         let reply = Reply::boot(alloc)?;
         let list = self.budgets().machine(alloc, self.list(), component)?;

@@ -2,7 +2,7 @@
 ghost use Rattle.std.specs.Prelude.{◌≡◌, ◌==◌, [], is_some, map, replicate, IfOk, OnOk};
 ghost use Rattle.std.specs.List.{position};
 ghost use Rattle.std.specs.Option.{option_copied};
-ghost use Rattle.budget_least.specs.ComponentLines.{expects_refusal, line_of, lines_of};
+ghost use Rattle.budget_least.specs.ComponentLines.{expects_refusal, line_of, lines_of, AreAllWritten};
 
 use crate::binding_run::{BindingBudgets, BindingRun};
 use crate::changed_line::ChangedLine;
@@ -31,9 +31,9 @@ pub(crate) struct LinesByComponent {
 }
 
 impl LinesByComponent {
-    ghost use Rattle.std.specs.Prelude.{◌≡◌, ◌≢◌, ◌++◌, ◌∷◌, [], ◌<◌, ◌==◌, false, length, map, replicate, IfErr, IfOk, OnOk};
+    ghost use Rattle.std.specs.Prelude.{◌≡◌, ◌≢◌, ◌++◌, ◌∷◌, [], ◌<◌, ◌==◌, false, length, map, replicate, None, IfErr, IfOk, OnOk};
     ghost use Rattle.list_parser.specs.declared.fault.BootFault.TheVariants.{NoMemory};
-    ghost use Rattle.budget_search.specs.NoBudgets.{LacksBudgets};
+    ghost use Rattle.budget_search.specs.NoBudgets.{IsSearchFault};
     ghost use Rattle.std.specs.List.{slice_get, slice_split};
     ghost use Rattle.std.specs.Option.{option_copied, unwrap_or};
     ghost use Rattle.core_calls.specs.Call.{model_call, IsWellFormed};
@@ -42,7 +42,7 @@ impl LinesByComponent {
     ghost use Rattle.line_steps.specs.ResolvedLines.{is_unread};
     ghost use Rattle.line_steps.specs.ResolvedViews.{resolved_view, HasParsedCall};
     ghost use Rattle.budget_least.specs.ComponentAccounts.{steps_at};
-    ghost use Rattle.budget_least.specs.ComponentLines.{expects_refusal, line_of, lines_in, numbers_in, reading, said_in, with_line, AreRead, HasRead, IsAdded, IsAddedTo, IsRead, IsTaken};
+    ghost use Rattle.budget_least.specs.ComponentLines.{expects_refusal, line_of, lines_in, numbers_in, reading, said_in, with_line, AreAllWritten, AreRead, HasRead, IsAdded, IsAddedTo, IsRead, IsTaken};
 
     /// Reads the unfolded text of a scenario, by the components of a list, and fills its lines with what a run with these budgets
     /// binds. The error is that of a boot, or that the host is out of memory.
@@ -54,8 +54,8 @@ impl LinesByComponent {
         budgets: BindingBudgets<'_>,
     ) -> Result<LinesByComponent, BootFault>
         ensures read { IfOk result (HasRead list.now text.now start.entry budgets.entry) }
-        ensures fault { IfErr result
-            (λ fault. fault ≢ NoMemory → LacksBudgets list.now fault) }
+        ensures written { IfOk result (λ lines. AreAllWritten lines.steps.items) }
+        ensures fault { IfErr result (IsSearchFault list.now) }
     {
         let mut run = BindingRun::new(alloc, list, start, budgets, has_names(text))?;
         let mut lines = LinesByComponent::empty(alloc, list.count())?;
@@ -126,6 +126,7 @@ impl LinesByComponent {
     // Returns no lines for this number of components.
     fn empty(alloc: Global, components: usize) -> Result<LinesByComponent, AllocError>
         ensures lines { IfOk result (λ lines. lines_in lines ≡ replicate components []) }
+        ensures written { IfOk result (λ lines. AreAllWritten lines.steps.items) }
         ensures unmeasured { IfOk result (λ lines. numbers_in lines ≡ []) }
     {
         Ok(LinesByComponent {
@@ -144,8 +145,9 @@ impl LinesByComponent {
     ) -> Result<(), BootFault>
         ensures read { OnOk result (AreRead (slice_split (λ b. b == 10) text.now)
             (reading run.old self.old) (reading run.new self.new)) }
-        ensures fault { IfErr result
-            (λ fault. fault ≢ NoMemory → LacksBudgets run.old.list fault) }
+        ensures written { OnOk result
+            (AreAllWritten self.old.steps.items → AreAllWritten self.new.steps.items) }
+        ensures fault { IfErr result (IsSearchFault run.old.list) }
     {
         let lines = lines_of(alloc, text)?;
         self.add_lines(alloc, run, lines.as_slice())
@@ -160,8 +162,9 @@ impl LinesByComponent {
     ) -> Result<(), BootFault>
         ensures read { OnOk result (AreRead (map (λ line. line.now) lines.now)
             (reading run.old self.old) (reading run.new self.new)) }
-        ensures fault { IfErr result
-            (λ fault. fault ≢ NoMemory → LacksBudgets run.old.list fault) }
+        ensures written { OnOk result
+            (AreAllWritten self.old.steps.items → AreAllWritten self.new.steps.items) }
+        ensures fault { IfErr result (IsSearchFault run.old.list) }
     {
         let mut buffers = LineBuffers::new();
         for line in lines {
@@ -179,9 +182,10 @@ impl LinesByComponent {
         buffers: &mut LineBuffers,
     ) -> Result<(), BootFault>
         ensures read { OnOk result (IsRead line.now (reading run.old self.old) (reading run.new self.new)) }
+        ensures written { OnOk result
+            (AreAllWritten self.old.steps.items → AreAllWritten self.new.steps.items) }
         ensures list { OnOk result (run.new.list ≡ run.old.list) }
-        ensures fault { IfErr result
-            (λ fault. fault ≢ NoMemory → LacksBudgets run.old.list fault) }
+        ensures fault { IfErr result (IsSearchFault run.old.list) }
     {
         let number = run.pass();
         let resolved = resolve(None, run.known(), line, buffers);
@@ -202,8 +206,9 @@ impl LinesByComponent {
         requires { HasParsedCall resolved }
         ensures taken { OnOk result (IsTaken number (resolved_view resolved.entry)
             (reading run.old self.old) (reading run.new self.new)) }
-        ensures fault { IfErr result
-            (λ fault. fault ≢ NoMemory → LacksBudgets run.old.list fault) }
+        ensures written { OnOk result
+            (AreAllWritten self.old.steps.items → AreAllWritten self.new.steps.items) }
+        ensures fault { IfErr result (IsSearchFault run.old.list) }
     {
         match resolved.unread() {
             Some(why) => self.leave(alloc, run.list(), line, number, why),
@@ -249,8 +254,9 @@ impl LinesByComponent {
         requires read { is_unread (resolved_view resolved) ≡ false }
         ensures taken { OnOk result (IsTaken number (resolved_view resolved.entry)
             (reading run.old self.old) (reading run.new self.new)) }
-        ensures fault { IfErr result
-            (λ fault. fault ≢ NoMemory → LacksBudgets run.old.list fault) }
+        ensures written { OnOk result
+            (AreAllWritten self.old.steps.items → AreAllWritten self.new.steps.items) }
+        ensures fault { IfErr result (IsSearchFault run.old.list) }
     {
         match resolved {
             ResolvedLine::Directive(directive) => {
@@ -281,8 +287,9 @@ impl LinesByComponent {
         ensures added { OnOk result (IsAdded number (filled_view call.now.filled) call.now.line.now
             (expects_refusal (option_copied call.now.reply)) (said_in call.now.line.now)
             (reading run.old self.old) (reading run.new self.new)) }
-        ensures fault { IfErr result
-            (λ fault. fault ≢ NoMemory → LacksBudgets run.old.list fault) }
+        ensures written { OnOk result
+            (AreAllWritten self.old.steps.items → AreAllWritten self.new.steps.items) }
+        ensures fault { IfErr result (IsSearchFault run.old.list) }
     {
         let Some(said) = call.call else {
             return Ok(());
@@ -309,8 +316,9 @@ impl LinesByComponent {
         ensures added { OnOk result (IsAddedTo number (filled_view call.now.filled) call.now.line.now
             (expects_refusal (option_copied call.now.reply)) (model_call said.entry) component
             (reading run.old self.old) (reading run.new self.new)) }
-        ensures fault { IfErr result
-            (λ fault. fault ≢ NoMemory → LacksBudgets run.old.list fault) }
+        ensures written { OnOk result
+            (AreAllWritten self.old.steps.items → AreAllWritten self.new.steps.items) }
+        ensures fault { IfErr result (IsSearchFault run.old.list) }
     {
         let is_left_out = expects_refusal(call.reply);
         if !is_left_out {
@@ -337,6 +345,8 @@ impl LinesByComponent {
         ensures unmeasured { self.new.unmeasured ≡ self.old.unmeasured }
         ensures lines { OnOk result (lines_in self.new
             ≡ with_line component (line_of line) (lines_in self.old)) }
+        ensures written { OnOk result (line.args ≡ None →
+            AreAllWritten self.old.steps.items → AreAllWritten self.new.steps.items) }
     {
         if component >= self.steps.len() {
             return Ok(());
@@ -349,8 +359,9 @@ impl LinesByComponent {
 
 // Returns no lines for each of so many components.
 fn no_lines(alloc: Global, components: usize) -> Result<Vec<Vec<ComponentLine>>, AllocError>
-    ensures { IfOk result (λ steps. map (λ lines. lines_of lines.items) steps.items
+    ensures lines { IfOk result (λ steps. map (λ lines. lines_of lines.items) steps.items
         ≡ replicate components []) }
+    ensures written { IfOk result (λ steps. AreAllWritten steps.items) }
 {
     let mut steps = Vec::new(alloc);
     for count in 0..components {

@@ -1,14 +1,14 @@
 //! What all accounts of a scenario need.
 ghost use Rattle.std.specs.Prelude.{◌≡◌, ◌≢◌, ◌+◌, ◌<◌, ℕ, true, false, [], length, suc, IfErr, IfOk, OnOk};
 ghost use Rattle.list_parser.specs.declared.fault.BootFault.TheVariants.{NoMemory};
-ghost use Rattle.budget_search.specs.NoBudgets.{LacksBudgets};
+ghost use Rattle.budget_search.specs.NoBudgets.{IsSearchFault};
 ghost use Rattle.std.specs.List.{list_all};
 ghost use Rattle.std.specs.Option.{option_map};
 ghost use Rattle.own_model.specs.Amounts.{more_of};
 ghost use Rattle.budget_meter.specs.Needs.{amounts_of};
 ghost use Rattle.budget_least.specs.Report.{accounts_of, list_of, sum_of, unmeasured_of, HasSmallestMachine};
 ghost use Rattle.line_steps.specs.RunPosition.{RunPosition};
-ghost use Rattle.budget_least.specs.ComponentLines.{numbers_in, HasRead};
+ghost use Rattle.budget_least.specs.ComponentLines.{numbers_in, AreAllWritten, HasRead};
 ghost use Rattle.budget_least.specs.ReportOf.{first_budgets, AreFilledBy, AreUnsettledIf, HaveKept, IsDraft, IsDraftAt, IsReportIf, IsReportOf};
 ghost use Rattle.budget_least.specs.declared.binding_run.BindingBudgets.{BindingBudgets};
 ghost use Rattle.budget_least.specs.InitNeeds.{capped, is_entry_of, need_of, needed_below, sum_with, AreChanged, AreNeeded, AreNeededFrom};
@@ -65,8 +65,8 @@ impl BudgetQuery<'_> {
     ) -> Result<LinesByComponent, BootFault>
         ensures read { IfOk result
             (HasRead self.entry.list.now self.entry.scenario.now start.now budgets.entry) }
-        ensures fault { IfErr result
-            (λ fault. fault ≢ NoMemory → LacksBudgets self.entry.list.now fault) }
+        ensures written { IfOk result (λ lines. AreAllWritten lines.steps.items) }
+        ensures fault { IfErr result (IsSearchFault self.entry.list.now) }
     {
         let start = start.copy(alloc)?;
         LinesByComponent::read(alloc, self.list, self.scenario, start, budgets)
@@ -87,8 +87,8 @@ impl<'a> BudgetReport<'a> {
     /// Returns the answer to a question. Names denote the given values, and those that a run from the start with the budgets that
     /// are written binds.
     /// The list needn't boot. Fails with `QuotaExceeded` if the largest machine doesn't have a script's own budget in addition to the
-    /// script's reserve, with `BadConfig start` if the run of a session isn't like that of its lines, and with `NoMemory` if the host
-    /// is out of memory.
+    /// script's reserve, with `BadConfig start` if it doesn't have what the script donates for a session in addition to the reserve,
+    /// and with `NoMemory` if the host is out of memory.
     pub fn of(
         alloc: Global,
         question: BudgetQuery<'a>,
@@ -97,8 +97,7 @@ impl<'a> BudgetReport<'a> {
         ensures report { IfOk result (IsReportOf question.entry start.entry) }
         ensures needed { IfOk result (λ report.
             AreNeeded report.choice report.list.now report.accounts.items) }
-        ensures fault { IfErr result
-            (λ fault. fault ≢ NoMemory → LacksBudgets question.entry.list.now fault) }
+        ensures fault { IfErr result (IsSearchFault question.entry.list.now) }
     {
         let mut report = BudgetReport::first(alloc, question, &start)?;
         if !has_names(question.scenario) {
@@ -116,8 +115,7 @@ impl<'a> BudgetReport<'a> {
     ) -> Result<BudgetReport<'a>, BootFault>
         ensures draft { IfOk result (λ report.
             IsDraftAt question.entry start.now 0 (numbers_in report.scene) report) }
-        ensures fault { IfErr result
-            (λ fault. fault ≢ NoMemory → LacksBudgets question.entry.list.now fault) }
+        ensures fault { IfErr result (IsSearchFault question.entry.list.now) }
     {
         let lines = question.lines(alloc, start, question.ample())?;
         let report = BudgetReport::with(alloc, question, lines)?;
@@ -130,11 +128,11 @@ impl<'a> BudgetReport<'a> {
         question: BudgetQuery<'a>,
         lines: LinesByComponent,
     ) -> Result<BudgetReport<'a>, BootFault>
+        requires { AreAllWritten lines.steps.items }
         ensures draft { IfOk result (λ report. (start : RunPosition) (budgets : BindingBudgets) →
             HasRead question.entry.list.now question.entry.scenario.now start budgets lines →
             IsDraft question.entry start budgets (numbers_in report.scene) report) }
-        ensures fault { IfErr result
-            (λ fault. fault ≢ NoMemory → LacksBudgets question.entry.list.now fault) }
+        ensures fault { IfErr result (IsSearchFault question.entry.list.now) }
     {
         let mut report = BudgetReport {
             list: question.list,
@@ -157,8 +155,7 @@ impl<'a> BudgetReport<'a> {
     ) -> Result<(), BootFault>
         requires { IsDraftAt question start.now 0 (numbers_in self.old.scene) self.old }
         ensures report { OnOk result (IsReportIf true question.entry start.now self.new) }
-        ensures fault { IfErr result
-            (λ fault. fault ≢ NoMemory → LacksBudgets question.entry.list.now fault) }
+        ensures fault { IfErr result (IsSearchFault question.entry.list.now) }
     {
         for number in 0..LAST_DRAFT {
             if self.settles(alloc, question, start)? {
@@ -183,8 +180,7 @@ impl<'a> BudgetReport<'a> {
         ensures next { IfOk result (λ settles. settles ≡ false → (number : ℕ) →
             IsDraftAt question.entry start.now number (numbers_in self.old.scene) self.old →
             IsDraftAt question.entry start.now (number + 1) (numbers_in self.new.scene) self.new) }
-        ensures fault { IfErr result
-            (λ fault. fault ≢ NoMemory → LacksBudgets question.entry.list.now fault) }
+        ensures fault { IfErr result (IsSearchFault question.entry.list.now) }
     {
         let lines = self.filled(alloc, question, start)?;
         let changed = self.scene.changed(alloc, &lines)?;
@@ -206,8 +202,7 @@ impl<'a> BudgetReport<'a> {
         ensures report { OnOk result ((number : ℕ) → number < 8 →
             IsDraftAt question.entry start.now number (numbers_in self.old.scene) self.old →
             IsReportIf true question.entry start.now self.new) }
-        ensures fault { IfErr result
-            (λ fault. fault ≢ NoMemory → LacksBudgets question.entry.list.now fault) }
+        ensures fault { IfErr result (IsSearchFault question.entry.list.now) }
     {
         let lines = self.filled(alloc, question, start)?;
         let changed = self.scene.changed(alloc, &lines)?;
@@ -223,8 +218,8 @@ impl<'a> BudgetReport<'a> {
         start: &RunPosition<'_>,
     ) -> Result<LinesByComponent, BootFault>
         ensures filled { IfOk result (AreFilledBy question.entry start.now self.now) }
-        ensures fault { IfErr result
-            (λ fault. fault ≢ NoMemory → LacksBudgets question.entry.list.now fault) }
+        ensures written { IfOk result (λ lines. AreAllWritten lines.steps.items) }
+        ensures fault { IfErr result (IsSearchFault question.entry.list.now) }
     {
         let accounts = self.accounts.as_slice();
         let steps = self.scene.steps.as_slice();

@@ -1,12 +1,14 @@
 //! The accounts of a report, component by component.
 ghost use Rattle.std.specs.Prelude.{◌≡◌, ◌≢◌, ◌++◌, ◌∷◌, ◌<◌, [], List, length, IfErr, IfOk, OnOk};
 ghost use Rattle.list_parser.specs.declared.fault.BootFault.TheVariants.{NoMemory};
-ghost use Rattle.budget_search.specs.NoBudgets.{LacksBudgets};
+ghost use Rattle.budget_search.specs.NoBudgets.{IsSearchFault};
 ghost use Rattle.own_model.specs.StartList.Kind.{Script as AScript};
-ghost use Rattle.budget_search.specs.Alike.{own_entry};
+ghost use Rattle.budget_search.specs.Alike.{given_in, own_entry};
 ghost use Rattle.budget_search.specs.SessionAccounts.{AreSessionAccounts};
+ghost use Rattle.budget_search.specs.ShortLines.{short_as_written};
 ghost use Rattle.budget_search.specs.declared.component_line.ComponentLine.{ComponentLine};
 ghost use Rattle.budget_least.specs.ComponentAccounts.{AreAccountsOf, IsGiven, IsSessionsOf};
+ghost use Rattle.budget_least.specs.ComponentLines.{AreWritten};
 
 use crate::line_donations::LineDonations;
 use crate::report::BudgetReport;
@@ -18,22 +20,22 @@ impl BudgetReport<'_> {
     ghost use Rattle.std.specs.Prelude.{◌≡◌, ◌+◌, ◌<◌, [], length, IfOk, OnOk, ◌≢◌, IfErr};
     ghost use Rattle.budget_least.specs.ComponentAccounts.{steps_at, AreSessionsFrom, IsSessionsOf};
     ghost use Rattle.list_parser.specs.declared.fault.BootFault.TheVariants.{NoMemory};
-    ghost use Rattle.budget_search.specs.NoBudgets.{LacksBudgets};
-    ghost use Rattle.budget_least.specs.ComponentLines.{lines_in};
+    ghost use Rattle.budget_search.specs.NoBudgets.{IsSearchFault};
+    ghost use Rattle.budget_least.specs.ComponentLines.{lines_in, AreAllWritten};
     ghost use Rattle.budget_least.specs.ReportOf.{HasAccounts};
 
     /// Adds the accounts of all components, without what inits need. The lines donate what their sessions need before scripts' own
     /// accounts are measured, unless they donate what the scenario says.
     pub(crate) fn add_accounts(&mut self, alloc: Global, as_donated: bool) -> Result<(), BootFault>
-        requires { self.old.accounts.items ≡ [] }
+        requires none { self.old.accounts.items ≡ [] }
+        requires written { AreAllWritten self.old.scene.steps.items }
         ensures list { self.new.list ≡ self.old.list }
         ensures choice { self.new.choice ≡ self.old.choice }
         ensures unmeasured { OnOk result (self.new.scene.unmeasured ≡ self.old.scene.unmeasured) }
         ensures lines { OnOk result (lines_in self.new.scene ≡ lines_in self.old.scene) }
         ensures accounts { OnOk result
             (HasAccounts self.new (length self.new.list.now.entries)) }
-        ensures fault { IfErr result
-            (λ fault. fault ≢ NoMemory → LacksBudgets self.old.list.now fault) }
+        ensures fault { IfErr result (IsSearchFault self.old.list.now) }
     {
         let mut donations = LineDonations::new(alloc, self.choice);
         let scripts = self.sessions(alloc, &mut donations)?;
@@ -48,12 +50,12 @@ impl BudgetReport<'_> {
         alloc: Global,
         donations: &mut LineDonations,
     ) -> Result<Vec<Option<ScriptSessions>>, BootFault>
+        requires { AreAllWritten self.now.scene.steps.items }
         ensures sessions { IfOk result (λ scripts.
             AreSessionsFrom self.now.list.now self.now.scene.steps.items 0 scripts.items) }
         ensures count { IfOk result (λ scripts.
             length scripts.items ≡ length self.now.list.now.entries) }
-        ensures fault { IfErr result
-            (λ fault. fault ≢ NoMemory → LacksBudgets self.now.list.now fault) }
+        ensures fault { IfErr result (IsSearchFault self.now.list.now) }
     {
         let list = self.list;
         let mut scripts = Vec::new(alloc);
@@ -100,8 +102,7 @@ impl BudgetReport<'_> {
         ensures scene { self.new.scene ≡ self.old.scene }
         ensures accounts { OnOk result
             (HasAccounts self.new (length self.new.list.now.entries)) }
-        ensures fault { IfErr result
-            (λ fault. fault ≢ NoMemory → LacksBudgets self.old.list.now fault) }
+        ensures fault { IfErr result (IsSearchFault self.old.list.now) }
     {
         let _few = self.list.count();
         let mut component = 0;
@@ -127,8 +128,7 @@ impl BudgetReport<'_> {
         ensures choice { self.new.choice ≡ self.old.choice }
         ensures scene { self.new.scene ≡ self.old.scene }
         ensures accounts { OnOk result (HasAccounts self.new (component + 1)) }
-        ensures fault { IfErr result
-            (λ fault. fault ≢ NoMemory → LacksBudgets self.old.list.now fault) }
+        ensures fault { IfErr result (IsSearchFault self.old.list.now) }
     {
         let steps = self.scene.of(component);
         let accounts = accounts_of(alloc, self.list, component, steps, sessions)?;
@@ -165,9 +165,10 @@ fn sessions_of(
     component: usize,
     steps: &[ComponentLine],
 ) -> Result<Option<ScriptSessions>, BootFault>
-    requires { component < length list.now.entries }
+    requires there { component < length list.now.entries }
+    requires written { AreWritten steps.now }
     ensures sessions { IfOk result (IsSessionsOf list.now component steps.now) }
-    ensures fault { IfErr result (λ fault. fault ≢ NoMemory → LacksBudgets list.now fault) }
+    ensures fault { IfErr result (IsSearchFault list.now) }
 {
     match ScriptSearch::of(list, component) {
         Some(search) => {
@@ -189,7 +190,7 @@ fn accounts_of(
     requires there { component < length list.now.entries }
     requires sessions { IsSessionsOf list.now component steps.now sessions }
     ensures accounts { IfOk result (λ accounts. AreAccountsOf list.now component steps.now accounts.items) }
-    ensures fault { IfErr result (λ fault. fault ≢ NoMemory → LacksBudgets list.now fault) }
+    ensures fault { IfErr result (IsSearchFault list.now) }
 {
     let Some(sessions) = sessions else {
         return server_accounts(alloc, list, component);
@@ -210,10 +211,12 @@ fn script_accounts(
     requires given { IsGiven search.now }
     requires sessions { AreSessionAccounts search.now.list.now search.now.component steps.now
         sessions.accounts.items }
+    requires refused { sessions.given.refused
+        ≡ short_as_written search.now.list.now search.now.component steps.now
+        (given_in search.now.list.now search.now.component) }
     ensures accounts { IfOk result (λ accounts.
         AreAccountsOf search.now.list.now search.now.component steps.now accounts.items) }
-    ensures fault { IfErr result
-        (λ fault. fault ≢ NoMemory → LacksBudgets search.now.list.now fault) }
+    ensures fault { IfErr result (IsSearchFault search.now.list.now) }
 {
     let own = search.own(alloc, steps, &sessions.given)?;
     let mut accounts = sessions.accounts;

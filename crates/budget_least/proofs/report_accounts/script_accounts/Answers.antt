@@ -16,9 +16,11 @@ returns-clause-accounts c = record {
     given = ap amounts_of c.in_ok-own.ensures.given ∙ c.requires.given.given;
     script = λ kind. record {
       reserve = c.in_ok-own.ensures.reserve;
+      refused = c.in_ok-own.ensures.refused ∙ c.requires.refused;
       exact = c.in_ok-own.ensures.exact kind;
       least = c.in_ok-own.ensures.least kind;
       safe = c.in_ok-own.ensures.safe kind;
+      shortfalls = c.in_ok-own.ensures.shortfalls kind;
     };
     server = λ other. absurd (other c.requires.given.script);
   };

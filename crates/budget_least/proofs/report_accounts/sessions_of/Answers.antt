@@ -3,6 +3,9 @@ use Rattle.std.proofs.Common.{subst, sym, ◌∙◌}
 use Rattle.budget_search.specs.Alike.{given_in, own_entry}
 use Rattle.budget_search.specs.NoBudgets.{LacksBudgets}
 use Rattle.budget_search.proofs.FaultLemmas.{passed_on}
+use Rattle.budget_search.proofs.SeenLemmas.{as_written}
+use Rattle.budget_search.specs.SessionAccounts.{AreSessionAccounts}
+use Rattle.budget_search.specs.ShortLines.{short_line_with}
 use Rattle.budget_least.proofs.report_accounts.sessions_of.Goals as goal
 
 pub returns-in_err-sessions-in-Some-clause-fault : goal.returns-in_err-sessions-in-Some-clause-fault
@@ -13,3 +16,21 @@ returns-in_err-sessions-in-Some-clause-fault c =
     subst (λ l. LacksBudgets l c.in_err-sessions-in-Some.field-0.0) is.list
     (c.in_err-sessions-in-Some.ensures.fault other ((λ i. (own_entry (is.list i) (is.component i)).kind) ∙ is.script)
     (is.given ∙ (λ i. given_in (sym is.list i) (sym is.component i)))))
+
+pub returns-in_ok-sessions-in-Some-clause-sessions : goal.returns-in_ok-sessions-in-Some-clause-sessions
+returns-in_ok-sessions-in-Some-clause-sessions c =
+    let is = c.in-Some.ensures in
+    let list = c.args.list.now in
+    let component = c.args.component in
+    let steps = c.args.steps.now in
+    let found = c.in_ok-sessions-in-Some.sessions in
+    let script = (λ i. (own_entry (is.list i) (is.component i)).kind) ∙ is.script in
+    record {
+      script = is.script;
+      accounts =
+          subst (λ l. AreSessionAccounts l component steps found.accounts.items) is.list
+          (subst (λ n. AreSessionAccounts c.in-Some.search.list.now n steps found.accounts.items) is.component (c.in_ok-sessions-in-Some.ensures.accounts script));
+      refused =
+          c.in_ok-sessions-in-Some.ensures.refused script ∙ (λ i. short_line_with (is.list i) (is.component i) steps (is.given i))
+          ∙ as_written list component steps c.requires.written (given_in list component);
+    }

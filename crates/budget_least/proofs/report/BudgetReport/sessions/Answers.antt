@@ -1,7 +1,8 @@
 -- The sessions of one component more.
 use Rattle.std.proofs.Common.{arith, ◌≡◌, ◌+◌, ◌∷◌, [], length, sym, ap, subst, ◌∙◌}
 use Rattle.std.proofs.lemmas.List.{length-append}
-use Rattle.budget_least.proofs.AccountLemmas.{one_more}
+use Rattle.budget_least.proofs.AccountLemmas.{one_more, written_at}
+use Rattle.budget_least.specs.ComponentLines.{AreWritten}
 use Rattle.budget_least.specs.ComponentAccounts.{steps_at, AreSessionsFrom, IsSessionsOf}
 use Rattle.budget_search.proofs.FaultLemmas.{passed_on}
 use Rattle.budget_least.proofs.report.BudgetReport.sessions.Goals as goal
@@ -24,3 +25,7 @@ loop-component-preserved c =
 pub returns-in_err-script-clause-fault : goal.returns-in_err-script-clause-fault
 returns-in_err-script-clause-fault c =
     passed_on _ _ c.from_residual.result c.from_residual.ensures.1 c.in_err-script.ensures.fault
+
+pub sessions_of-requires-clause-written : goal.sessions_of-requires-clause-written
+sessions_of-requires-clause-written c =
+    subst AreWritten (sym c.of.ensures.steps) (written_at c.args.self.now.scene.steps.items c.requires c.loop-component.component)
