@@ -1,7 +1,6 @@
 -- How many bytes digits stand for.
-use Rattle.std.proofs.Common.{◌≡◌, ℕ, ◌/◌, List, [], length, arith, Option, Some, None, refl}
+use Rattle.std.proofs.Common.{◌≡◌, ℕ, ◌/◌, List, length, arith}
 use Rattle.std.specs.Prelude.{IsSome}
-use Rattle.std.specs.Option.{unwrap_or}
 use Rattle.own_model.proofs.LogLemmas.{bytes_of_digits}
 use Rattle.own_model.specs.Text.{bytes_of_hex, hex_bytes}
 use Rattle.pd_core.proofs.ScriptOwnLemmas.{value_of}

@@ -1,6 +1,6 @@
 -- A request of objects tests what is told of it.
 use Rattle.std.proofs.lemmas.Bool.Decides.{nat_tests}
-use Rattle.std.proofs.Common.{arith, ◌≡◌, ℕ, ◌+◌, ◌*◌, ◌<◌, ◌&&◌, ◌||◌, Bool, true, false, cond, List, [], ◌∷◌, ◌++◌, length, find, map, ◌^◌, nat_lt, nat_le, refl, sym, ap, ◌∙◌, true≢false, subst}
+use Rattle.std.proofs.Common.{arith, ◌≡◌, ℕ, ◌+◌, ◌<◌, ◌&&◌, ◌||◌, Bool, true, false, cond, List, [], ◌∷◌, ◌++◌, length, map, ◌^◌, nat_lt, nat_le, refl, sym, ap, ◌∙◌, true≢false, subst}
 use Rattle.std.proofs.lemmas.List.{map-append}
 use Rattle.std.proofs.lemmas.Option.{same_Some}
 use Rattle.std.specs.Prelude.{if◌then◌else◌, ◌==◌, not, Option, Some, None, is_none, is_some, slice_get}
@@ -12,20 +12,19 @@ use Rattle.own_model.proofs.NodeListLemmas.{find_map, map_without}
 use Rattle.own_model.proofs.ObjectRequestLemmas.{own_name}
 use Rattle.own_model.specs.Account.{Account, shortage, charged}
 use Rattle.own_model.specs.BestFit.{Spot}
-use Rattle.own_model.specs.BufferService.{BufferRequest}
 use Rattle.own_model.specs.BufferService.BufferRequest.{Make as MakeBuffer, GiveBack, Put, Get}
 use Rattle.own_model.specs.BufferService.SessionRequest.{OfBuffer as OfFilesBuffer}
 use Rattle.own_model.specs.FileService.{error_of, no_files}
-use Rattle.own_model.specs.FileText.FileError.{BadRequest, BadName, Exists, NotFound, End, TooManyChunks, OutOfRam, OutOfCaps}
+use Rattle.own_model.specs.FileText.FileError.{BadName, Exists, NotFound}
 use Rattle.own_model.specs.Growth.{Growth, Shape, most_chunks, hole_for, least_growth, larger_growth, new_hole, small_refusal, shape_taken, shape_grown}
 use Rattle.own_model.specs.Nodes.{with_first, without_first, block_taken}
 use Rattle.own_model.specs.ObjectKinds.{ObjectKind, kind_named}
 use Rattle.own_model.specs.ObjectService.{Objects, DeclaredObject, ObjectServed, is_named, object_named, contents, with_units, make_refusal, contents_refusal, told, unless_refused, made_by, made, changed, resized, dropped, counted, named, request_served}
 use Rattle.own_model.specs.ObjectSession.{HoldingRequest, HoldingServed, holding_request_served}
 use Rattle.own_model.specs.ObjectSession.HoldingRequest.{OfObjects, OfBuffer}
-use Rattle.own_model.specs.ObjectText.{ObjectRequest, ObjectError, object_reply}
+use Rattle.own_model.specs.ObjectText.{ObjectRequest, ObjectError}
 use Rattle.own_model.specs.ObjectText.ObjectRequest.{Make, Resize, Drop, Count, CountKind, Name, Stat}
-use Rattle.own_model.specs.ObjectText.ObjectError.{BadKind, Shared}
+use Rattle.own_model.specs.ObjectText.ObjectError.{Shared}
 use Rattle.own_model.specs.ObjectText.ObjectReply.{Done, Refused}
 use Rattle.own_model.specs.OwnState.{NamedBuffer, bytes_of_buffer}
 use Rattle.own_model.specs.OwnStep.{completed}
@@ -195,6 +194,18 @@ same_with name units (size ∷ rest) one found same =
 
 -- ---- other units, and the end of an object
 
+tests_by_found : (units : ℕ) (found : Option DeclaredObject) → units_tests units (option_map size_of_object found) ≡ resize_tests units found
+tests_by_found units None = refl
+tests_by_found units (Some object) = refl
+
+module _ (objects : Objects) (name : List ℕ) where
+  -- what is found is found by its sizes
+  found_sizes : (found : Option DeclaredObject) → object_named name objects ≡ found → size_named name (map size_of_object objects.objects) ≡ option_map size_of_object found
+  found_sizes found is = find_map size_of_object (has_name name) objects.objects ∙ ap (option_map size_of_object) is
+
+  pub resize_tested : (units : ℕ) → units_tests units (size_named name (map size_of_object objects.objects)) ≡ resize_tests units (object_named name objects)
+  resize_tested units = ap (units_tests units) (found_sizes (object_named name objects) refl) ∙ tests_by_found units (object_named name objects)
+
 module _ (objects : Objects) (a : Account) (name : List ℕ) where
   abbrev sizes : List ObjectSize
   sizes = map size_of_object objects.objects
@@ -215,10 +226,6 @@ module _ (objects : Objects) (a : Account) (name : List ℕ) where
     abbrev resized_sizes : List ObjectSize
     resized_sizes = with_first (has_name name) (with_size units) sizes
 
-    -- what is found is found by its sizes
-    found_sizes : (found : Option DeclaredObject) → object_named name objects ≡ found → size_named name sizes ≡ option_map size_of_object found
-    found_sizes found is = find_map size_of_object (has_name name) objects.objects ∙ ap (option_map size_of_object) is
-
     changed_turns : (object : DeclaredObject) → object_named name objects ≡ Some object → Turns resized_sizes (changed units object objects a)
     changed_turns object found = record {
       sizes_are =
@@ -232,19 +239,12 @@ module _ (objects : Objects) (a : Account) (name : List ℕ) where
         (cond same (told Done objects a) (unless_refused (contents_refusal (contents (with_units units object)) a) objects a (changed units object objects a)))
     resize_by object found true is =
         let equal : units ≡ object.units = grind (arith, nat_tests, is) in
-        record { sizes_are = sym (same_with name units sizes (size_of_object object) (found_sizes (Some object) found) equal); growth = refl }
+        record { sizes_are = sym (same_with name units sizes (size_of_object object) (found_sizes objects name (Some object) found) equal); growth = refl }
     resize_by object found false is = unless_turns resized_sizes (contents_refusal (contents (with_units units object)) a) (changed units object objects a) (changed_turns object found)
 
     resize_turns : (found : Option DeclaredObject) → object_named name objects ≡ found → Turns resized_sizes (resized units found objects a)
     resize_turns None found = refused_turns resized_sizes (Shared NotFound)
     resize_turns (Some object) found = resize_by object found (units == object.units) refl
-
-    tests_by_found : (found : Option DeclaredObject) → units_tests units (option_map size_of_object found) ≡ resize_tests units found
-    tests_by_found None = refl
-    tests_by_found (Some object) = refl
-
-    resize_tested : units_tests units (size_named name sizes) ≡ resize_tests units (object_named name objects)
-    resize_tested = ap (units_tests units) (found_sizes (object_named name objects) refl) ∙ tests_by_found (object_named name objects)
 
   drop_turns : (found : Option DeclaredObject) → object_named name objects ≡ found → Turns (without_first (has_name name) sizes) (dropped found objects a)
   drop_turns None found = refused_turns (without_first (has_name name) sizes) (Shared NotFound)
@@ -307,7 +307,7 @@ module _ (kinds : List ObjectKind) (objects : Objects) (a : Account) (few : a.ra
   object_told : (request : ObjectRequest) → ToldObject request (request_served kinds (Some request) objects a)
   object_told (Make kind name) = make_told name (kind_named kind kinds)
   object_told (Resize name units) =
-      let turns = resize_turns objects a name units (object_named name objects) refl in (resize_tested objects a name units, turns.growth, turns.sizes_are)
+      let turns = resize_turns objects a name units (object_named name objects) refl in (resize_tested objects name units, turns.growth, turns.sizes_are)
   object_told (Drop name) = let turns = drop_turns objects a name (object_named name objects) refl in (refl, turns.growth, turns.sizes_are)
   object_told Count = (refl, refl, refl)
   object_told (CountKind kind) = let o = counted (kind_named kind kinds) objects a in let left = left_told (CountKind kind) o (counts_left (kind_named kind kinds)) in (refl, left.0, left.1)

@@ -2,6 +2,7 @@ pub mod Sizes
 pub mod Needs
 pub mod ByteTexts
 pub mod NeededAmounts
+pub mod Asked
 pub mod Metered
 pub mod Run
 pub mod SessionRuns

@@ -1,5 +1,5 @@
 -- The needs of tests, of budgets as the program has them, and what a run shows of them.
-use Rattle.std.specs.Prelude.{ℕ, List, map, max}
+use Rattle.std.specs.Prelude.{ℕ, ◌^◌, ◌-◌, List, map, max, min}
 use Rattle.own_model.specs.Account.{Account}
 use Rattle.own_model.specs.Amounts.{Amounts}
 use Rattle.budget_theorems.specs.Need.{Need, need_of, cell_by, greatest_choice}
@@ -13,6 +13,10 @@ amounts_of budget = record { ram = budget.ram; caps = budget.caps }
 -- the need of a test of these amounts on an account, which started with a budget
 abbrev pub need_in : Budget → Account → Budget → Need
 need_in start account asked = need_of (amounts_of start) account (test_of asked.ram asked.caps)
+
+-- a need as a budget, at most 2^64 - 1 of each
+abbrev pub capped : Need → Budget
+capped need = record { ram = min need.ram (2 ^ 64 - 1); caps = min need.caps (2 ^ 64 - 1) }
 
 -- ---- what a run shows
 

@@ -1,8 +1,9 @@
 //! The sizes of a session's files, by their names.
-ghost use Rattle.std.specs.Prelude.{◌≡◌, ◌<◌, ◌∷◌, ◌++◌, [], ℕ, List, find, length, position, Some, IfSome, OnOk};
+ghost use Rattle.std.specs.Prelude.{◌≡◌, ◌<◌, ◌∷◌, ◌++◌, [], ℕ, List, find, length, position, Some, IfSome, IsSome, OnOk};
 ghost use Rattle.std.specs.Option.{option_map};
 ghost use Rattle.std.specs.Str.{bytes_eq};
 ghost use Rattle.own_model.specs.FileService.{File as ModelFile, is_named, rewritten, without};
+ghost use Rattle.own_model.specs.Text.{bytes_of_hex, hex_bytes};
 ghost use Rattle.session_proto.specs.File.{HasHex, model_request};
 ghost use Rattle.budget_meter.specs.Sizes.{Keeps, new_file};
 ghost use Rattle.budget_meter.specs.RequestTests.{Changes, IsCreated, IsDone, IsWritten};
@@ -93,7 +94,7 @@ impl FileSizes {
         match request {
             FileRequest::Create(file) => self.create(alloc, file, reply)?,
             FileRequest::Write { file, offset, hex } => {
-                self.write(file, offset, hex.len() as u64 / 2, reply);
+                self.write(file, offset, byte_count(hex), reply);
             }
             FileRequest::Put {
                 file,
@@ -162,4 +163,12 @@ impl FileSizes {
             .iter()
             .position(|file| file.name.as_slice() == name)
     }
+}
+
+/// Returns the number of bytes that hexadecimal digits denote.
+pub(crate) fn byte_count(hex: &[u8]) -> u64
+    requires { IsSome (bytes_of_hex hex.now) }
+    ensures { result ≡ length (hex_bytes hex.now) }
+{
+    hex.len() as u64 / 2
 }

@@ -1,7 +1,7 @@
 //! The minimum start budget that suffices for the tests of an account.
-ghost use Rattle.std.specs.Prelude.{◌≡◌, ◌+◌, ◌^◌, ◌<◌, ◌∷◌, [], IfSome, IfNone};
+ghost use Rattle.std.specs.Prelude.{◌≡◌, ◌+◌, ◌-◌, ◌^◌, ◌<◌, ◌∷◌, [], min, IfSome, IfNone};
 ghost use Rattle.pd_core.specs.Answer.{quotas_account};
-ghost use Rattle.budget_meter.specs.Needs.{amounts_of, need_in, shown_by, shown_in, shown_of, together};
+ghost use Rattle.budget_meter.specs.Needs.{amounts_of, capped, need_in, shown_by, shown_in, shown_of, together};
 ghost use Rattle.budget_meter.specs.SessionRuns.{opening_need};
 
 use crate::budget::Budget;
@@ -51,22 +51,23 @@ impl Meter {
     }
 
     /// Returns the need of a test of `asked` on an account: the use plus `asked`, less the amount by which the limit is
-    /// above the start budget.
+    /// above the start budget. It is at most `u64::MAX` of each.
     pub fn need(&self, account: Quotas, asked: Budget) -> Budget
-        ensures ram { account.ram_used.0 + asked.ram + self.now.start.ram < 2 ^ 64
-            → result.ram ≡ (need_in self.now.start (quotas_account account) asked).ram }
-        ensures caps { account.caps_used.0 + asked.caps + self.now.start.caps < 2 ^ 64
-            → result.caps ≡ (need_in self.now.start (quotas_account account) asked).caps }
+        ensures { result ≡ capped (need_in self.now.start (quotas_account account) asked) }
     {
-        let ram = account.ram_used.0.saturating_add(asked.ram);
-        let caps = u64::from(account.caps_used.0).saturating_add(asked.caps);
         Budget {
-            ram: ram
-                .saturating_add(self.start.ram)
-                .saturating_sub(account.ram_limit.0),
-            caps: caps
-                .saturating_add(self.start.caps)
-                .saturating_sub(u64::from(account.caps_limit.0)),
+            ram: need_of(
+                account.ram_used.0,
+                asked.ram,
+                self.start.ram,
+                account.ram_limit.0,
+            ),
+            caps: need_of(
+                u64::from(account.caps_used.0),
+                asked.caps,
+                self.start.caps,
+                u64::from(account.caps_limit.0),
+            ),
         }
     }
 
@@ -94,6 +95,15 @@ impl Meter {
             self.least.caps = self.least.caps.max(self.start.caps.saturating_sub(caps));
         }
     }
+}
+
+// The least start budget of which a limit covers the use and what is asked for, at most `u64::MAX`.
+fn need_of(used: u64, asked: u64, start: u64, limit: u64) -> u64
+    ensures { result ≡ min (used + asked + start - limit) (2 ^ 64 - 1) }
+{
+    let all = u128::from(used) + u128::from(asked) + u128::from(start);
+    let need = all.saturating_sub(u128::from(limit));
+    u64::try_from(need).unwrap_or(u64::MAX)
 }
 
 // The rest of a limit after the use and what is asked for, if the limit covers both.

@@ -14,12 +14,13 @@ ghost use Rattle.own_model.specs.Sliced.{sliced_header, sliced_size};
 ghost use Rattle.own_model.specs.StartList.{Entry};
 ghost use Rattle.core_calls.specs.Call.{model_call};
 ghost use Rattle.budget_theorems.specs.Test.{arguments_tests, entry_tests, test_of, tested_where};
+ghost use Rattle.budget_meter.specs.Asked.{asked_by, block_tests, chunk_tests};
 ghost use Rattle.budget_meter.specs.NeededAmounts.{AsksAs, amount_tests, is_of_chunk};
 
 use crate::budget::Budget;
 use crate::outcomes::{is_service_denied, is_unknown_session};
 use core_calls::{Answer, Call, Outcome};
-use session_proto::{FileRequest, SessionArgs};
+use session_proto::SessionArgs;
 use trade_base::{PAGE, page_round};
 
 /// The minimum size of a large block, which is in no chunk, in bytes.
@@ -39,7 +40,9 @@ pub(crate) const NODE: u64 = 96;
 
 /// Returns the amounts that a call needs of its caller's account, if any. For a block of the heap it is the minimum chunk. A
 /// call for 0 bytes needs nothing, because it is refused with any account.
-pub fn call_amounts(call: Call<'_>) -> Option<Budget> {
+pub fn call_amounts(call: Call<'_>) -> Option<Budget>
+    ensures { amount_tests result ≡ asked_by (model_call call.entry) }
+{
     match call {
         Call::New(0) => None,
         Call::New(n) => least_chunk(n),
@@ -59,6 +62,10 @@ pub(crate) fn asked_when_told(call: Call<'_>, reply: Answer<'_>) -> Option<Budge
     ensures once { is_of_chunk (model_call call.entry) ≡ false → (entry : Entry) (s : OwnState) →
         reply.entry.text.now ≡ reply_text (entry_step entry (model_call call.entry) s).reply →
         amount_tests result ≡ entry_tests entry (model_call call.entry) s }
+    ensures asked { is_of_chunk (model_call call.entry) ≡ false →
+        bytes_eq reply.entry.text.now (refusal_name ServiceDenied) ≡ false →
+        bytes_eq reply.entry.text.now (refusal_name InvalidSession) ≡ false →
+        amount_tests result ≡ asked_by (model_call call.entry) }
 {
     match call {
         Call::Alloc(n) => whole_pages(n),
@@ -147,6 +154,8 @@ pub fn least_chunk(n: u64) -> Option<Budget>
     ensures ram { n < 65536 → IfSome result (λ asked. asked.ram ≡ page_of (block_size n)) }
     ensures caps { IfSome result (λ asked. asked.caps ≡ 1) }
     ensures small { n < 65536 → IsSome result }
+    ensures chunk { n < 65536 → amount_tests result ≡ chunk_tests n }
+    ensures asked { 0 < n → amount_tests result ≡ block_tests n }
 {
     if n >= LEAST_LARGE {
         return whole_pages(n);
@@ -154,32 +163,13 @@ pub fn least_chunk(n: u64) -> Option<Budget>
     whole_pages(LEAST_BLOCK.max(HEADER + (n + 15) / 16 * 16))
 }
 
-/// Returns the name of the file whose content a request may lengthen.
-pub(crate) fn file_written<'a>(request: FileRequest<'a>) -> Option<&'a [u8]> {
-    match request {
-        FileRequest::Write { file, .. } | FileRequest::Put { file, .. } => Some(file),
-        _ => None,
-    }
-}
-
-/// Returns the amounts that a request needs of its session's account, if the file that it writes has `size` bytes.
-pub(crate) fn request_amounts(request: FileRequest<'_>, size: u64) -> Option<Budget> {
-    match request {
-        FileRequest::Create(_) => least_chunk(NODE),
-        FileRequest::Write { offset, hex, .. } => {
-            longer(size, offset.saturating_add(hex.len() as u64 / 2))
-        }
-        FileRequest::Put { offset, len, .. } => longer(size, offset.saturating_add(len)),
-        FileRequest::Buffer(n) => whole_pages(n),
-        _ => None,
-    }
-}
-
 /// Returns the amounts for a content of `end` bytes, if it is longer than the old one of `size` bytes. Both are capped at 64
 /// bits.
 pub(crate) fn longer(size: u64, end: u64) -> Option<Budget>
-    ensures { (n : ℕ) → end ≡ min n (2 ^ 64 - 1) →
+    ensures shown { (n : ℕ) → end ≡ min n (2 ^ 64 - 1) →
         AsksAs result (tested_where (nat_lt size n) (test_of (sliced_size n) 1)) }
+    ensures asked { (n : ℕ) → end ≡ min n (2 ^ 64 - 1) → amount_tests result
+        ≡ tested_where (nat_lt size n && is_valid_size (sliced_header + n)) (test_of (sliced_size n) 1) }
 {
     if end <= size {
         return None;

@@ -1,10 +1,14 @@
 //! The tests of the requests of a session of objects.
-ghost use Rattle.std.specs.Prelude.{◌≡◌, [], false, Some, if◌then◌else◌};
+ghost use Rattle.std.specs.Prelude.{◌≡◌, [], false, List, Some, if◌then◌else◌};
 ghost use Rattle.std.specs.Option.{option_copied};
 ghost use Rattle.own_model.specs.Growth.{Shape};
 ghost use Rattle.pd_core.specs.Answer.{quotas_account};
 ghost use Rattle.session_proto.specs.Objects.{model_request};
+ghost use Rattle.own_model.specs.ObjectKinds.{ObjectKind as ModelKind};
+ghost use Rattle.own_model.specs.ObjectService.{Objects};
+ghost use Rattle.budget_meter.specs.Asked.{holding_asked};
 ghost use Rattle.budget_meter.specs.NeededAmounts.{amount_tests};
+ghost use Rattle.budget_meter.specs.ObjectSizes.{known_of};
 ghost use Rattle.budget_meter.specs.Needs.{amounts_of, shown_in, shown_of, together};
 ghost use Rattle.budget_meter.specs.ObjectTests.{is_make, kind_growth, kind_tests, object_growth, object_tests};
 ghost use Rattle.budget_meter.specs.RequestTests.{shows_charge};
@@ -60,7 +64,10 @@ pub(crate) fn take_object_request(
 }
 
 /// Returns the amounts that a request of objects needs of its session's account.
-pub(crate) fn object_amounts(objects: &ObjectSizes, request: ObjectRequest<'_>) -> Option<Budget> {
+pub(crate) fn object_amounts(objects: &ObjectSizes, request: ObjectRequest<'_>) -> Option<Budget>
+    ensures { (kinds : List ModelKind) (stored : Objects) → objects.now ≡ known_of kinds stored →
+        amount_tests result ≡ holding_asked kinds (Some (model_request request.entry)) stored }
+{
     match request {
         ObjectRequest::Make { kind, .. } => least_chunk(u64::from(objects.kind(kind)?.block())),
         ObjectRequest::Resize { name, units } => objects.resized(name, units),

@@ -13,20 +13,21 @@ ghost use Rattle.budget_theorems.specs.RequestTheorems.{Reaches, session_run};
 ghost use Rattle.budget_theorems.specs.RequestTheorems.Reaches.{Raised};
 ghost use Rattle.budget_theorems.specs.Request.{write_tests};
 ghost use Rattle.own_model.specs.FileService.{file_named};
-ghost use Rattle.budget_meter.specs.NeededAmounts.{AsksAs, is_create};
+ghost use Rattle.budget_meter.specs.Asked.{asked_in, content_asked, filing_asked};
+ghost use Rattle.budget_meter.specs.NeededAmounts.{AsksAs, amount_tests, is_create};
 ghost use Rattle.budget_meter.specs.Needs.{amounts_of, shown_in, shown_of, together};
 ghost use Rattle.budget_meter.specs.SessionRuns.{Sent};
 ghost use Rattle.budget_meter.specs.SessionRuns.Sent.{Asks, Raises};
 ghost use Rattle.budget_meter.specs.ObjectSizes.{new_known};
-ghost use Rattle.budget_meter.specs.Sessions.{HasReached, IsLeft, IsServedBy, Observes, Shows};
+ghost use Rattle.budget_meter.specs.Sessions.{HasReached, IsAt, IsLeft, IsServedBy, Observes, Shows};
 ghost use Rattle.budget_meter.specs.Sizes.{Keeps};
 ghost use Rattle.budget_meter.specs.RequestTests.{growth_by_reply, tests_by_reply};
 
 use crate::budget::Budget;
-use crate::file_sizes::FileSizes;
+use crate::file_sizes::{FileSizes, byte_count};
 use crate::growth::{FIRST_PAGES, take_growth};
 use crate::meter::{Meter, limits_of};
-use crate::needed_amounts::{NODE, file_written, longer, request_amounts, whole_pages};
+use crate::needed_amounts::{NODE, least_chunk, longer, whole_pages};
 use crate::object_requests::{ServedRequest, object_amounts, take_object_request};
 use crate::object_sizes::ObjectSizes;
 use crate::outcomes::{is_granted, is_short, shows_charge};
@@ -83,14 +84,35 @@ impl SessionMeter {
 
     /// Returns the amounts that a request needs of the session's account, by the size of the file that it writes, or by the
     /// object that it creates or resizes.
-    pub fn asked(&self, request: &[u8]) -> Option<Budget> {
-        if let Some(objects) = &self.objects {
-            return object_amounts(objects, ObjectRequest::read(request)?);
+    pub fn asked(&self, request: &[u8]) -> Option<Budget>
+        ensures { (session : Session) → IsAt self.now session →
+            amount_tests result ≡ asked_in session.state request.now }
+    {
+        match &self.objects {
+            Some(objects) => object_amounts(objects, ObjectRequest::read(request)?),
+            None => self.file_amounts(FileRequest::read(request)?),
         }
-        let request = FileRequest::read(request)?;
-        match file_written(request) {
-            Some(file) => request_amounts(request, self.sizes.size(file)?),
-            None => request_amounts(request, 0),
+    }
+
+    // Returns the amounts that a request of files needs.
+    fn file_amounts(&self, request: FileRequest<'_>) -> Option<Budget>
+        requires { HasHex request }
+        ensures { (files : Files) → Keeps self.now.sizes files.files →
+            amount_tests result ≡ filing_asked (Some (model_request request.entry)) files }
+    {
+        match request {
+            FileRequest::Create(_) => least_chunk(NODE),
+            FileRequest::Write { file, offset, hex } => {
+                self.content(file, offset, byte_count(hex))
+            }
+            FileRequest::Put {
+                file,
+                offset,
+                len,
+                ..
+            } => self.content(file, offset, len),
+            FileRequest::Buffer(n) => whole_pages(n),
+            _ => None,
         }
     }
 
@@ -252,7 +274,7 @@ impl SessionMeter {
     {
         match request {
             FileRequest::Write { file, offset, hex } => {
-                self.content(file, offset, hex.len() as u64 / 2)
+                self.content(file, offset, byte_count(hex))
             }
             FileRequest::Put {
                 file,
@@ -279,8 +301,10 @@ impl SessionMeter {
 
     // The amounts for `count` bytes of a file from an offset on, if they lengthen the file.
     fn content(&self, file: &[u8], offset: u64, count: u64) -> Option<Budget>
-        ensures { (files : Files) → Keeps self.now.sizes files.files →
+        ensures shown { (files : Files) → Keeps self.now.sizes files.files →
             AsksAs result (write_tests offset count (file_named file.now files)) }
+        ensures asked { (files : Files) → Keeps self.now.sizes files.files →
+            amount_tests result ≡ content_asked offset count file.now files }
     {
         let size = self.sizes.size(file)?;
         if size < offset {
