@@ -19,8 +19,8 @@ use Rattle.own_model.specs.Session.{Session, Wish, Served, served, upgraded, new
 use Rattle.own_model.specs.SessionArgs.{Arguments}
 use Rattle.own_model.specs.Table.{lacks_ram, lacks_caps}
 use Rattle.budget_search.specs.OpenedSessions.{held, is_too_small}
-use Rattle.budget_search.specs.ShortRequests.{donated_shortage, refused_line, short_opening}
-use Rattle.budget_search.specs.declared.trial.RefusedLine.{RefusedLine}
+use Rattle.budget_search.specs.RunLines.{RunLines, ended_by}
+use Rattle.budget_search.specs.SessionLines.{donated_shortage, lines_opening, refused_line}
 
 -- its buffer as it has it
 abbrev pub named_of : Option (List ℕ) → Option NamedBuffer
@@ -159,7 +159,7 @@ module _ (s : OwnState) (none : s.selectors ≡ map.empty) (wish : Wish) where
   pub record TooSmall (small : Option Refusal) (o : Outcome) : Type 0 where
     pub few : is_some small ≡ true
     pub is : o.next ≡ s
-    pub shows : (line : ℕ) (rest : Option RefusedLine) → refused_line line (donated_shortage (reply_text o.reply)) ≡ short_opening line small rest
+    pub shows : (line : ℕ) (rest : RunLines) → ended_by (refused_line line (donated_shortage (reply_text o.reply))) ≡ lines_opening line small rest
 
   small_by : (u v x y : Bool) → is_some (session_named (get (opening u v (cond x (Some InsufficientRamQuota) (cond y (Some InsufficientCapQuota) None))).next.selectors 1)) ≡ false →
       is_too_small (reply_text (opening u v (cond x (Some InsufficientRamQuota) (cond y (Some InsufficientCapQuota) None))).reply) ≡ true →

@@ -5,8 +5,8 @@ pub mod RowLemmas
 pub mod OrderLemmas
 pub mod GapLemmas
 pub mod SafeLemmas
-pub mod ShortLineLemmas
-pub mod ShortRequestLemmas
+pub mod OwnLineLemmas
+pub mod SessionLineLemmas
 pub mod RunLemmas
 pub mod AlikeLemmas
 pub mod HeldLemmas

@@ -26,14 +26,17 @@ use Rattle.budget_meter.specs.Metered.{HasObserved, HasReply, is_script}
 use Rattle.budget_meter.specs.Run.{IsLeft, Shows}
 use Rattle.budget_meter.specs.declared.account.AccountMeter.{AccountMeter}
 use Rattle.budget_meter.specs.declared.meter.Meter.{Meter}
-use Rattle.budget_search.proofs.ShortLineLemmas.{wanted_shown}
-use Rattle.budget_search.specs.Run.{Begins, HasFirstShort, HasLeft}
-use Rattle.budget_search.specs.ShortLines.{quota_short, shown_short, short_by}
+use Rattle.budget_search.proofs.OwnLineLemmas.{preceded_ended, wanted_shown}
+use Rattle.budget_search.specs.Run.{Begins, HasLeft, HasLinesLeft}
+use Rattle.budget_search.specs.OwnLines.{lines_by, quota_short, shown_short}
+use Rattle.budget_search.specs.RunLines.{RunLines, ended_by, preceded}
 use Rattle.budget_search.specs.Steps.{calls_of, calls_with, call_of}
 use Rattle.budget_search.specs.declared.component_line.ComponentLine.{ComponentLine}
 use Rattle.budget_search.specs.declared.trial.RefusedLine.{RefusedLine}
+use Rattle.budget_search.specs.declared.trial.SkippedLine.{SkippedLine}
 
-by_script : (kind : Kind) (init own : Account) → kind ≡ Script → account_by kind init own ≡ own
+-- the account of a script is its own
+pub by_script : (kind : Kind) (init own : Account) → kind ≡ Script → account_by kind init own ≡ own
 by_script kind init own is = ap (λ k. account_by k init own) is
 
 module _ (world after : World) (component : ℕ) (call : Call) (reply : List ℕ) (account : Quotas)
@@ -77,9 +80,9 @@ module _ (world after : World) (component : ℕ) (call : Call) (reply : List ℕ
         (subst (λ t. IsLeft entry calls rest budget s t new) (sym (stands before.there)) (follows before.left (is_told before.script before.there)));
   }
 
-  -- the first line that is short of quota, with this call before the rest
-  module _ (old : AccountMeter) (line : ℕ) (rest : OwnState → Option RefusedLine) (first : Option RefusedLine)
-      (before : HasFirstShort world component old (short_by entry line call rest) first) where
+  -- the lines that the run shows, with this call before the rest
+  module _ (old : AccountMeter) (so_far : List SkippedLine) (line : ℕ) (rest : OwnState → RunLines) (whole : RunLines)
+      (before : HasLinesLeft world component old so_far (lines_by entry line call rest) whole) where
     -- the observed calls and this one
     abbrev these : List Call
     these = before.heard ++ call ∷ []
@@ -90,26 +93,31 @@ module _ (world after : World) (component : ℕ) (call : Call) (reply : List ℕ
     abbrev is_wanted : Bool
     is_wanted = wants call (own_step entry call now).reply
 
-    chosen : (w : Bool) → is_wanted ≡ w → (if w then Some (record { line = line; shortage = quota_short (own_step entry call now).reply }) else rest next) ≡ first
-    chosen w is =
-        sym (ap (λ b. if b then Some (record { line = line; shortage = quota_short (own_step entry call now).reply }) else rest next) is)
-        ∙ before.first_is
+    -- the line of this call
+    abbrev this_line : Option RefusedLine
+    this_line = Some (record { line = line; shortage = quota_short (own_step entry call now).reply })
 
-    -- a call that is short of quota is that of the first line
-    pub is_first : (new : Meter) → (IsLeft entry these (call ∷ []) before.budget before.s now old → HasReply reply account (own_step entry call now) →
+    chosen : (w : Bool) → is_wanted ≡ w → preceded so_far (if w then ended_by this_line else rest next) ≡ whole
+    chosen w is = ap (λ b. preceded so_far (if b then ended_by this_line else rest next)) (sym is) ∙ before.whole_is
+
+    -- a call that is short of quota is that of the last line
+    pub is_last : (new : Meter) → (IsLeft entry these (call ∷ []) before.budget before.s now old → HasReply reply account (own_step entry call now) →
         Shows entry these before.s before.budget true new) →
-        Some (record { line = line; shortage = shown_short reply }) ≡ first
-    is_first new ends =
+        record { left_out = so_far; refused = Some (record { line = line; shortage = shown_short reply }) } ≡ whole
+    is_last new ends =
         let is = sym (or-false is_wanted) ∙ sym ((ends alone.left (is_told alone.script alone.there)).want ∙ alone.left.want) in
-        ap (λ text. Some (record { line = line; shortage = shown_short text })) told
-        ∙ sym (ap (λ shortage. Some (record { line = line; shortage = shortage })) (wanted_shown call (own_step entry call now).reply is))
+        ap (λ text. record { left_out = so_far; refused = Some (record { line = line; shortage = shown_short text }) }) told
+        ∙ sym
+        (ap (λ shortage. record { left_out = so_far; refused = Some (record { line = line; shortage = shortage }) })
+        (wanted_shown call (own_step entry call now).reply is))
+        ∙ sym (preceded_ended so_far this_line)
         ∙ chosen true is
 
-    -- and if it isn't, the first line is one of the rest
+    -- and if it isn't, the rest shows its lines
     pub is_later : (new : AccountMeter) →
         ((calls more : List Call) (budget : Amounts) (s : OwnState) → IsLeft entry calls (call ∷ more) budget s now old →
         HasReply reply account (own_step entry call now) → IsLeft entry calls more budget s next new) →
-        HasFirstShort after component new rest first
+        HasLinesLeft after component new so_far rest whole
     is_later new follows =
         let after_this = follows these [] before.budget before.s alone.left (is_told alone.script alone.there) in
         let is = sym (or-false is_wanted) ∙ sym alone.left.want ∙ after_this.want in
@@ -121,7 +129,7 @@ module _ (world after : World) (component : ℕ) (call : Call) (reply : List ℕ
               subst (λ each. HasLeft after component new each more before.budget before.s) (sym (append_assoc before.heard (call ∷ []) more))
               (one_less old new (before.heard ++ call ∷ more) more before.budget before.s (before.left (call ∷ more))
               (follows (before.heard ++ call ∷ more) more before.budget before.s));
-          first_is = ap rest (stands alone.there) ∙ chosen false is;
+          whole_is = ap (λ t. preceded so_far (rest t)) (stands alone.there) ∙ chosen false is;
         }
 
 -- ---- before the first call

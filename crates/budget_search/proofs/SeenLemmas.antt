@@ -14,13 +14,13 @@ use Rattle.budget_theorems.specs.Need.{budgeted}
 use Rattle.budget_theorems.specs.Request.{donating}
 use Rattle.budget_meter.specs.SessionRuns.{Sent, opened_in_want}
 use Rattle.budget_search.specs.Alike.{own_entry, own_state}
-use Rattle.budget_search.specs.BudgetIntervals.{lowest_of, safe_of, HasShortfalls}
+use Rattle.budget_search.specs.BudgetIntervals.{lowest_of, safe_of, HasRunLines}
 use Rattle.budget_search.specs.OpenedSessions.{opened_by, opened_with, sends, sent_at, sent_by, suffices_of, AreExactOf}
 use Rattle.budget_search.specs.ReachedSessions.{Followed, Reach, ReachBy, Reached, Sessions}
 use Rattle.budget_search.specs.SessionAccounts.{most_for, AreCounted, AreSessionAccounts, IsAccountOf}
-use Rattle.budget_search.specs.ShortLines.{short_as, short_as_written, short_line_with, short_with}
-use Rattle.budget_search.specs.ShortRequests.{FirstShort, short_at, short_call, short_opening, short_session, short_step}
-use Rattle.budget_search.specs.Steps.{call_of, call_said, call_written, number_at, with_args}
+use Rattle.budget_search.specs.OwnLines.{lines_as, lines_as_written, lines_from, lines_with}
+use Rattle.budget_search.specs.SessionLines.{LinesAfter, lines_at, lines_calling, lines_opening, lines_step, session_lines}
+use Rattle.budget_search.specs.Steps.{Mark, call_of, call_said, call_written, mark_of, number_at, with_args}
 use Rattle.budget_search.specs.Sufficient.{HasLeast, HasSafe}
 use Rattle.budget_search.specs.declared.account_budgets.AccountBudgets.{AccountBudgets}
 use Rattle.budget_search.specs.declared.account_budgets.SessionKey.{SessionKey}
@@ -28,12 +28,11 @@ use Rattle.budget_search.specs.declared.component_line.ComponentLine.{ComponentL
 
 -- a line without what is set for it
 pub record Seen : Type 0 where
-  pub number : ℕ
-  pub left_out : Bool
+  pub mark : Mark
   pub text : List ℕ
 
 abbrev pub seen : ComponentLine → Seen
-seen step = record { number = step.number; left_out = step.is_left_out; text = step.line.items }
+seen step = record { mark = mark_of step; text = step.line.items }
 
 -- ---- the run
 
@@ -51,7 +50,7 @@ reach_still [] [] same place old end reach = reach
 reach_still [] (other ∷ others) same place old end reach = absurd (cc)
 reach_still (one ∷ steps) [] same place old end reach = absurd (cc)
 reach_still (one ∷ steps) (other ∷ others) same place old end reach =
-    subst (λ (line : Seen). ReachBy line.left_out (call_said line.text) place (λ next. Reach others (place + 1) next end) old end) (first_seen one other steps others same)
+    subst (λ (line : Seen). ReachBy line.mark.left_out (call_said line.text) place (λ next. Reach others (place + 1) next end) old end) (first_seen one other steps others same)
     (go_on one.is_left_out (call_said one.line.items) place (λ next. Reach steps (place + 1) next end) (λ next. Reach others (place + 1) next end) old end
     (λ next. reach_still steps others (ap (drop 1) same) (place + 1) next end) reach)
 
@@ -59,7 +58,7 @@ reach_still (one ∷ steps) (other ∷ others) same place old end reach =
 
 abbrev sent_seen : Option Seen → List Sent → List Sent
 sent_seen None rest = rest
-sent_seen (Some line) rest = sends line.left_out (call_said line.text) rest
+sent_seen (Some line) rest = sends line.mark.left_out (call_said line.text) rest
 
 sent_by_seen : (step : Option ComponentLine) (rest : List Sent) → sent_by step rest ≡ sent_seen (option_map seen step) rest
 sent_by_seen None rest = refl
@@ -73,15 +72,15 @@ opened_with_seen : (entry : Entry) (step : Option ComponentLine) → opened_with
 opened_with_seen entry None = refl
 opened_with_seen entry (Some step) = refl
 
-abbrev short_seen : Option Seen → FirstShort → FirstShort
-short_seen None rest = rest
-short_seen (Some line) rest = short_call line.number line.left_out (call_said line.text) rest
+abbrev lines_seen : Amounts → Option Seen → LinesAfter → LinesAfter
+lines_seen donation None rest = rest
+lines_seen donation (Some line) rest = lines_calling donation line.mark (call_said line.text) rest
 
-short_by_seen : (step : Option ComponentLine) (rest : FirstShort) → short_step step rest ≡ short_seen (option_map seen step) rest
-short_by_seen None rest = refl
-short_by_seen (Some step) rest = refl
+lines_step_seen : (donation : Amounts) (step : Option ComponentLine) (rest : LinesAfter) → lines_step donation step rest ≡ lines_seen donation (option_map seen step) rest
+lines_step_seen donation None rest = refl
+lines_step_seen donation (Some step) rest = refl
 
-number_seen : (step : Option ComponentLine) → option_map_or (λ (line : ComponentLine). line.number) step 0 ≡ option_map_or (λ (line : Seen). line.number) (option_map seen step) 0
+number_seen : (step : Option ComponentLine) → option_map_or (λ (line : ComponentLine). line.number) step 0 ≡ option_map_or (λ (line : Seen). line.mark.number) (option_map seen step) 0
 number_seen None = refl
 number_seen (Some step) = refl
 
@@ -90,7 +89,7 @@ module _ (steps others : List ComponentLine) (same : map seen steps ≡ map seen
   at place = sym (slice_get-map seen steps place) ∙ ap (λ lines. slice_get lines place) same ∙ slice_get-map seen others place
 
   number_same : (place : ℕ) → number_at steps place ≡ number_at others place
-  number_same place = number_seen (slice_get steps place) ∙ ap (λ o. option_map_or (λ (line : Seen). line.number) o 0) (at place) ∙ sym (number_seen (slice_get others place))
+  number_same place = number_seen (slice_get steps place) ∙ ap (λ o. option_map_or (λ (line : Seen). line.mark.number) o 0) (at place) ∙ sym (number_seen (slice_get others place))
 
   opened_same : (entry : Entry) (place : ℕ) → opened_with entry (slice_get steps place) ≡ opened_with entry (slice_get others place)
   opened_same entry place = opened_with_seen entry (slice_get steps place) ∙ ap (opened_seen entry) (at place) ∙ sym (opened_with_seen entry (slice_get others place))
@@ -100,14 +99,16 @@ module _ (steps others : List ComponentLine) (same : map seen steps ≡ map seen
   sent_same (place ∷ places) =
       sent_by_seen (slice_get steps place) (sent_at steps places) ∙ (λ i. sent_seen (at place i) (sent_same places i)) ∙ sym (sent_by_seen (slice_get others place) (sent_at others places))
 
-  short_same : (places : List ℕ) → short_at steps places ≡ short_at others places
-  short_same [] = refl
-  short_same (place ∷ places) =
-      short_by_seen (slice_get steps place) (short_at steps places) ∙ (λ i. short_seen (at place i) (short_same places i)) ∙ sym (short_by_seen (slice_get others place) (short_at others places))
+  lines_same : (donation : Amounts) (places : List ℕ) → lines_at donation steps places ≡ lines_at donation others places
+  lines_same donation [] = refl
+  lines_same donation (place ∷ places) =
+      lines_step_seen donation (slice_get steps place) (lines_at donation steps places)
+      ∙ (λ i. lines_seen donation (at place i) (lines_same donation places i))
+      ∙ sym (lines_step_seen donation (slice_get others place) (lines_at donation others places))
 
-  session_same : (one : Reached) (session : Session) → short_session steps one.opening one.places session ≡ short_session others one.opening one.places session
+  session_same : (one : Reached) (session : Session) → session_lines steps one.opening one.places session ≡ session_lines others one.opening one.places session
   session_same one session = λ i donation.
-      short_opening (number_same one.opening i) (too_small donation.ram donation.caps) (short_same one.places i None (donating donation session))
+      lines_opening (number_same one.opening i) (too_small donation.ram donation.caps) (lines_same donation one.places i None (donating donation session))
 
   -- ---- accounts
 
@@ -127,8 +128,8 @@ module _ (steps others : List ComponentLine) (same : map seen steps ≡ map seen
         exact = subst (λ s. AreExactOf s is.session most.caps most.ram account.found.rows.items) sent is.exact;
         least = subst (λ s. HasLeast (suffices_of s is.session) most (lowest_of account.found.rows.items)) sent is.least;
         safe = subst (λ s. HasSafe (suffices_of s is.session) most (safe_of account.found.rows.items)) sent is.safe;
-        line = is.line ∙ ap (λ short. short one.donation) (session_same one is.session);
-        shortfalls = subst (λ short. HasShortfalls short most account.found) (session_same one is.session) is.shortfalls;
+        line = is.line ∙ ap (λ lines. (lines one.donation).refused) (session_same one is.session);
+        lines = subst (λ lines. HasRunLines lines most account.found) (session_same one is.session) is.lines;
       }
     where
       key_of : ℕ → SessionKey
@@ -155,20 +156,20 @@ accounts_still list component steps others same accounts are = record {
   counted = counted_still steps others same list component are.opened [] accounts are.counted;
 }
 
--- ---- the line that is short of quota in a script's own run, as the scenario writes its lines
+-- ---- what a script's own run shows of its lines, as the scenario writes them
 
-written_seen : (entry : Entry) (steps others : List ComponentLine) → map seen steps ≡ map seen others → (s : OwnState) →
-    short_as call_written entry steps s ≡ short_as call_written entry others s
-written_seen entry [] [] same s = refl
-written_seen entry [] (other ∷ others) same s = absurd (cc)
-written_seen entry (one ∷ steps) [] same s = absurd (cc)
-written_seen entry (one ∷ steps) (other ∷ others) same s = λ i.
-    (λ (line : Seen). short_with entry line.left_out line.number (call_said line.text) (λ next. written_seen entry steps others (ap (drop 1) same) next i) s)
+written_seen : (entry : Entry) (budget : Amounts) (steps others : List ComponentLine) → map seen steps ≡ map seen others → (s : OwnState) →
+    lines_as call_written entry budget steps s ≡ lines_as call_written entry budget others s
+written_seen entry budget [] [] same s = refl
+written_seen entry budget [] (other ∷ others) same s = absurd (cc)
+written_seen entry budget (one ∷ steps) [] same s = absurd (cc)
+written_seen entry budget (one ∷ steps) (other ∷ others) same s = λ i.
+    (λ (line : Seen). lines_with entry budget line.mark (call_said line.text) (λ next. written_seen entry budget steps others (ap (drop 1) same) next i) s)
     (first_seen one other steps others same i)
 
 pub written_still : (list : Listed) (component : ℕ) (steps others : List ComponentLine) → map seen steps ≡ map seen others → (budget : Amounts) →
-    short_as_written list component steps budget ≡ short_as_written list component others budget
-written_still list component steps others same budget = written_seen (own_entry list component) steps others same (budgeted budget (own_state list component))
+    lines_as_written list component steps budget ≡ lines_as_written list component others budget
+written_still list component steps others same budget = written_seen (own_entry list component) budget steps others same (budgeted budget (own_state list component))
 
 -- lines with no other arguments make the calls that are written
 said_same : (said : Option Call) → option_map (with_args None) said ≡ said
@@ -178,11 +179,12 @@ said_same (Some call) = refl
 unset_call : (step : ComponentLine) → step.args ≡ None → call_of step ≡ call_written step
 unset_call step none = ap (λ args. option_map (with_args (option_map (λ a. a.items) args)) (call_said step.line.items)) none ∙ said_same (call_said step.line.items)
 
-unset_lines : (entry : Entry) (steps : List ComponentLine) → AllByRecursion (λ step. step.args ≡ None) steps → (s : OwnState) →
-    short_as call_of entry steps s ≡ short_as call_written entry steps s
-unset_lines entry [] unset s = refl
-unset_lines entry (step ∷ steps) unset s = λ i. short_with entry step.is_left_out step.number (unset_call step unset.0 i) (λ next. unset_lines entry steps unset.1 next i) s
+unset_lines : (entry : Entry) (budget : Amounts) (steps : List ComponentLine) → AllByRecursion (λ step. step.args ≡ None) steps → (s : OwnState) →
+    lines_as call_of entry budget steps s ≡ lines_as call_written entry budget steps s
+unset_lines entry budget [] unset s = refl
+unset_lines entry budget (step ∷ steps) unset s = λ i.
+    lines_with entry budget (mark_of step) (unset_call step unset.0 i) (λ next. unset_lines entry budget steps unset.1 next i) s
 
 pub as_written : (list : Listed) (component : ℕ) (steps : List ComponentLine) → AllByRecursion (λ step. step.args ≡ None) steps → (budget : Amounts) →
-    short_line_with list component steps budget ≡ short_as_written list component steps budget
-as_written list component steps unset budget = unset_lines (own_entry list component) steps unset (budgeted budget (own_state list component))
+    lines_from list component steps budget ≡ lines_as_written list component steps budget
+as_written list component steps unset budget = unset_lines (own_entry list component) budget steps unset (budgeted budget (own_state list component))

@@ -38,10 +38,10 @@ use Rattle.budget_meter.specs.declared.budget.Budget.{Budget}
 use Rattle.budget_meter.specs.declared.session.SessionMeter.{SessionMeter}
 use Rattle.budget_search.specs.BudgetIntervals.{IsRun}
 use Rattle.budget_search.specs.OpenedSessions.{HasEnded, HasLeft, HasSelectors, IsReady, held, made_by, sent_at, sent_by, is_too_small}
-use Rattle.budget_search.specs.ShortRequests.{donated_shortage, refused_line, short_opening}
+use Rattle.budget_search.specs.RunLines.{RunLines, ended_by}
+use Rattle.budget_search.specs.SessionLines.{donated_shortage, lines_opening, refused_line}
 use Rattle.budget_search.specs.declared.component_line.ComponentLine.{ComponentLine}
 use Rattle.budget_search.specs.declared.trial.BudgetTrial.{BudgetTrial}
-use Rattle.budget_search.specs.declared.trial.RefusedLine.{RefusedLine}
 use Rattle.budget_search.proofs.HeldLemmas.{named_of, bytes_back, named_there, called, called_has, closed, closed_has, raised, raised_has, opens, opened_has, small_told}
 
 -- ---- one call
@@ -343,7 +343,7 @@ module _ (world after : World) (client : ℕ) (service text reply : List ℕ) (t
   pub record HasNot : Type 0 where
     pub small : is_some (too_small w.ram w.caps) ≡ true
     pub still : IsReady after client
-    pub shows : (line : ℕ) (rest : Option RefusedLine) → refused_line line (donated_shortage reply) ≡ short_opening line (too_small w.ram w.caps) rest
+    pub shows : (line : ℕ) (rest : RunLines) → ended_by (refused_line line (donated_shortage reply)) ≡ lines_opening line (too_small w.ram w.caps) rest
 
   pub was_not : None ≡ option_map (λ (x : Session). x.account) (session_named (get (state_at after.states client).selectors 1)) → is_too_small reply ≡ true → HasNot
   was_not out small =
@@ -353,7 +353,7 @@ module _ (world after : World) (client : ℕ) (service text reply : List ℕ) (t
         small = so.few;
         still = moved world after client opening reply told stepped map.empty ready map.empty (ap (λ x. x.gone) left ∙ ready.here) (ap (λ x. x.selectors) left ∙ ready.selectors);
         shows = λ line rest.
-            ap (λ text. refused_line line (donated_shortage text)) (told ∙ ap (λ (x : Outcome). reply_text x.reply) enters) ∙ so.shows line rest;
+            ap (λ text. ended_by (refused_line line (donated_shortage text))) (told ∙ ap (λ (x : Outcome). reply_text x.reply) enters) ∙ so.shows line rest;
       }
 
 -- ---- the run

@@ -7,6 +7,7 @@ use Rattle.list_parser.specs.declared.fault.BootFault.{BootFault}
 use Rattle.budget_theorems.specs.Need.{Need, IsBelow}
 use Rattle.budget_theorems.specs.Intervals.{is_covered, stretches}
 use Rattle.budget_meter.specs.Needs.{shown_by, shown_in}
+use Rattle.budget_search.specs.RunLines.{RunLines}
 use Rattle.budget_search.specs.declared.budget_intervals.BudgetChoice.{BudgetChoice}
 use Rattle.budget_search.specs.declared.budget_intervals.BudgetChoice.TheVariants.{Minimum, Safe}
 use Rattle.budget_search.specs.declared.budget_intervals.BudgetGap.{BudgetGap}
@@ -16,6 +17,7 @@ use Rattle.budget_search.specs.declared.budget_intervals.Likeness.{Likeness}
 use Rattle.budget_search.specs.declared.budget_intervals.Likeness.TheVariants.{Same, Mixed, Other}
 use Rattle.budget_search.specs.declared.trial.BudgetTrial.{BudgetTrial}
 use Rattle.budget_search.specs.declared.trial.RefusedLine.{RefusedLine}
+use Rattle.budget_search.specs.declared.trial.SkippedLine.{SkippedLine}
 
 -- a number is below another, if there is one
 abbrev pub is_below : ℕ → Option ℕ → Bool
@@ -153,7 +155,7 @@ pub record Follows (each : Amounts → List Need) (want : Amounts → Bool) (cap
   pub covers : (budget : Amounts) → budget.ram ≤ top → (runs : ℕ) →
       covered_with each want caps new runs next budget ≡ covered_with each want caps old (suc runs) (Some ram) budget
 
--- ---- the lines that are short of quota
+-- ---- the lines that runs show
 
 -- the highest RAM has this line that is short of quota: either it is known, or the run from that RAM is still to come
 pub data HasHighest (ram top : ℕ) (told known : Option RefusedLine) : Type 0 where
@@ -162,22 +164,29 @@ pub data HasHighest (ram top : ℕ) (told known : Option RefusedLine) : Type 0 w
 
 -- between the end of an interval and the next one is a gap, if that begins above the end: it has the line that is short of quota
 -- directly below the next one
-abbrev pub gap_before : (Amounts → Option RefusedLine) → ℕ → ℕ → BudgetInterval → List BudgetGap → List BudgetGap
-gap_before short caps end row rest =
+abbrev pub gap_before : (Amounts → RunLines) → ℕ → ℕ → BudgetInterval → List BudgetGap → List BudgetGap
+gap_before lines caps end row rest =
     if nat_lt end row.ram_from
-    then record { ram_from = end; ram_below = row.ram_from; refused = short (record { ram = row.ram_from - 1; caps = caps }) } ∷ rest
+    then record { ram_from = end; ram_below = row.ram_from; refused = (lines (record { ram = row.ram_from - 1; caps = caps })).refused } ∷ rest
     else rest
 
 -- the gaps between intervals, from the lowest RAM on, after an interval with this end; before the first one there is none
-abbrev pub gaps_after : (Amounts → Option RefusedLine) → ℕ → Option ℕ → List BudgetInterval → List BudgetGap
-gaps_after short caps end [] = []
-gaps_after short caps None (row ∷ rows) = gaps_after short caps row.ram_below rows
-gaps_after short caps (Some end) (row ∷ rows) = gap_before short caps end row (gaps_after short caps row.ram_below rows)
+abbrev pub gaps_after : (Amounts → RunLines) → ℕ → Option ℕ → List BudgetInterval → List BudgetGap
+gaps_after lines caps end [] = []
+gaps_after lines caps None (row ∷ rows) = gaps_after lines caps row.ram_below rows
+gaps_after lines caps (Some end) (row ∷ rows) = gap_before lines caps end row (gaps_after lines caps row.ram_below rows)
 
--- what is found has the line that is short of quota with the most, if there is one, and the gaps between the intervals
-pub record HasShortfalls (short : Amounts → Option RefusedLine) (most : Amounts) (found : BudgetIntervals) : Type 0 where
-  pub highest : found.refused ≡ short most
-  pub gaps : found.holes.items ≡ gaps_after short most.caps None found.rows.items
+-- the lines that are left out with the RAM of the minimum and so many capabilities; without a minimum there are none
+abbrev pub left_out_at : (Amounts → RunLines) → ℕ → Option Amounts → List SkippedLine
+left_out_at lines caps None = []
+left_out_at lines caps (Some least) = (lines (record { ram = least.ram; caps = caps })).left_out
+
+-- what is found has the lines that runs show: the one that is short of quota with the most, if there is one, those of the gaps
+-- between the intervals, and those that are left out with the RAM of the minimum
+pub record HasRunLines (lines : Amounts → RunLines) (most : Amounts) (found : BudgetIntervals) : Type 0 where
+  pub highest : found.refused ≡ (lines most).refused
+  pub gaps : found.holes.items ≡ gaps_after lines most.caps None found.rows.items
+  pub left_out : found.left_out.items ≡ left_out_at lines most.caps (lowest_of found.rows.items)
 
 -- a run from no more than this RAM has this error
 pub record FailsWithin (fails : ℕ → BootFault → Type 0) (top : ℕ) (fault : BootFault) : Type 0 where

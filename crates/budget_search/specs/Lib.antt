@@ -1,4 +1,5 @@
 pub mod Steps
+pub mod RunLines
 pub mod Run
 pub mod LineNumbers
 pub mod Donations
@@ -9,11 +10,11 @@ pub mod BudgetIntervals
 pub mod AccountNeeds
 pub mod Alike
 pub mod Own
-pub mod ShortLines
+pub mod OwnLines
 pub mod OpenedSessions
 pub mod ReachedSessions
 pub mod SessionAccounts
 pub mod Shortages
-pub mod ShortRequests
+pub mod SessionLines
 pub mod Replies
 pub mod NoBudgets

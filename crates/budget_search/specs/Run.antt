@@ -1,5 +1,5 @@
 -- How far the run of a component's own calls is.
-use Rattle.std.specs.Prelude.{◌≡◌, ◌<◌, ℕ, false, List, ◌++◌, length, Option}
+use Rattle.std.specs.Prelude.{◌≡◌, ◌<◌, ℕ, false, List, ◌++◌, length}
 use Rattle.own_model.specs.Amounts.{Amounts}
 use Rattle.own_model.specs.Call.{Call}
 use Rattle.own_model.specs.OwnState.{OwnState}
@@ -10,7 +10,8 @@ use Rattle.own_model.specs.World.{World}
 use Rattle.budget_theorems.specs.Need.{budgeted}
 use Rattle.budget_meter.specs.Run.{IsLeft}
 use Rattle.budget_meter.specs.declared.account.AccountMeter.{AccountMeter}
-use Rattle.budget_search.specs.declared.trial.RefusedLine.{RefusedLine}
+use Rattle.budget_search.specs.RunLines.{RunLines, preceded}
+use Rattle.budget_search.specs.declared.trial.SkippedLine.{SkippedLine}
 
 -- a component of a list is a script that begins with a budget, and in this state except for that: it is there, and its heap has
 -- nothing
@@ -26,11 +27,11 @@ pub record HasLeft (world : World) (component : ℕ) (meter : AccountMeter) (cal
   pub there : component < length world.states
   pub left : IsLeft (entry_at world.entries component) calls rest budget s (state_at world.states component) meter
 
--- no call that the meter of a script of a world observed was short of quota, whatever calls are left, and the rest of the run has
--- this first line that is short of quota, or none
-pub record HasFirstShort (world : World) (component : ℕ) (meter : AccountMeter) (rest : OwnState → Option RefusedLine) (first : Option RefusedLine) : Type 0 where
+-- no call that the meter of a script of a world observed was short of quota, whatever calls are left. The rest of the run shows its
+-- lines after those that were left out so far: together they are those of the whole run
+pub record HasLinesLeft (world : World) (component : ℕ) (meter : AccountMeter) (so_far : List SkippedLine) (rest : OwnState → RunLines) (whole : RunLines) : Type 0 where
   pub heard : List Call
   pub budget : Amounts
   pub s : OwnState
   pub left : (more : List Call) → HasLeft world component meter (heard ++ more) more budget s
-  pub first_is : rest (state_at world.states component) ≡ first
+  pub whole_is : preceded so_far (rest (state_at world.states component)) ≡ whole

@@ -9,11 +9,11 @@ use Rattle.budget_meter.specs.Needs.{amounts_of}
 use Rattle.budget_meter.specs.SessionRuns.{opened_in_want}
 use Rattle.budget_search.specs.Alike.{most_in, own_entry, IsFunded}
 use Rattle.budget_search.specs.AmpleCalls.{of_word}
-use Rattle.budget_search.specs.BudgetIntervals.{lowest_of, safe_of, HasShortfalls, IsFoundAlike}
+use Rattle.budget_search.specs.BudgetIntervals.{lowest_of, safe_of, HasRunLines, IsFoundAlike}
 use Rattle.budget_search.specs.LineNumbers.{has_number}
 use Rattle.budget_search.specs.OpenedSessions.{opened_with, sent_at, suffices_of, AreExactOf}
 use Rattle.budget_search.specs.ReachedSessions.{followed_from, Reach, Reached, Sessions}
-use Rattle.budget_search.specs.ShortRequests.{short_session}
+use Rattle.budget_search.specs.SessionLines.{session_lines}
 use Rattle.budget_search.specs.Steps.{number_at}
 use Rattle.budget_search.specs.Sufficient.{HasLeast, HasSafe}
 use Rattle.budget_search.specs.declared.account_budgets.AccountBudgets.{AccountBudgets}
@@ -45,7 +45,8 @@ most_for list component one = record {
 -- an account is that of one session, which it names by its selector and the number of the line that opens it. It is given the
 -- donation of that line, under which a line is refused exactly if the session's run is short of quota. It has no reserve. It has
 -- exactly the donations with which the session opens and its run isn't short of quota, up to the most, with their minimum and
--- their safe budget, and the lines that are short of quota: under the donation that is given, and below its intervals
+-- their safe budget, and the lines that runs show: the one that is short of quota under the donation that is given, those below its
+-- intervals, and those that are left out
 pub record IsAccountOf (list : Listed) (component : ℕ) (steps : List ComponentLine) (one : Reached) (account : AccountBudgets) : Type 0 where
   pub same : account.component ≡ component
   pub key : account.session ≡ Some (record { selector = one.selector; line = number_at steps one.opening })
@@ -55,14 +56,14 @@ pub record IsAccountOf (list : Listed) (component : ℕ) (steps : List Component
   pub session : Session
   pub opens : opened_with (own_entry list component) (slice_get steps one.opening) ≡ Some session
   pub refused : is_some account.given.refused ≡ opened_in_want (sent_at steps one.places) session one.donation
-  pub line : account.given.refused ≡ short_session steps one.opening one.places session one.donation
+  pub line : account.given.refused ≡ (session_lines steps one.opening one.places session one.donation).refused
   pub exact : AreExactOf (sent_at steps one.places) session (most_for list component one).caps (most_for list component one).ram
       account.found.rows.items
   pub least : HasLeast (suffices_of (sent_at steps one.places) session) (most_for list component one)
       (lowest_of account.found.rows.items)
   pub safe : HasSafe (suffices_of (sent_at steps one.places) session) (most_for list component one)
       (safe_of account.found.rows.items)
-  pub shortfalls : HasShortfalls (short_session steps one.opening one.places session) (most_for list component one) account.found
+  pub lines : HasRunLines (session_lines steps one.opening one.places session) (most_for list component one) account.found
 
 -- ---- sessions of one line that are alike
 

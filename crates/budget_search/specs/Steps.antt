@@ -1,5 +1,6 @@
 -- The calls that lines of a script make.
 use Rattle.std.specs.Prelude.{ℕ, Bool, true, false, List, [], ◌∷◌, slice_get, Option, Some, None}
+use Rattle.std.specs.List.{list_any}
 use Rattle.std.specs.Option.{option_map, option_map_or}
 use Rattle.own_model.specs.Call.{Call, parsed_call}
 use Rattle.own_model.specs.Call.Call.{Open, Exit}
@@ -20,6 +21,19 @@ call_written step = call_said step.line.items
 
 abbrev pub call_of : ComponentLine → Option Call
 call_of step = option_map (with_args (option_map (λ args. args.items) step.args)) (call_said step.line.items)
+
+-- the number of a line, whether it is left out, and whether the refusal that it expects may be a shortage of quota
+pub record Mark : Type 0 where
+  pub number : ℕ
+  pub left_out : Bool
+  pub may_be_short : Bool
+
+abbrev pub mark_of : ComponentLine → Mark
+mark_of step = record { number = step.number; left_out = step.is_left_out; may_be_short = step.may_be_short }
+
+-- whether a line is left out
+abbrev pub any_left_out : List ComponentLine → Bool
+any_left_out steps = list_any (λ step. step.is_left_out) steps
 
 -- the number of the scenario's line for the line at a place
 abbrev pub number_at : List ComponentLine → ℕ → ℕ

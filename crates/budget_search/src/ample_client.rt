@@ -4,7 +4,7 @@ ghost use Rattle.std.specs.Option.{option_map};
 ghost use Rattle.budget_search.specs.AmpleCalls.{upgrade_args};
 
 use crate::donation::args_with;
-use crate::session_trial::is_done;
+use crate::session_client::is_done;
 use budget_meter::Budget;
 use core_calls::{Answer, Call, FileError, Outcome, Reply, ServiceOutcome};
 use pd_core::{Core, Router};

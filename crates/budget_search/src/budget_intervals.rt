@@ -1,5 +1,5 @@
 //! All budgets under which an account isn't short of quota, from a few runs.
-ghost use Rattle.std.specs.Prelude.{◌≡◌, ◌≤◌, ◌↔◌, ◌||◌, ◌∷◌, [], IsTrue, nat_le, suc, ℕ, Bool, List, Option, None, true, reverse, IfOk, IfSome, OnOk, ◌≢◌, IfErr};
+ghost use Rattle.std.specs.Prelude.{◌≡◌, ◌≤◌, ◌↔◌, ◌||◌, ◌∷◌, [], IsTrue, nat_le, suc, ℕ, Bool, List, Option, None, false, true, reverse, IfOk, IfSome, OnOk, ◌≢◌, IfErr};
 ghost use Rattle.list_parser.specs.declared.fault.BootFault.{BootFault as Fault};
 ghost use Rattle.list_parser.specs.declared.fault.BootFault.TheVariants.{NoMemory};
 ghost use Rattle.std.specs.List.{AllByRecursion};
@@ -8,7 +8,8 @@ ghost use Rattle.own_model.specs.Amounts.{Amounts};
 ghost use Rattle.budget_theorems.specs.Need.{Need, IsBelow};
 ghost use Rattle.budget_theorems.specs.Intervals.{is_covered, interval_of, stretches};
 ghost use Rattle.budget_meter.specs.Needs.{amounts_of};
-ghost use Rattle.budget_search.specs.BudgetIntervals.{both_alike, chosen_of, covers, is_below, joined_with, likeness_of, lowest_of, safe_before, safe_of, serves, AreOrdered, ArePast, AreRows, BeginFrom, EndsAbove, Follows, IsAdded, IsFoundAlike, IsRowWithin, IsRun, FailsWithin, HasHighest, HasShortfalls, gaps_after};
+ghost use Rattle.budget_search.specs.BudgetIntervals.{both_alike, chosen_of, covers, is_below, joined_with, likeness_of, lowest_of, safe_before, safe_of, serves, AreOrdered, ArePast, AreRows, BeginFrom, EndsAbove, Follows, IsAdded, IsFoundAlike, IsRowWithin, IsRun, FailsWithin, HasHighest, HasRunLines, gaps_after, left_out_at};
+ghost use Rattle.budget_search.specs.RunLines.{RunLines, lines_in};
 ghost use Rattle.budget_search.specs.declared.trial.RefusedLine.{RefusedLine};
 
 use crate::trial::{BudgetTrial, RefusedLine, SkippedLine};
@@ -127,8 +128,8 @@ pub(crate) trait BudgetTrials {
     // The need of the run from a budget, and whether it is short of quota.
     ghost AreRuns: { Self → (Amounts → List Need) → (Amounts → Bool) → Type 0 };
 
-    // The first line that is short of quota in the run from a budget.
-    ghost AreShort: { Self → (Amounts → Option RefusedLine) → Type 0 };
+    // What the run from a budget shows of its lines.
+    ghost AreLines: { Self → (Amounts → RunLines) → Type 0 };
 
     // The errors of the run from so much RAM, except that the host is out of memory.
     ghost fails: { Self → ℕ → Fault → Type 0 };
@@ -142,11 +143,11 @@ pub(crate) trait BudgetTrials {
             (record { ram = ram; caps = caps self.old }) trial) }
         ensures still { OnOk result ((each : Amounts → List Need) (want : Amounts → Bool) →
             AreRuns self.old each want → AreRuns self.new each want) }
-        ensures short { IfOk result (λ trial. (short : Amounts → Option RefusedLine) →
-            AreShort self.old short →
-            trial.refused ≡ short (record { ram = ram; caps = caps self.old })) }
-        ensures short_still { OnOk result ((short : Amounts → Option RefusedLine) →
-            AreShort self.old short → AreShort self.new short) }
+        ensures lines { IfOk result (λ trial. (lines : Amounts → RunLines) →
+            AreLines self.old lines →
+            lines_in trial ≡ lines (record { ram = ram; caps = caps self.old })) }
+        ensures lines_still { OnOk result ((lines : Amounts → RunLines) →
+            AreLines self.old lines → AreLines self.new lines) }
         ensures caps { caps self.new ≡ caps self.old }
         ensures rest { rest self.new ≡ rest self.old }
         ensures fault { IfErr result (λ fault. fault ≢ NoMemory →
@@ -154,6 +155,11 @@ pub(crate) trait BudgetTrials {
             AreRuns self.old each want → fails self.old ram fault) }
         ensures same { (ram : ℕ) (fault : Fault) → fails self.new ram fault →
             fails self.old ram fault };
+
+    /// Returns whether a line is left out.
+    fn leaves_out(&self) -> bool
+        ensures none { result ≡ false → (lines : Amounts → RunLines) → AreLines self.now lines →
+            (budget : Amounts) → (lines budget).left_out ≡ [] };
 }
 
 /// All budgets under which an account isn't short of quota.
@@ -163,7 +169,7 @@ pub struct BudgetIntervals {
     pub rows: Vec<BudgetInterval>,
     /// The ranges between the intervals.
     pub holes: Vec<BudgetGap>,
-    /// The lines that the runs of the first interval left out.
+    /// The lines that are left out with the RAM of the first interval.
     pub left_out: Vec<SkippedLine>,
     /// The refused line with the highest RAM.
     pub refused: Option<RefusedLine>,
@@ -186,13 +192,13 @@ impl BudgetIntervals {
         ensures ordered { IfOk result (λ found. (each : Amounts → List Need)
             (want : Amounts → Bool) → T.AreRuns trials.old each want →
             AreOrdered (T.caps trials.old) top found.rows.items) }
-        ensures shortfalls { IfOk result (λ found. (short : Amounts → Option RefusedLine) →
-            T.AreShort trials.old short →
-            HasShortfalls short (record { ram = top; caps = T.caps trials.old }) found) }
+        ensures lines { IfOk result (λ found. (lines : Amounts → RunLines) →
+            T.AreLines trials.old lines →
+            HasRunLines lines (record { ram = top; caps = T.caps trials.old }) found) }
         ensures still { OnOk result ((each : Amounts → List Need) (want : Amounts → Bool) →
             T.AreRuns trials.old each want → T.AreRuns trials.new each want) }
-        ensures short_still { OnOk result ((short : Amounts → Option RefusedLine) →
-            T.AreShort trials.old short → T.AreShort trials.new short) }
+        ensures lines_still { OnOk result ((lines : Amounts → RunLines) →
+            T.AreLines trials.old lines → T.AreLines trials.new lines) }
         ensures rest { T.rest trials.new ≡ T.rest trials.old }
         ensures fault { IfErr result (λ fault. fault ≢ NoMemory →
             (each : Amounts → List Need) (want : Amounts → Bool) →
@@ -207,6 +213,7 @@ impl BudgetIntervals {
         found.gather(alloc, trials, top, given)?;
         found.rows.as_mut_slice().reverse();
         found.fill_holes(alloc, trials)?;
+        found.leave_out(alloc, trials)?;
         Ok(found)
     }
 
@@ -227,14 +234,15 @@ impl BudgetIntervals {
         ensures ordered { OnOk result ((each : Amounts → List Need) (want : Amounts → Bool) →
             T.AreRuns trials.old each want →
             AreOrdered (T.caps trials.old) top (reverse self.new.rows.items)) }
-        ensures refused { OnOk result ((short : Amounts → Option RefusedLine) →
-            T.AreShort trials.old short →
-            self.new.refused ≡ short (record { ram = top; caps = T.caps trials.old })) }
+        ensures refused { OnOk result ((lines : Amounts → RunLines) →
+            T.AreLines trials.old lines →
+            self.new.refused ≡ (lines (record { ram = top; caps = T.caps trials.old })).refused) }
+        ensures left_out { self.new.left_out ≡ self.old.left_out }
         ensures holes { self.new.holes ≡ self.old.holes }
         ensures still { OnOk result ((each : Amounts → List Need) (want : Amounts → Bool) →
             T.AreRuns trials.old each want → T.AreRuns trials.new each want) }
-        ensures short_still { OnOk result ((short : Amounts → Option RefusedLine) →
-            T.AreShort trials.old short → T.AreShort trials.new short) }
+        ensures lines_still { OnOk result ((lines : Amounts → RunLines) →
+            T.AreLines trials.old lines → T.AreLines trials.new lines) }
         ensures caps { T.caps trials.new ≡ T.caps trials.old }
         ensures rest { T.rest trials.new ≡ T.rest trials.old }
         ensures same { (ram : ℕ) (fault : Fault) → T.fails trials.new ram fault →
@@ -275,15 +283,16 @@ impl BudgetIntervals {
             BeginFrom (suc ram) (reverse self.old.rows.items) →
             AreOrdered (T.caps trials.old) top (reverse self.new.rows.items)
             × IfSome next (λ n. BeginFrom (suc n) (reverse self.new.rows.items))) }
-        ensures refused { OnOk result ((short : Amounts → Option RefusedLine) →
-            T.AreShort trials.old short →
-            HasHighest ram top (short (record { ram = top; caps = T.caps trials.old })) self.old.refused →
-            self.new.refused ≡ short (record { ram = top; caps = T.caps trials.old })) }
+        ensures refused { OnOk result ((lines : Amounts → RunLines) →
+            T.AreLines trials.old lines → HasHighest ram top
+            (lines (record { ram = top; caps = T.caps trials.old })).refused self.old.refused →
+            self.new.refused ≡ (lines (record { ram = top; caps = T.caps trials.old })).refused) }
+        ensures left_out { self.new.left_out ≡ self.old.left_out }
         ensures holes { self.new.holes ≡ self.old.holes }
         ensures still { OnOk result ((each : Amounts → List Need) (want : Amounts → Bool) →
             T.AreRuns trials.old each want → T.AreRuns trials.new each want) }
-        ensures short_still { OnOk result ((short : Amounts → Option RefusedLine) →
-            T.AreShort trials.old short → T.AreShort trials.new short) }
+        ensures lines_still { OnOk result ((lines : Amounts → RunLines) →
+            T.AreLines trials.old lines → T.AreLines trials.new lines) }
         ensures caps { T.caps trials.new ≡ T.caps trials.old }
         ensures rest { T.rest trials.new ≡ T.rest trials.old }
         ensures same { (ram : ℕ) (fault : Fault) → T.fails trials.new ram fault →
@@ -325,6 +334,7 @@ impl BudgetIntervals {
         ensures refused { OnOk result ((told : Option RefusedLine) →
             (ram ≡ top → trial.refused ≡ told) → HasHighest ram top told self.old.refused →
             self.new.refused ≡ told) }
+        ensures left_out { self.new.left_out ≡ self.old.left_out }
         ensures holes { self.new.holes ≡ self.old.holes }
         ensures likeness { OnOk result (trial.refused ≡ None →
             IsAdded (likeness_of trial.replies.items (option_copied given.entry))
@@ -343,7 +353,6 @@ impl BudgetIntervals {
             caps_from: trial.meter.least.caps,
             likeness: compare_replies(trial.replies.as_slice(), given),
         };
-        self.left_out = trial.left_out;
         self.add(row)?;
         Ok(())
     }
@@ -363,6 +372,7 @@ impl BudgetIntervals {
         ensures likeness { OnOk result
             (IsAdded row.likeness self.old.rows.items self.new.rows.items) }
         ensures refused { self.new.refused ≡ self.old.refused }
+        ensures left_out { self.new.left_out ≡ self.old.left_out }
         ensures holes { self.new.holes ≡ self.old.holes }
         ensures fault { IfErr result (λ fault. fault ≡ NoMemory) }
     {
@@ -386,11 +396,15 @@ impl BudgetIntervals {
         requires none { self.old.holes.items ≡ [] }
         ensures rows { self.new.rows ≡ self.old.rows }
         ensures refused { self.new.refused ≡ self.old.refused }
-        ensures gaps { OnOk result ((short : Amounts → Option RefusedLine) →
-            T.AreShort trials.old short →
-            self.new.holes.items ≡ gaps_after short (T.caps trials.old) None self.old.rows.items) }
-        ensures short_still { OnOk result ((short : Amounts → Option RefusedLine) →
-            T.AreShort trials.old short → T.AreShort trials.new short) }
+        ensures left_out { self.new.left_out ≡ self.old.left_out }
+        ensures gaps { OnOk result ((lines : Amounts → RunLines) →
+            T.AreLines trials.old lines →
+            self.new.holes.items ≡ gaps_after lines (T.caps trials.old) None self.old.rows.items) }
+        ensures caps { T.caps trials.new ≡ T.caps trials.old }
+        ensures same { (ram : ℕ) (fault : Fault) → T.fails trials.new ram fault →
+            T.fails trials.old ram fault }
+        ensures lines_still { OnOk result ((lines : Amounts → RunLines) →
+            T.AreLines trials.old lines → T.AreLines trials.new lines) }
         ensures still { OnOk result ((each : Amounts → List Need) (want : Amounts → Bool) →
             T.AreRuns trials.old each want → T.AreRuns trials.new each want) }
         ensures rest { T.rest trials.new ≡ T.rest trials.old }
@@ -413,6 +427,36 @@ impl BudgetIntervals {
             }
             end = row.ram_below;
         }
+        Ok(())
+    }
+
+    // Finds the lines that are left out with the RAM of the first interval.
+    fn leave_out<T: BudgetTrials>(&mut self, alloc: Global, trials: &mut T) -> Result<(), BootFault>
+        requires none { self.old.left_out.items ≡ [] }
+        ensures rows { self.new.rows ≡ self.old.rows }
+        ensures holes { self.new.holes ≡ self.old.holes }
+        ensures refused { self.new.refused ≡ self.old.refused }
+        ensures left_out { OnOk result ((lines : Amounts → RunLines) →
+            T.AreLines trials.old lines → self.new.left_out.items
+            ≡ left_out_at lines (T.caps trials.old) (lowest_of self.old.rows.items)) }
+        ensures lines_still { OnOk result ((lines : Amounts → RunLines) →
+            T.AreLines trials.old lines → T.AreLines trials.new lines) }
+        ensures still { OnOk result ((each : Amounts → List Need) (want : Amounts → Bool) →
+            T.AreRuns trials.old each want → T.AreRuns trials.new each want) }
+        ensures rest { T.rest trials.new ≡ T.rest trials.old }
+        ensures fault { IfErr result (λ fault. fault ≢ NoMemory → (top : ℕ) →
+            AllByRecursion (λ row. row.ram_from ≤ top) self.old.rows.items →
+            (each : Amounts → List Need) (want : Amounts → Bool) →
+            T.AreRuns trials.old each want → FailsWithin (T.fails trials.old) top fault) }
+    {
+        let Some(lowest) = self.least() else {
+            return Ok(());
+        };
+        if !trials.leaves_out() {
+            return Ok(());
+        }
+        let trial = trials.run(alloc, lowest.ram)?;
+        self.left_out = trial.left_out;
         Ok(())
     }
 

@@ -16,6 +16,7 @@ mod own_run;
 mod own_trials;
 mod script_search;
 mod session_accounts;
+mod session_client;
 mod session_intervals;
 mod session_trial;
 mod trial;

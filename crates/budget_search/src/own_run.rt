@@ -1,5 +1,5 @@
 //! A run of a component's own calls from a budget.
-ghost use Rattle.std.specs.Prelude.{◌≡◌, ◌≢◌, ◌<◌, ◌∷◌, [], ℕ, List, false, true, is_some, length, IfErr, IfOk, IfSome, OnOk, Option, Some, None};
+ghost use Rattle.std.specs.Prelude.{◌≡◌, ◌≢◌, ◌<◌, ◌∷◌, [], ℕ, List, false, true, is_some, length, IfErr, IfOk, IfSome, OnOk, Some, None};
 ghost use Rattle.list_parser.specs.Quota.{quota_fault};
 ghost use Rattle.list_parser.specs.declared.fault.BootFault.TheVariants.{NoMemory};
 ghost use Rattle.own_model.specs.Amounts.{Amounts};
@@ -12,10 +12,10 @@ ghost use Rattle.core_calls.specs.Call.{model_call, IsWellFormed};
 ghost use Rattle.budget_theorems.specs.Need.{budgeted};
 ghost use Rattle.budget_meter.specs.Needs.{amounts_of};
 ghost use Rattle.budget_meter.specs.Run.{Shows};
-ghost use Rattle.budget_search.specs.Steps.{calls_of, calls_with, call_of};
-ghost use Rattle.budget_search.specs.Run.{Begins, HasFirstShort, HasLeft};
-ghost use Rattle.budget_search.specs.ShortLines.{shown_short, short_by, short_line, short_with};
-ghost use Rattle.budget_search.specs.declared.trial.RefusedLine.{RefusedLine};
+ghost use Rattle.budget_search.specs.Steps.{calls_of, calls_with, call_of, mark_of};
+ghost use Rattle.budget_search.specs.Run.{Begins, HasLeft, HasLinesLeft};
+ghost use Rattle.budget_search.specs.OwnLines.{lines_by, lines_with, own_lines, shown_short};
+ghost use Rattle.budget_search.specs.RunLines.{RunLines, lines_in};
 
 use crate::component_line::ComponentLine;
 use crate::trial::{BudgetTrial, RefusedLine, Shortage};
@@ -42,10 +42,10 @@ impl BudgetTrial {
             Begins (start_list_of list.now) component (amounts_of start) s →
             Shows (entry_at (entries_of (start_list_of list.now)) component) (calls_of steps.now) s
             (amounts_of start) (is_some trial.refused) trial.meter) }
-        ensures short { IfOk result (λ trial. (s : OwnState) →
-            Begins (start_list_of list.now) component (amounts_of start) s → trial.refused
-            ≡ short_line (entry_at (entries_of (start_list_of list.now)) component) steps.now
-            (budgeted (amounts_of start) s)) }
+        ensures lines { IfOk result (λ trial. (s : OwnState) →
+            Begins (start_list_of list.now) component (amounts_of start) s → lines_in trial
+            ≡ own_lines (entry_at (entries_of (start_list_of list.now)) component) (amounts_of start)
+            steps.now (budgeted (amounts_of start) s)) }
         ensures fault { IfErr result
             (λ fault. fault ≢ NoMemory → quota_fault list.now ≡ Some fault) }
     {
@@ -80,10 +80,10 @@ impl<'a, R: Router + Drop> OwnRun<'a, R> {
             (s : OwnState) → HasLeft core.old component heard calls (calls_of steps.now) budget s →
             Shows (entry_at core.old.entries component) calls s budget
             (is_some trial.refused) trial.meter) }
-        ensures short { IfOk result (λ trial. (first : Option RefusedLine) →
-            HasFirstShort core.old component heard
-            (short_line (entry_at core.old.entries component) steps.now) first →
-            trial.refused ≡ first) }
+        ensures lines { IfOk result (λ trial. (whole : RunLines) →
+            HasLinesLeft core.old component heard []
+            (own_lines (entry_at core.old.entries component) (amounts_of start) steps.now) whole →
+            lines_in trial ≡ whole) }
         ensures fault { IfErr result (λ fault. fault ≡ NoMemory) }
     {
         let mut run = OwnRun {
@@ -108,10 +108,12 @@ impl<'a, R: Router + Drop> OwnRun<'a, R> {
             budget s →
             Shows (entry_at self.old.core.now.entries self.old.component) calls s budget
             (is_some self.new.trial.refused) self.new.heard.meter) }
-        ensures short { OnOk result ((first : Option RefusedLine) →
-            HasFirstShort self.old.core.now self.old.component self.old.heard
-            (short_line (entry_at self.old.core.now.entries self.old.component) steps.now) first →
-            self.new.trial.refused ≡ first) }
+        ensures lines { OnOk result ((whole : RunLines) →
+            HasLinesLeft self.old.core.now self.old.component self.old.heard
+            self.old.trial.left_out.items
+            (own_lines (entry_at self.old.core.now.entries self.old.component)
+            (amounts_of self.old.trial.meter.start) steps.now) whole →
+            lines_in self.new.trial ≡ whole) }
         ensures fault { IfErr result (λ fault. fault ≡ NoMemory) }
     {
         for step in steps {
@@ -128,6 +130,7 @@ impl<'a, R: Router + Drop> OwnRun<'a, R> {
         requires none { self.old.trial.refused ≡ None }
         ensures same { self.new.component ≡ self.old.component }
         ensures entries { self.new.core.now.entries ≡ self.old.core.now.entries }
+        ensures meter { self.new.trial.meter ≡ self.old.trial.meter }
         ensures on { IfOk result (λ goes_on. goes_on ≡ true → self.new.trial.refused ≡ None) }
         ensures left { IfOk result (λ goes_on. goes_on ≡ true →
             (calls rest : List Said) (budget : Amounts) (s : OwnState) →
@@ -141,17 +144,22 @@ impl<'a, R: Router + Drop> OwnRun<'a, R> {
             Shows (entry_at self.old.core.now.entries self.old.component) calls s budget
             (is_some self.new.trial.refused) self.new.heard.meter) }
         ensures later { IfOk result (λ goes_on. goes_on ≡ true →
-            (rest : OwnState → Option RefusedLine) (first : Option RefusedLine) →
-            HasFirstShort self.old.core.now self.old.component self.old.heard
-            (short_with (entry_at self.old.core.now.entries self.old.component)
-            step.now.is_left_out step.now.number (call_of step.now) rest) first →
-            HasFirstShort self.new.core.now self.new.component self.new.heard rest first) }
-        ensures short { IfOk result (λ goes_on. goes_on ≡ false →
-            (rest : OwnState → Option RefusedLine) (first : Option RefusedLine) →
-            HasFirstShort self.old.core.now self.old.component self.old.heard
-            (short_with (entry_at self.old.core.now.entries self.old.component)
-            step.now.is_left_out step.now.number (call_of step.now) rest) first →
-            self.new.trial.refused ≡ first) }
+            (rest : OwnState → RunLines) (whole : RunLines) →
+            HasLinesLeft self.old.core.now self.old.component self.old.heard
+            self.old.trial.left_out.items
+            (lines_with (entry_at self.old.core.now.entries self.old.component)
+            (amounts_of self.old.trial.meter.start) (mark_of step.now) (call_of step.now) rest)
+            whole →
+            HasLinesLeft self.new.core.now self.new.component self.new.heard
+            self.new.trial.left_out.items rest whole) }
+        ensures lines { IfOk result (λ goes_on. goes_on ≡ false →
+            (rest : OwnState → RunLines) (whole : RunLines) →
+            HasLinesLeft self.old.core.now self.old.component self.old.heard
+            self.old.trial.left_out.items
+            (lines_with (entry_at self.old.core.now.entries self.old.component)
+            (amounts_of self.old.trial.meter.start) (mark_of step.now) (call_of step.now) rest)
+            whole →
+            lines_in self.new.trial ≡ whole) }
         ensures fault { IfErr result (λ fault. fault ≡ NoMemory) }
     {
         let Some(call) = step.call() else {
@@ -177,6 +185,7 @@ impl<'a, R: Router + Drop> OwnRun<'a, R> {
         requires none { self.old.trial.refused ≡ None }
         ensures same { self.new.component ≡ self.old.component }
         ensures entries { self.new.core.now.entries ≡ self.old.core.now.entries }
+        ensures meter { self.new.trial.meter ≡ self.old.trial.meter }
         ensures on { IfOk result (λ goes_on. goes_on ≡ true → self.new.trial.refused ≡ None) }
         ensures left { IfOk result (λ goes_on. goes_on ≡ true →
             (calls rest : List Said) (budget : Amounts) (s : OwnState) →
@@ -190,17 +199,20 @@ impl<'a, R: Router + Drop> OwnRun<'a, R> {
             Shows (entry_at self.old.core.now.entries self.old.component) calls s budget
             (is_some self.new.trial.refused) self.new.heard.meter) }
         ensures later { IfOk result (λ goes_on. goes_on ≡ true →
-            (rest : OwnState → Option RefusedLine) (first : Option RefusedLine) →
-            HasFirstShort self.old.core.now self.old.component self.old.heard
-            (short_by (entry_at self.old.core.now.entries self.old.component)
-            line (model_call call.entry) rest) first →
-            HasFirstShort self.new.core.now self.new.component self.new.heard rest first) }
-        ensures short { IfOk result (λ goes_on. goes_on ≡ false →
-            (rest : OwnState → Option RefusedLine) (first : Option RefusedLine) →
-            HasFirstShort self.old.core.now self.old.component self.old.heard
-            (short_by (entry_at self.old.core.now.entries self.old.component)
-            line (model_call call.entry) rest) first →
-            self.new.trial.refused ≡ first) }
+            (rest : OwnState → RunLines) (whole : RunLines) →
+            HasLinesLeft self.old.core.now self.old.component self.old.heard
+            self.old.trial.left_out.items
+            (lines_by (entry_at self.old.core.now.entries self.old.component)
+            line (model_call call.entry) rest) whole →
+            HasLinesLeft self.new.core.now self.new.component self.new.heard
+            self.new.trial.left_out.items rest whole) }
+        ensures lines { IfOk result (λ goes_on. goes_on ≡ false →
+            (rest : OwnState → RunLines) (whole : RunLines) →
+            HasLinesLeft self.old.core.now self.old.component self.old.heard
+            self.old.trial.left_out.items
+            (lines_by (entry_at self.old.core.now.entries self.old.component)
+            line (model_call call.entry) rest) whole →
+            lines_in self.new.trial ≡ whole) }
         ensures fault { IfErr result (λ fault. fault ≡ NoMemory) }
     {
         self.core.step(self.component, call, &mut self.reply);

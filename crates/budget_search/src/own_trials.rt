@@ -7,10 +7,11 @@ ghost use Rattle.own_model.specs.StartList.Kind.{Script};
 ghost use Rattle.budget_meter.specs.Needs.{amounts_of};
 ghost use Rattle.budget_meter.specs.Run.{Shows};
 ghost use Rattle.budget_search.specs.Alike.{own_entry, own_state};
-ghost use Rattle.budget_search.specs.BudgetIntervals.{AreOrdered, FailsWithin, HasShortfalls};
+ghost use Rattle.budget_search.specs.BudgetIntervals.{AreOrdered, FailsWithin, HasRunLines};
 ghost use Rattle.budget_search.specs.Own.{AreExact, AreOwnRuns};
-ghost use Rattle.budget_search.specs.ShortLines.{short_line_with};
-ghost use Rattle.budget_search.specs.Steps.{calls_of};
+ghost use Rattle.budget_search.specs.OwnLines.{lines_from};
+ghost use Rattle.budget_search.specs.RunLines.{lines_in};
+ghost use Rattle.budget_search.specs.Steps.{any_left_out, calls_of};
 
 use crate::budget_intervals::{BudgetIntervals, BudgetTrials};
 use crate::component_line::ComponentLine;
@@ -33,8 +34,8 @@ pub(crate) fn funded_trial(
     ensures shows { IfOk result (λ trial. (own_entry list.now component).kind ≡ Script →
         Shows (own_entry list.now component) (calls_of steps.now) (own_state list.now component)
         (amounts_of budget) (is_some trial.refused) trial.meter) }
-    ensures short { IfOk result (λ trial. (own_entry list.now component).kind ≡ Script →
-        trial.refused ≡ short_line_with list.now component steps.now (amounts_of budget)) }
+    ensures lines { IfOk result (λ trial. (own_entry list.now component).kind ≡ Script →
+        lines_in trial ≡ lines_from list.now component steps.now (amounts_of budget)) }
     ensures fault { IfErr result (λ fault. fault ≢ NoMemory →
         IsUnbooted list.now component (amounts_of budget) fault) }
 {
@@ -58,8 +59,8 @@ pub(crate) fn own_rows(
         AreExact list.now component steps.now most.caps most.ram found.rows.items) }
     ensures ordered { IfOk result (λ found. (own_entry list.now component).kind ≡ Script →
         AreOrdered most.caps most.ram found.rows.items) }
-    ensures shortfalls { IfOk result (λ found. (own_entry list.now component).kind ≡ Script →
-        HasShortfalls (short_line_with list.now component steps.now) (amounts_of most) found) }
+    ensures lines { IfOk result (λ found. (own_entry list.now component).kind ≡ Script →
+        HasRunLines (lines_from list.now component steps.now) (amounts_of most) found) }
     ensures fault { IfErr result (λ fault. fault ≢ NoMemory →
         (own_entry list.now component).kind ≡ Script →
         FailsWithin (λ ram its. IsUnbooted list.now component (record { ram = ram; caps = most.caps }) its)
@@ -96,9 +97,9 @@ impl BudgetTrials for OwnTrials<'_> {
     ghost AreRuns = { λ trials each want.
         AreOwnRuns trials.list.now trials.component trials.steps.now each want };
 
-    ghost AreShort = { λ trials short.
+    ghost AreLines = { λ trials lines.
         ((own_entry trials.list.now trials.component).kind ≡ Script)
-        × (short ≡ short_line_with trials.list.now trials.component trials.steps.now) };
+        × (lines ≡ lines_from trials.list.now trials.component trials.steps.now) };
 
     ghost fails = { λ trials ram fault.
         IsUnbooted trials.list.now trials.component (record { ram = ram; caps = trials.caps }) fault };
@@ -109,4 +110,15 @@ impl BudgetTrials for OwnTrials<'_> {
         let trial = funded_trial(alloc, self.list, self.component, self.steps, budget)?;
         Ok(trial)
     }
+
+    fn leaves_out(&self) -> bool {
+        any_left_out(self.steps)
+    }
+}
+
+// Returns whether a line is left out.
+fn any_left_out(steps: &[ComponentLine]) -> bool
+    ensures { result ≡ any_left_out steps.now }
+{
+    steps.iter().any(|step| step.is_left_out)
 }

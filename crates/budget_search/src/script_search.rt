@@ -8,8 +8,9 @@ use crate::funded_list::{ample, most_beside, reserve_of};
 use crate::opened_sessions::{OpenedSession, OpenedSessions};
 use crate::own_trials::{funded_trial, own_rows};
 use crate::session_accounts::SessionAccounts;
+use crate::session_client::SessionClient;
 use crate::session_intervals::session_rows;
-use crate::session_trial::{SessionClient, SessionLines};
+use crate::session_trial::SessionLines;
 use crate::trial::BudgetTrial;
 use budget_meter::Budget;
 use core_calls::Reply;
@@ -50,12 +51,12 @@ impl ScriptSearch<'_> {
     ghost use Rattle.own_model.specs.StartList.Kind.{Script as AScript};
     ghost use Rattle.budget_meter.specs.Run.{Shows};
     ghost use Rattle.budget_search.specs.Alike.{given_in, most_in, own_entry, own_state, reserve_in, IsFunded};
-    ghost use Rattle.budget_search.specs.BudgetIntervals.{lowest_of, safe_of, HasShortfalls};
+    ghost use Rattle.budget_search.specs.BudgetIntervals.{lowest_of, safe_of, HasRunLines};
     ghost use Rattle.budget_search.specs.OpenedSessions.{IsReadyFor};
     ghost use Rattle.budget_search.specs.Own.{suffices_with, AreExact};
     ghost use Rattle.budget_search.specs.ReachedSessions.{reached_of, IsOfLines, Reached};
     ghost use Rattle.budget_search.specs.SessionAccounts.{AreCounted, AreSessionAccounts, HaveLines, IsAccountOf};
-    ghost use Rattle.budget_search.specs.ShortLines.{short_line_with};
+    ghost use Rattle.budget_search.specs.OwnLines.{lines_from};
     ghost use Rattle.budget_search.specs.Steps.{calls_of};
     ghost use Rattle.budget_search.specs.Sufficient.{HasLeast, HasSafe};
     ghost use Rattle.budget_search.specs.declared.account_budgets.AccountBudgets.{AccountBudgets};
@@ -94,8 +95,8 @@ impl ScriptSearch<'_> {
             (is_some found.given.refused) found.given.meter) }
         ensures refused { IfOk result (λ found.
             (own_entry self.now.list.now self.now.component).kind ≡ AScript →
-            found.given.refused ≡ short_line_with self.now.list.now self.now.component steps.now
-            (amounts_of self.now.given)) }
+            found.given.refused ≡ (lines_from self.now.list.now self.now.component steps.now
+            (amounts_of self.now.given)).refused) }
         ensures accounts { IfOk result (λ found.
             (own_entry self.now.list.now self.now.component).kind ≡ AScript →
             AreSessionAccounts self.now.list.now self.now.component steps.now found.accounts.items) }
@@ -252,9 +253,9 @@ impl ScriptSearch<'_> {
             HasSafe (suffices_with self.now.list.now self.now.component steps.now)
             (most_in self.now.list.now self.now.component)
             (safe_of account.found.rows.items)) }
-        ensures shortfalls { IfOk result (λ account.
+        ensures lines { IfOk result (λ account.
             (own_entry self.now.list.now self.now.component).kind ≡ AScript →
-            HasShortfalls (short_line_with self.now.list.now self.now.component steps.now)
+            HasRunLines (lines_from self.now.list.now self.now.component steps.now)
             (most_in self.now.list.now self.now.component) account.found) }
         ensures fault { IfErr result (λ fault. fault ≢ NoMemory →
             (own_entry self.now.list.now self.now.component).kind ≡ AScript →

@@ -7,13 +7,14 @@ ghost use Rattle.own_model.specs.Session.{Session};
 ghost use Rattle.own_model.specs.StartList.{Entry};
 ghost use Rattle.own_model.specs.Transcript.{entry_at};
 ghost use Rattle.budget_meter.specs.Needs.{amounts_of};
-ghost use Rattle.budget_search.specs.BudgetIntervals.{lowest_of, safe_of, HasShortfalls};
+ghost use Rattle.budget_search.specs.BudgetIntervals.{lowest_of, safe_of, HasRunLines};
 ghost use Rattle.budget_search.specs.OpenedSessions.{AreExactOf, AreSessionRuns, IsReady, IsReadyFor, opened_with, sent_at, suffices_of, CanDonate, raised_in};
-ghost use Rattle.budget_search.specs.ShortRequests.{short_session};
+ghost use Rattle.budget_search.specs.SessionLines.{session_lines};
 ghost use Rattle.budget_search.specs.Sufficient.{HasLeast, HasSafe};
 
 use crate::budget_intervals::{BudgetIntervals, BudgetTrials};
-use crate::session_trial::{SessionClient, SessionLines};
+use crate::session_client::SessionClient;
+use crate::session_trial::SessionLines;
 use crate::trial::BudgetTrial;
 use budget_meter::Budget;
 use list_parser::BootFault;
@@ -47,11 +48,11 @@ pub(crate) fn session_rows<R: Router + Drop>(
         (slice_get reached.entry.steps.now reached.entry.opened.now.step) ≡ Some session →
         HasSafe (suffices_of (sent_at reached.entry.steps.now reached.entry.opened.now.steps.items) session)
         (amounts_of most) (safe_of found.rows.items)) }
-    ensures shortfalls { IfOk result (λ found. (session : Session) →
+    ensures lines { IfOk result (λ found. (session : Session) →
         IsReady client.old.core client.old.client →
         opened_with (entry_at client.old.core.entries client.old.client)
         (slice_get reached.entry.steps.now reached.entry.opened.now.step) ≡ Some session →
-        HasShortfalls (short_session reached.entry.steps.now reached.entry.opened.now.step
+        HasRunLines (session_lines reached.entry.steps.now reached.entry.opened.now.step
         reached.entry.opened.now.steps.items session) (amounts_of most) found) }
     ensures ready { OnOk result ((entry : Entry) (whole : Amounts) (session : Session) →
         IsReadyFor entry whole client.old.core client.old.client →
@@ -105,7 +106,7 @@ impl<R: Router + Drop> BudgetTrials for SessionTrials<'_, R> {
     ghost use Rattle.own_model.specs.Transcript.{entry_at};
     ghost use Rattle.own_model.specs.Session.{Session};
     ghost use Rattle.budget_search.specs.OpenedSessions.{AreSessionRuns, IsReady, opened_with, sent_at, FailsToDonate, whole_at};
-    ghost use Rattle.budget_search.specs.ShortRequests.{short_session};
+    ghost use Rattle.budget_search.specs.SessionLines.{session_lines};
     ghost use Rattle.own_model.specs.Account.{Account};
 
     ghost caps = { λ trials. trials.caps };
@@ -125,12 +126,12 @@ impl<R: Router + Drop> BudgetTrials for SessionTrials<'_, R> {
         (slice_get trials.reached.steps.now trials.reached.opened.now.step)
         (sent_at trials.reached.steps.now trials.reached.opened.now.steps.items) each want };
 
-    ghost AreShort = { λ trials short.
+    ghost AreLines = { λ trials lines.
         IsReady trials.client.now.core trials.client.now.client
         × ((session : Session)
         × ((opened_with (entry_at trials.client.now.core.entries trials.client.now.client)
         (slice_get trials.reached.steps.now trials.reached.opened.now.step) ≡ Some session)
-        × (short ≡ short_session trials.reached.steps.now trials.reached.opened.now.step
+        × (lines ≡ session_lines trials.reached.steps.now trials.reached.opened.now.step
         trials.reached.opened.now.steps.items session))) };
 
     ghost fails = { λ trials ram fault.
@@ -143,5 +144,9 @@ impl<R: Router + Drop> BudgetTrials for SessionTrials<'_, R> {
         let donation = Budget { ram, caps };
         let trial = self.reached.trial(alloc, self.client, donation)?;
         Ok(trial)
+    }
+
+    fn leaves_out(&self) -> bool {
+        self.reached.leaves_out()
     }
 }

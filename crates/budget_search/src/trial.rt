@@ -1,6 +1,10 @@
 //! The result of a run from a budget.
-ghost use Rattle.std.specs.Prelude.{◌≡◌, None, IfErr, OnOk};
+ghost use Rattle.std.specs.Prelude.{◌≡◌, ◌++◌, IfErr, OnOk};
 ghost use Rattle.list_parser.specs.declared.fault.BootFault.TheVariants.{NoMemory};
+ghost use Rattle.pd_core.specs.Answer.{quotas_account};
+ghost use Rattle.budget_meter.specs.NeededAmounts.{amount_tests};
+ghost use Rattle.budget_meter.specs.Needs.{amounts_of};
+ghost use Rattle.budget_search.specs.RunLines.{lines_in, no_lines, skipped_lines};
 ghost use Rattle.budget_search.specs.Replies.{kept_text, with_reply};
 ghost use Rattle.budget_search.specs.Shortages.{shortage_reply};
 
@@ -61,12 +65,12 @@ pub struct RefusedLine {
     pub shortage: Shortage,
 }
 
-/// A line that is left out, since its refusal is expected, and the minimum budget under which its account doesn't refuse it.
+/// A line that is left out, since its refusal is expected, and the minimum budget that covers what it asks for.
 #[derive(Clone, Copy, PartialEq, Eq)]
 pub struct SkippedLine {
     /// The number of the scenario's line, from 1 on.
     pub line: u64,
-    /// The minimum budget under which the line isn't refused.
+    /// The minimum budget that covers what the line asks for in addition to what its account uses.
     pub need: Budget,
 }
 
@@ -86,7 +90,8 @@ pub struct BudgetTrial {
 impl BudgetTrial {
     /// Returns the result of a run before its first line.
     pub(crate) fn new(alloc: Global, start: Budget) -> BudgetTrial
-        ensures { result.refused ≡ None }
+        ensures lines { lines_in result ≡ no_lines }
+        ensures start { result.meter.start ≡ start }
     {
         BudgetTrial {
             refused: None,
@@ -98,7 +103,8 @@ impl BudgetTrial {
 
     /// Keeps the text of a reply, unless it has the limits of an account. The error is that the host is out of memory.
     pub(crate) fn keep_reply(&mut self, answer: Answer<'_>) -> Result<(), BootFault>
-        ensures refused { self.new.refused ≡ self.old.refused }
+        ensures lines { lines_in self.new ≡ lines_in self.old }
+        ensures meter { self.new.meter ≡ self.old.meter }
         ensures replies { OnOk result (self.new.replies.items
             ≡ with_reply answer.entry.outcome answer.entry.text.now self.old.replies.items) }
         ensures fault { IfErr result (λ fault. fault ≡ NoMemory) }
@@ -117,6 +123,10 @@ impl BudgetTrial {
         asked: Option<Budget>,
     ) -> Result<(), BootFault>
         ensures refused { self.new.refused ≡ self.old.refused }
+        ensures meter { self.new.meter ≡ self.old.meter }
+        ensures left_out { OnOk result (self.new.left_out.items ≡ self.old.left_out.items
+            ++ skipped_lines (amounts_of self.old.meter.start) (quotas_account account) line
+            (amount_tests asked)) }
         ensures fault { IfErr result (λ fault. fault ≡ NoMemory) }
     {
         if let Some(asked) = asked {

@@ -5,7 +5,8 @@ use Rattle.budget_theorems.specs.Need.{budgeted}
 use Rattle.budget_meter.specs.Needs.{amounts_of}
 use Rattle.budget_meter.specs.Run.{Shows}
 use Rattle.budget_search.specs.Alike.{own_state}
-use Rattle.budget_search.specs.ShortLines.{short_line}
+use Rattle.budget_search.specs.OwnLines.{own_lines}
+use Rattle.budget_search.specs.RunLines.{lines_in}
 use Rattle.budget_search.specs.Steps.{calls_of}
 use Rattle.budget_search.proofs.AlikeLemmas.{funded_begins, funded_entry, same_count}
 use Rattle.budget_search.proofs.own_trials.funded_trial.Goals as goal
@@ -22,11 +23,11 @@ returns-clause-shows c = λ script.
     (funded_entry machine c.args.list.now c.args.component budget c.requires.there c.in_ok-machine.ensures.funded)
     (c.in_ok-trial.ensures.shows s (funded_begins machine c.args.list.now c.args.component budget c.requires.there c.in_ok-machine.ensures.funded script))
 
-pub returns-clause-short : goal.returns-clause-short
-returns-clause-short c = λ script.
+pub returns-clause-lines : goal.returns-clause-lines
+returns-clause-lines c = λ script.
     let s = own_state c.args.list.now c.args.component in
     let machine = c.in_ok-machine.machine in
     let budget = amounts_of c.args.budget in
-    subst (λ e. c.in_ok-trial.trial.refused ≡ short_line e c.args.steps.now (budgeted budget s))
+    subst (λ e. lines_in c.in_ok-trial.trial ≡ own_lines e budget c.args.steps.now (budgeted budget s))
     (funded_entry machine c.args.list.now c.args.component budget c.requires.there c.in_ok-machine.ensures.funded)
-    (c.in_ok-trial.ensures.short s (funded_begins machine c.args.list.now c.args.component budget c.requires.there c.in_ok-machine.ensures.funded script))
+    (c.in_ok-trial.ensures.lines s (funded_begins machine c.args.list.now c.args.component budget c.requires.there c.in_ok-machine.ensures.funded script))

@@ -4,7 +4,7 @@ use Rattle.budget_theorems.proofs.StretchLemmas.{ending_exact}
 use Rattle.budget_theorems.specs.Intervals.{needs_to_shortfall}
 use Rattle.budget_search.specs.Alike.{own_entry, own_state}
 use Rattle.budget_search.specs.Own.{is_short_with}
-use Rattle.budget_search.specs.ShortLines.{short_line_with}
+use Rattle.budget_search.specs.OwnLines.{lines_from}
 use Rattle.budget_search.specs.Steps.{calls_of}
 use Rattle.budget_search.proofs.FaultLemmas.{passed_on}
 use Rattle.budget_search.proofs.own_trials.own_rows.Goals as goal
@@ -36,6 +36,5 @@ returns-in_err-found-clause-fault c =
     c.in_err-found.ensures.fault other (needs_to_shortfall (own_entry list component) (calls_of steps) (own_state list component)) (is_short_with list component steps)
     (record { script = script; needs = refl; want = refl }))
 
-pub returns-clause-shortfalls : goal.returns-clause-shortfalls
-returns-clause-shortfalls c = λ script.
-    c.in_ok-found.ensures.shortfalls (short_line_with c.args.list.now c.args.component c.args.steps.now) (script, refl)
+pub returns-clause-lines : goal.returns-clause-lines
+returns-clause-lines c = λ script. c.in_ok-found.ensures.lines (lines_from c.args.list.now c.args.component c.args.steps.now) (script, refl)

@@ -7,7 +7,7 @@ use Rattle.budget_meter.specs.SessionRuns.{opened_needs, opened_in_want}
 use Rattle.budget_search.proofs.FaultLemmas.{passed_on}
 use Rattle.budget_search.proofs.SafeLemmas.{has_least, has_safe}
 use Rattle.budget_search.specs.OpenedSessions.{opened_with, sent_at, suffices_of, IsReadyFor}
-use Rattle.budget_search.specs.ShortRequests.{short_session}
+use Rattle.budget_search.specs.SessionLines.{session_lines}
 use Rattle.budget_search.proofs.session_intervals.session_rows.Goals as goal
 
 pub returns-clause-exact : goal.returns-clause-exact
@@ -31,9 +31,9 @@ returns-clause-safe g c = λ session ready opens.
     (c.in_ok-found.ensures.ordered (opened_needs sent session) (opened_in_want sent session) (record { ready = ready; session = session; opens = opens; needs = refl; want = refl }))
     (returns-clause-exact g c session ready opens)
 
-pub returns-clause-shortfalls : goal.returns-clause-shortfalls
-returns-clause-shortfalls g c = λ session ready opens.
-    c.in_ok-found.ensures.shortfalls (short_session c.args.reached.steps.now c.args.reached.opened.now.step c.args.reached.opened.now.steps.items session)
+pub returns-clause-lines : goal.returns-clause-lines
+returns-clause-lines g c = λ session ready opens.
+    c.in_ok-found.ensures.lines (session_lines c.args.reached.steps.now c.args.reached.opened.now.step c.args.reached.opened.now.steps.items session)
     (ready, (session, (opens, refl)))
 
 pub returns-clause-ready : goal.returns-clause-ready

@@ -1,14 +1,14 @@
 -- A run below an interval.
-use Rattle.std.proofs.Common.{arith, ℕ, ◌+◌, ◌-◌, ◌≤◌, ◌++◌, Option, None, drop, get_or, sym, ap, subst, ◌∙◌}
+use Rattle.std.proofs.Common.{arith, ℕ, ◌+◌, ◌-◌, ◌≤◌, ◌++◌, None, drop, get_or, sym, ap, subst, ◌∙◌}
 use Rattle.std.proofs.lemmas.List.{append-nil, drop_all}
 use Rattle.std.specs.List.{AllByRecursion}
 use Rattle.budget_search.proofs.FaultLemmas.{passed_on, row_below}
 use Rattle.budget_search.proofs.GapLemmas.{close_row, first_row, gap_row}
 use Rattle.own_model.specs.Amounts.{Amounts}
 use Rattle.budget_search.specs.BudgetIntervals.{gaps_after}
+use Rattle.budget_search.specs.RunLines.{RunLines}
 use Rattle.budget_search.specs.declared.budget_intervals.BudgetInterval.{BudgetInterval}
 use Rattle.budget_search.specs.declared.budget_intervals.Likeness.TheVariants.{Same}
-use Rattle.budget_search.specs.declared.trial.RefusedLine.{RefusedLine}
 use Rattle.budget_search.proofs.budget_intervals.BudgetIntervals.fill_holes.Goals as goal
 use Rattle.budget_search.proofs.budget_intervals.BudgetIntervals.fill_holes.Goals.{in-Some+then-ram_from-row+in_ok-trial+in_ok-push, in-Some+else-ram_from-row, in_default}
 
@@ -39,17 +39,18 @@ loop-row-preserved g c =
     let holes = c.loop-row.self.1.1.0.items in
     let within = c.loop-row-test.true in
     let i = c.loop-row.row-index in
-    let rest = λ (short : Amounts → Option RefusedLine). gaps_after short caps (get_or rows i nothing).ram_below (drop (i + 1) rows) in
+    let rest = λ (lines : Amounts → RunLines). gaps_after lines caps (get_or rows i nothing).ram_below (drop (i + 1) rows) in
     elim c.match-end.branch [
       | in-Some+then-ram_from-row+in_ok-trial+in_ok-push w ↦ record {
         rest = ap g.T.BudgetTrials.rest w.trials-is ∙ w.run.ensures.rest ∙ inv.rest;
         runs = λ each want runs. subst (λ t. g.T.BudgetTrials.AreRuns t each want) (sym w.trials-is) (w.in_ok-trial.ensures.still each want (inv.runs each want runs));
         same = λ ram fault fails. inv.same ram fault (w.run.ensures.same ram fault (subst (λ t. g.T.BudgetTrials.fails t ram fault) w.trials-is fails));
         caps = ap g.T.BudgetTrials.caps w.trials-is ∙ w.run.ensures.caps ∙ inv.caps;
-        short = λ short shorts. subst (λ t. g.T.BudgetTrials.AreShort t short) (sym w.trials-is) (w.in_ok-trial.ensures.short_still short (inv.short short shorts));
-        gaps = λ short shorts.
-            gap_row short caps rows i nothing within holes _ c.loop-row.end (inv.gaps short shorts) w.in-Some.ram_from w.in_ok-trial.trial.refused _ w.in-Some.is w.if-ram_from-row.true
-            (w.in_ok-trial.ensures.short short (inv.short short shorts) ∙ ap (λ n. short (record { ram = (get_or rows i nothing).ram_from - 1; caps = n })) inv.caps)
+        lines = λ lines are. subst (λ t. g.T.BudgetTrials.AreLines t lines) (sym w.trials-is) (w.in_ok-trial.ensures.lines_still lines (inv.lines lines are));
+        gaps = λ lines are.
+            gap_row lines caps rows i nothing within holes _ c.loop-row.end (inv.gaps lines are) w.in-Some.ram_from w.in_ok-trial.trial.refused _ w.in-Some.is w.if-ram_from-row.true
+            (ap (λ (found : RunLines). found.refused)
+            (w.in_ok-trial.ensures.lines lines (inv.lines lines are) ∙ ap (λ n. lines (record { ram = (get_or rows i nothing).ram_from - 1; caps = n })) inv.caps))
             (ap (λ (s : _). s.1.1.0.items) w.self-is ∙ w.in_ok-push.ensures.items);
       }
       | in-Some+else-ram_from-row w ↦ record {
@@ -57,28 +58,28 @@ loop-row-preserved g c =
         runs = λ each want runs. subst (λ t. g.T.BudgetTrials.AreRuns t each want) (sym w.trials-is) (inv.runs each want runs);
         same = λ ram fault fails. inv.same ram fault (subst (λ t. g.T.BudgetTrials.fails t ram fault) w.trials-is fails);
         caps = ap g.T.BudgetTrials.caps w.trials-is ∙ inv.caps;
-        short = λ short shorts. subst (λ t. g.T.BudgetTrials.AreShort t short) (sym w.trials-is) (inv.short short shorts);
-        gaps = λ short shorts.
-            ap (λ s. s.1.1.0.items ++ rest short) w.self-is
-            ∙ close_row short caps rows i nothing within holes _ c.loop-row.end (inv.gaps short shorts) w.in-Some.ram_from w.in-Some.is w.if-ram_from-row.false;
+        lines = λ lines are. subst (λ t. g.T.BudgetTrials.AreLines t lines) (sym w.trials-is) (inv.lines lines are);
+        gaps = λ lines are.
+            ap (λ s. s.1.1.0.items ++ rest lines) w.self-is
+            ∙ close_row lines caps rows i nothing within holes _ c.loop-row.end (inv.gaps lines are) w.in-Some.ram_from w.in-Some.is w.if-ram_from-row.false;
       }
       | in_default w ↦ record {
         rest = ap g.T.BudgetTrials.rest w.trials-is ∙ inv.rest;
         runs = λ each want runs. subst (λ t. g.T.BudgetTrials.AreRuns t each want) (sym w.trials-is) (inv.runs each want runs);
         same = λ ram fault fails. inv.same ram fault (subst (λ t. g.T.BudgetTrials.fails t ram fault) w.trials-is fails);
         caps = ap g.T.BudgetTrials.caps w.trials-is ∙ inv.caps;
-        short = λ short shorts. subst (λ t. g.T.BudgetTrials.AreShort t short) (sym w.trials-is) (inv.short short shorts);
-        gaps = λ short shorts.
-            ap (λ s. s.1.1.0.items ++ rest short) w.self-is
-            ∙ first_row short caps rows i nothing within holes _ c.loop-row.end (inv.gaps short shorts) w.in_default.is;
+        lines = λ lines are. subst (λ t. g.T.BudgetTrials.AreLines t lines) (sym w.trials-is) (inv.lines lines are);
+        gaps = λ lines are.
+            ap (λ s. s.1.1.0.items ++ rest lines) w.self-is
+            ∙ first_row lines caps rows i nothing within holes _ c.loop-row.end (inv.gaps lines are) w.in_default.is;
       }
     ]
 
 pub returns-clause-gaps : goal.returns-clause-gaps
-returns-clause-gaps g c = λ short shorts.
+returns-clause-gaps g c = λ lines are.
     let caps = g.T.BudgetTrials.caps c.args.trials.now in
     let rows = c.as_slice-row-items.result.now in
     sym (append-nil c.loop-row.self.1.1.0.items)
-    ∙ ap (λ l. c.loop-row.self.1.1.0.items ++ gaps_after short caps c.loop-row.end l) (sym (drop_all c.loop-row.row-index rows c.loop-row-test.false))
-    ∙ c.loop-row.invariant.gaps short shorts
-    ∙ ap (gaps_after short caps None) c.as_slice-row-items.ensures.value
+    ∙ ap (λ l. c.loop-row.self.1.1.0.items ++ gaps_after lines caps c.loop-row.end l) (sym (drop_all c.loop-row.row-index rows c.loop-row-test.false))
+    ∙ c.loop-row.invariant.gaps lines are
+    ∙ ap (gaps_after lines caps None) c.as_slice-row-items.ensures.value

@@ -1,10 +1,10 @@
 -- The runs are those of the same calls, with the same errors. The gaps so far, and those of the intervals to come, are all.
-use Rattle.std.proofs.Common.{◌≡◌, ◌++◌, Bool, List, ℕ, Option, None, drop}
+use Rattle.std.proofs.Common.{◌≡◌, ◌++◌, Bool, List, ℕ, None, drop}
 use Rattle.own_model.specs.Amounts.{Amounts}
 use Rattle.list_parser.specs.declared.fault.BootFault.{BootFault}
 use Rattle.budget_theorems.specs.Need.{Need}
 use Rattle.budget_search.specs.BudgetIntervals.{gaps_after}
-use Rattle.budget_search.specs.declared.trial.RefusedLine.{RefusedLine}
+use Rattle.budget_search.specs.RunLines.{RunLines}
 use Rattle.budget_search.proofs.budget_intervals.BudgetIntervals.fill_holes.Given as goal
 
 abbrev pub invariant-loop-row : goal.invariant-loop-row
@@ -13,8 +13,8 @@ invariant-loop-row g l = record {
   runs : (each : Amounts → List Need) (want : Amounts → Bool) → g.T.BudgetTrials.AreRuns l.initial.trials each want → g.T.BudgetTrials.AreRuns l.trials each want;
   same : (ram : ℕ) (fault : BootFault) → g.T.BudgetTrials.fails l.trials ram fault → g.T.BudgetTrials.fails l.initial.trials ram fault;
   caps : g.T.BudgetTrials.caps l.trials ≡ g.T.BudgetTrials.caps l.initial.trials;
-  short : (short : Amounts → Option RefusedLine) → g.T.BudgetTrials.AreShort l.initial.trials short → g.T.BudgetTrials.AreShort l.trials short;
-  gaps : (short : Amounts → Option RefusedLine) → g.T.BudgetTrials.AreShort l.initial.trials short →
-      l.self.1.1.0.items ++ gaps_after short (g.T.BudgetTrials.caps l.initial.trials) l.end (drop l.row-index l.row-items)
-      ≡ gaps_after short (g.T.BudgetTrials.caps l.initial.trials) None l.row-items;
+  lines : (lines : Amounts → RunLines) → g.T.BudgetTrials.AreLines l.initial.trials lines → g.T.BudgetTrials.AreLines l.trials lines;
+  gaps : (lines : Amounts → RunLines) → g.T.BudgetTrials.AreLines l.initial.trials lines →
+      l.self.1.1.0.items ++ gaps_after lines (g.T.BudgetTrials.caps l.initial.trials) l.end (drop l.row-index l.row-items)
+      ≡ gaps_after lines (g.T.BudgetTrials.caps l.initial.trials) None l.row-items;
 }

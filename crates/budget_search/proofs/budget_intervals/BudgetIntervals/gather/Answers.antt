@@ -6,6 +6,7 @@ use Rattle.budget_theorems.specs.Need.{Need}
 use Rattle.budget_theorems.specs.Intervals.{is_covered, stretches}
 use Rattle.budget_search.specs.BudgetIntervals.{serves, AreOrdered, AreRows, BeginFrom, Follows, HasHighest}
 use Rattle.budget_search.specs.BudgetIntervals.HasHighest.{is_known, to_come}
+use Rattle.budget_search.specs.RunLines.{RunLines}
 use Rattle.budget_search.specs.declared.budget_intervals.BudgetInterval.{BudgetInterval}
 use Rattle.budget_search.specs.declared.trial.RefusedLine.{RefusedLine}
 use Rattle.budget_search.proofs.FaultLemmas.{passed_on}
@@ -26,11 +27,11 @@ order_kept here caps ram top old new next told same is made =
     (subst (λ o. AreOrdered here top (reverse old) → BeginFrom (suc ram) (reverse old) → AreOrdered here top (reverse new) × IfSome o (λ n. BeginFrom (suc n) (reverse new))) is made)
 
 -- and of the line with the highest RAM
-known_by : (top here caps : ℕ) (short : Amounts → Option RefusedLine) (old new : Option RefusedLine) {ram : ℕ} → here ≡ caps →
-    (HasHighest ram top (short (record { ram = top; caps = here })) old → new ≡ short (record { ram = top; caps = here })) →
-    HasHighest ram top (short (record { ram = top; caps = caps })) old → new ≡ short (record { ram = top; caps = caps })
-known_by top here caps short old new {ram} same made =
-    subst (λ k. HasHighest ram top (short (record { ram = top; caps = k })) old → new ≡ short (record { ram = top; caps = k })) same made
+known_by : (top here caps : ℕ) (lines : Amounts → RunLines) (old new : Option RefusedLine) {ram : ℕ} → here ≡ caps →
+    (HasHighest ram top (lines (record { ram = top; caps = here })).refused old → new ≡ (lines (record { ram = top; caps = here })).refused) →
+    HasHighest ram top (lines (record { ram = top; caps = caps })).refused old → new ≡ (lines (record { ram = top; caps = caps })).refused
+known_by top here caps lines old new {ram} same made =
+    subst (λ k. HasHighest ram top (lines (record { ram = top; caps = k })).refused old → new ≡ (lines (record { ram = top; caps = k })).refused) same made
 
 pub loop-made-init : goal.loop-made-init
 loop-made-init g c = record {
@@ -48,9 +49,10 @@ loop-made-init g c = record {
       let exact : left ≡ suc c.args.top = omega (arith, same) in
       ap (λ rows. serves rows budget || is_covered (stretches each want caps left c.args.top) budget) c.requires.none
       ∙ ap (λ n. is_covered (stretches each want caps n c.args.top) budget) exact;
-  short = λ short shorts. shorts;
-  highest = λ short shorts. to_come refl c.requires.first;
+  lines = λ lines are. are;
+  highest = λ lines are. to_come refl c.requires.first;
   holes = refl;
+  left_out = refl;
 }
 
 pub returns-in-None-clause-exact : goal.returns-in-None-clause-exact
@@ -92,9 +94,10 @@ loop-made-preserved g c =
       rows = λ each want runs. (follows each want runs).rows;
       all = λ each want runs budget up left same.
           (follows each want runs).covers budget up left ∙ inv.all each want runs budget up (suc left) (omega (arith, same));
-      short = λ short shorts. c.in_ok-next.ensures.short_still short (inv.short short shorts);
-      highest = λ short shorts. is_known (known_by c.args.top _ _ short _ _ inv.caps (c.in_ok-next.ensures.refused short (inv.short short shorts)) (inv.highest short shorts));
+      lines = λ lines are. c.in_ok-next.ensures.lines_still lines (inv.lines lines are);
+      highest = λ lines are. is_known (known_by c.args.top _ _ lines _ _ inv.caps (c.in_ok-next.ensures.refused lines (inv.lines lines are)) (inv.highest lines are));
       holes = c.take_run.ensures.holes ∙ inv.holes;
+      left_out = c.take_run.ensures.left_out ∙ inv.left_out;
     }
 
 pub returns-clause-exact : goal.returns-clause-exact
@@ -154,17 +157,17 @@ pub returns-clause-same : goal.returns-clause-same
 returns-clause-same g c = λ ram fault fails. c.loop-made.invariant.same ram fault (c.in_ok-_next.ensures.same ram fault fails)
 
 pub returns-in-None-clause-refused : goal.returns-in-None-clause-refused
-returns-in-None-clause-refused g c = λ short shorts.
+returns-in-None-clause-refused g c = λ lines are.
     let inv = c.loop-made.invariant in
-    known_by c.args.top _ _ short _ _ inv.caps (c.in_ok-next.ensures.refused short (inv.short short shorts)) (inv.highest short shorts)
+    known_by c.args.top _ _ lines _ _ inv.caps (c.in_ok-next.ensures.refused lines (inv.lines lines are)) (inv.highest lines are)
 
 pub returns-clause-refused : goal.returns-clause-refused
-returns-clause-refused g c = λ short shorts.
+returns-clause-refused g c = λ lines are.
     let inv = c.loop-made.invariant in
-    known_by c.args.top _ _ short _ _ inv.caps (c.in_ok-_next.ensures.refused short (inv.short short shorts)) (inv.highest short shorts)
+    known_by c.args.top _ _ lines _ _ inv.caps (c.in_ok-_next.ensures.refused lines (inv.lines lines are)) (inv.highest lines are)
 
-pub returns-in-None-clause-short_still : goal.returns-in-None-clause-short_still
-returns-in-None-clause-short_still g c = λ short shorts. c.in_ok-next.ensures.short_still short (c.loop-made.invariant.short short shorts)
+pub returns-in-None-clause-lines_still : goal.returns-in-None-clause-lines_still
+returns-in-None-clause-lines_still g c = λ lines are. c.in_ok-next.ensures.lines_still lines (c.loop-made.invariant.lines lines are)
 
-pub returns-clause-short_still : goal.returns-clause-short_still
-returns-clause-short_still g c = λ short shorts. c.in_ok-_next.ensures.short_still short (c.loop-made.invariant.short short shorts)
+pub returns-clause-lines_still : goal.returns-clause-lines_still
+returns-clause-lines_still g c = λ lines are. c.in_ok-_next.ensures.lines_still lines (c.loop-made.invariant.lines lines are)

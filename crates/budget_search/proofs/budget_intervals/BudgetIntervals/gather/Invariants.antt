@@ -1,12 +1,12 @@
 -- What the rows cover so far, and what the runs to come will, is all.
-use Rattle.std.proofs.Common.{◌≡◌, ℕ, ◌+◌, ◌≤◌, suc, reverse, Bool, List, Option}
+use Rattle.std.proofs.Common.{◌≡◌, ℕ, ◌+◌, ◌≤◌, suc, reverse, Bool, List}
 use Rattle.std.specs.Prelude.{Some}
 use Rattle.own_model.specs.Amounts.{Amounts}
 use Rattle.list_parser.specs.declared.fault.BootFault.{BootFault}
 use Rattle.budget_theorems.specs.Need.{Need}
 use Rattle.budget_theorems.specs.Intervals.{is_covered, stretches}
 use Rattle.budget_search.specs.BudgetIntervals.{covered_with, AreOrdered, AreRows, BeginFrom, HasHighest}
-use Rattle.budget_search.specs.declared.trial.RefusedLine.{RefusedLine}
+use Rattle.budget_search.specs.RunLines.{RunLines}
 use Rattle.budget_search.proofs.budget_intervals.BudgetIntervals.gather.Given as goal
 
 abbrev pub invariant-loop-made : goal.invariant-loop-made
@@ -25,8 +25,9 @@ invariant-loop-made g l = record {
       (left : ℕ) → l.made + left ≡ suc l.top →
       covered_with each want (g.T.BudgetTrials.caps l.initial.trials) l.self.rows.items left (Some l.ram) budget
       ≡ is_covered (stretches each want (g.T.BudgetTrials.caps l.initial.trials) (suc l.top) l.top) budget;
-  short : (short : Amounts → Option RefusedLine) → g.T.BudgetTrials.AreShort l.initial.trials short → g.T.BudgetTrials.AreShort l.trials short;
-  highest : (short : Amounts → Option RefusedLine) → g.T.BudgetTrials.AreShort l.initial.trials short →
-      HasHighest l.ram l.top (short (record { ram = l.top; caps = g.T.BudgetTrials.caps l.initial.trials })) l.self.refused;
+  lines : (lines : Amounts → RunLines) → g.T.BudgetTrials.AreLines l.initial.trials lines → g.T.BudgetTrials.AreLines l.trials lines;
+  highest : (lines : Amounts → RunLines) → g.T.BudgetTrials.AreLines l.initial.trials lines →
+      HasHighest l.ram l.top (lines (record { ram = l.top; caps = g.T.BudgetTrials.caps l.initial.trials })).refused l.self.refused;
   holes : l.self.holes ≡ l.initial.self.holes;
+  left_out : l.self.left_out ≡ l.initial.self.left_out;
 }

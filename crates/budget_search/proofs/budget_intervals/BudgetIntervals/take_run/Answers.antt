@@ -1,5 +1,6 @@
 -- The run, and what it leaves to come.
 use Rattle.std.proofs.Common.{arith, reverse, ap, ◌∙◌}
+use Rattle.budget_search.specs.RunLines.{RunLines}
 use Rattle.budget_search.proofs.OrderLemmas.{from_less}
 use Rattle.budget_search.proofs.RowLemmas.{last_run, next_run}
 use Rattle.budget_search.proofs.budget_intervals.BudgetIntervals.take_run.Goals as goal
@@ -27,11 +28,11 @@ returns-clause-ordered g c = λ each want runs within ordered above.
     (made.0, from_less _ c.in_ok-trial.trial.meter.choice (reverse c.take.new.self.rows.items) (omega (arith, some)) made.1)
 
 pub returns-then-choice-eq0-clause-refused : goal.returns-then-choice-eq0-clause-refused
-returns-then-choice-eq0-clause-refused g c = λ short shorts highest.
-    c.in_ok-take.ensures.refused (short (record { ram = c.args.top; caps = g.T.BudgetTrials.caps c.args.trials.now }))
-    (λ same. c.in_ok-trial.ensures.short short shorts ∙ ap (λ ram. short (record { ram = ram; caps = g.T.BudgetTrials.caps c.args.trials.now })) same) highest
+returns-then-choice-eq0-clause-refused g c = λ lines are highest.
+    c.in_ok-take.ensures.refused (lines (record { ram = c.args.top; caps = g.T.BudgetTrials.caps c.args.trials.now })).refused
+    (λ same. ap (λ (found : RunLines). found.refused) (c.in_ok-trial.ensures.lines lines are ∙ ap (λ ram. lines (record { ram = ram; caps = g.T.BudgetTrials.caps c.args.trials.now })) same)) highest
 
 pub returns-clause-refused : goal.returns-clause-refused
-returns-clause-refused g c = λ short shorts highest.
-    c.in_ok-take.ensures.refused (short (record { ram = c.args.top; caps = g.T.BudgetTrials.caps c.args.trials.now }))
-    (λ same. c.in_ok-trial.ensures.short short shorts ∙ ap (λ ram. short (record { ram = ram; caps = g.T.BudgetTrials.caps c.args.trials.now })) same) highest
+returns-clause-refused g c = λ lines are highest.
+    c.in_ok-take.ensures.refused (lines (record { ram = c.args.top; caps = g.T.BudgetTrials.caps c.args.trials.now })).refused
+    (λ same. ap (λ (found : RunLines). found.refused) (c.in_ok-trial.ensures.lines lines are ∙ ap (λ ram. lines (record { ram = ram; caps = g.T.BudgetTrials.caps c.args.trials.now })) same)) highest

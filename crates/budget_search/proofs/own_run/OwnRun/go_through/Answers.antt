@@ -1,13 +1,14 @@
 -- Line by line.
-use Rattle.std.proofs.Common.{◌+◌, ◌<◌, length, drop, sym, ◌∙◌, subst}
+use Rattle.std.proofs.Common.{◌+◌, ◌<◌, length, drop, ap, sym, ◌∙◌, subst}
 use Rattle.std.specs.Prelude.{is_some}
-use Rattle.own_model.specs.Transcript.{entry_at}
+use Rattle.own_model.specs.Transcript.{entry_at, state_at}
 use Rattle.budget_meter.specs.Run.{Shows}
-use Rattle.budget_search.specs.Run.{HasFirstShort, HasLeft}
-use Rattle.budget_search.specs.ShortLines.{short_line}
-use Rattle.budget_search.specs.Steps.{calls_of}
+use Rattle.budget_meter.specs.Needs.{amounts_of}
+use Rattle.budget_search.specs.Run.{HasLeft, HasLinesLeft}
+use Rattle.budget_search.specs.OwnLines.{lines_with, own_lines}
+use Rattle.budget_search.specs.Steps.{call_of, calls_of, mark_of}
 use Rattle.budget_search.proofs.RunLemmas.{next_calls, all_done, no_calls}
-use Rattle.budget_search.proofs.ShortLineLemmas.{last_first, next_first}
+use Rattle.budget_search.proofs.OwnLineLemmas.{last_lines, next_lines, none_left, same_lines}
 use Rattle.budget_search.proofs.own_run.OwnRun.go_through.Goals as goal
 
 pub returns-then-not-branch-clause-shows : goal.returns-then-not-branch-clause-shows
@@ -39,12 +40,17 @@ loop-step-preserved g c =
           c.in_ok-goes_on.ensures.left c.if-not-branch.false calls (calls_of (drop (i + 1) steps)) budget s
           (subst (λ each. HasLeft now.core.now now.component now.heard calls each budget s) (next_calls steps i item c.loop-step-test.true c.step-item.is)
           (kept.left calls budget s before));
-      first = λ first before.
+      meter = c.goes_on.ensures.meter ∙ kept.meter;
+      lines = λ whole before.
           let entry = entry_at now.core.now.entries now.component in
-          subst (λ e. HasFirstShort new.core.now new.component new.heard (short_line e (drop (i + 1) steps)) first)
-          (sym (λ k. entry_at (c.goes_on.ensures.entries k) (c.goes_on.ensures.same k)))
-          (c.in_ok-goes_on.ensures.later c.if-not-branch.false (short_line entry (drop (i + 1) steps)) first
-          (next_first now.core.now now.component now.heard entry steps i first item c.loop-step-test.true c.step-item.is (kept.first first before)));
+          let budget = amounts_of now.trial.meter.start in
+          subst (λ rest. HasLinesLeft new.core.now new.component new.heard new.trial.left_out.items rest whole)
+          (sym
+          (λ k. own_lines (entry_at (c.goes_on.ensures.entries k) (c.goes_on.ensures.same k)) (amounts_of (c.goes_on.ensures.meter k).start) (drop (i + 1) steps)))
+          (c.in_ok-goes_on.ensures.later c.if-not-branch.false (own_lines entry budget (drop (i + 1) steps)) whole
+          (same_lines now.core.now now.component now.heard now.trial.left_out.items (own_lines entry budget (drop i steps)) whole (kept.lines whole before)
+          (lines_with entry budget (mark_of item) (call_of item) (own_lines entry budget (drop (i + 1) steps)))
+          (next_lines entry budget steps i (state_at now.core.now.states now.component) item c.loop-step-test.true c.step-item.is)));
     }
 
 pub returns-clause-shows : goal.returns-clause-shows
@@ -56,20 +62,27 @@ returns-clause-shows g c = λ calls budget s left.
     (subst (λ each. HasLeft now.core.now now.component now.heard calls each budget s)
     (no_calls c.args.steps.now c.loop-step.step-index c.loop-step-test.false) (kept.left calls budget s left)))
 
-pub returns-then-not-branch-clause-short : goal.returns-then-not-branch-clause-short
-returns-then-not-branch-clause-short g c = λ first before.
+pub returns-then-not-branch-clause-lines : goal.returns-then-not-branch-clause-lines
+returns-then-not-branch-clause-lines g c = λ whole before.
     let now = c.loop-step.self in
     let steps = c.args.steps.now in
     let i = c.loop-step.step-index in
+    let item = c.step-item.result in
     let entry = entry_at now.core.now.entries now.component in
-    c.in_ok-goes_on.ensures.short c.if-not-branch.true (short_line entry (drop (i + 1) steps)) first
-    (next_first now.core.now now.component now.heard entry steps i first c.step-item.result c.loop-step-test.true c.step-item.is
-    (c.loop-step.invariant.first first before))
+    let budget = amounts_of now.trial.meter.start in
+    c.in_ok-goes_on.ensures.lines c.if-not-branch.true (own_lines entry budget (drop (i + 1) steps)) whole
+    (same_lines now.core.now now.component now.heard now.trial.left_out.items (own_lines entry budget (drop i steps)) whole (c.loop-step.invariant.lines whole before)
+    (lines_with entry budget (mark_of item) (call_of item) (own_lines entry budget (drop (i + 1) steps)))
+    (next_lines entry budget steps i (state_at now.core.now.states now.component) item c.loop-step-test.true c.step-item.is))
 
-pub returns-clause-short : goal.returns-clause-short
-returns-clause-short g c = λ first before.
+pub returns-clause-lines : goal.returns-clause-lines
+returns-clause-lines g c = λ whole before.
     let now = c.loop-step.self in
     let kept = c.loop-step.invariant in
-    kept.none
-    ∙ last_first now.core.now now.component now.heard (entry_at now.core.now.entries now.component) c.args.steps.now c.loop-step.step-index first c.loop-step-test.false
-    (kept.first first before)
+    let i = c.loop-step.step-index in
+    let entry = entry_at now.core.now.entries now.component in
+    let budget = amounts_of now.trial.meter.start in
+    let so_far = now.trial.left_out.items in
+    ap (λ refused. record { left_out = so_far; refused = refused }) kept.none
+    ∙ none_left now.core.now now.component now.heard so_far (own_lines entry budget (drop i c.args.steps.now)) whole (kept.lines whole before)
+    (last_lines entry budget c.args.steps.now i (state_at now.core.now.states now.component) c.loop-step-test.false)

@@ -4,11 +4,12 @@ use Rattle.std.specs.Prelude.{slice_get}
 use Rattle.own_model.specs.Amounts.{Amounts}
 use Rattle.own_model.specs.Transcript.{entry_at}
 use Rattle.budget_search.specs.Alike.{own_entry, most_in}
-use Rattle.budget_search.specs.BudgetIntervals.{lowest_of, safe_of, HasShortfalls}
+use Rattle.budget_search.specs.BudgetIntervals.{lowest_of, safe_of, HasRunLines}
 use Rattle.budget_search.specs.OpenedSessions.{opened_with, sent_at, suffices_of, AreExactOf}
 use Rattle.budget_search.specs.ReachedSessions.{reached_of}
+use Rattle.budget_search.specs.RunLines.{RunLines}
 use Rattle.budget_search.specs.SessionAccounts.{most_for}
-use Rattle.budget_search.specs.ShortRequests.{short_session}
+use Rattle.budget_search.specs.SessionLines.{session_lines}
 use Rattle.budget_search.specs.Sufficient.{HasLeast, HasSafe}
 use Rattle.budget_search.proofs.FaultLemmas.{passed_on, lacks_donation, lacks_most}
 use Rattle.budget_search.proofs.SessionLemmas.{some_is}
@@ -43,13 +44,13 @@ returns-clause-account g c = λ before.
       session = session;
       opens = sym (ap (λ entry. opened_with entry opening) before.same) ∙ some.1;
       refused = (c.in_ok-given.ensures.run session before.ready some.1).want;
-      line = c.in_ok-given.ensures.short session before.ready some.1;
+      line = ap (λ (found : RunLines). found.refused) (c.in_ok-given.ensures.lines session before.ready some.1);
       exact = subst (λ (most : Amounts). AreExactOf sent session most.caps most.ram rows) most (c.in_ok-found.ensures.exact session ready again);
       least = subst (λ most. HasLeast (suffices_of sent session) most (lowest_of rows)) most (c.in_ok-found.ensures.least session ready again);
       safe = subst (λ most. HasSafe (suffices_of sent session) most (safe_of rows)) most (c.in_ok-found.ensures.safe session ready again);
-      shortfalls =
-          subst (λ most. HasShortfalls (short_session c.args.steps.now one.opening one.places session) most c.in_ok-found.found) most
-          (c.in_ok-found.ensures.shortfalls session ready again);
+      lines =
+          subst (λ most. HasRunLines (session_lines c.args.steps.now one.opening one.places session) most c.in_ok-found.found) most
+          (c.in_ok-found.ensures.lines session ready again);
     }
 
 pub returns-clause-ready : goal.returns-clause-ready

@@ -4,11 +4,12 @@ use Rattle.std.specs.Prelude.{is_some}
 use Rattle.std.specs.Option.{option_copied}
 use Rattle.own_model.specs.Amounts.{Amounts}
 use Rattle.own_model.specs.Session.{new_session}
+use Rattle.budget_meter.specs.Needs.{amounts_of}
 use Rattle.budget_meter.specs.Sessions.{Shows}
 use Rattle.budget_search.specs.OpenedSessions.{IsReady, sent_at, HasDue}
-use Rattle.budget_search.specs.ShortRequests.{short_at}
+use Rattle.budget_search.specs.SessionLines.{lines_at}
 use Rattle.budget_search.proofs.SessionLemmas.{begins, closes, kinds_told}
-use Rattle.budget_search.proofs.ShortRequestLemmas.{short_begins}
+use Rattle.budget_search.proofs.SessionLineLemmas.{lines_begin}
 use Rattle.budget_search.proofs.session_trial.SessionLines.run.Goals as goal
 use Rattle.budget_search.proofs.FaultLemmas.{passed_on}
 
@@ -43,11 +44,14 @@ returns-in_err-go_through-clause-lacks g c =
     c.in_err-go_through.ensures.lacks other due
     (subst (λ places. HasDue c.args.client.now.core c.args.client.now.client due (sent_at c.args.self.steps.now places)) (sym c.as_slice.ensures.value) before))
 
-pub returns-clause-short : goal.returns-clause-short
-returns-clause-short g c = λ wish enough same has.
+pub returns-clause-lines : goal.returns-clause-lines
+returns-clause-lines g c = λ wish enough same has.
+    let steps = c.args.self.steps.now in
     let donation : Amounts = record { ram = wish.ram; caps = wish.caps } in
-    let first = short_at c.args.self.steps.now c.as_slice.result.now None (new_session wish) in
-    c.in_ok-go_through.ensures.short (new_session wish) donation first
-    (short_begins c.args.client.now.core c.args.client.now.client wish c.in_ok-heard.heard (short_at c.args.self.steps.now c.as_slice.result.now) has
+    let begun = c.new-2.result in
+    let whole = lines_at (amounts_of c.args.donation) steps c.as_slice.result.now None (new_session wish) in
+    c.in_ok-go_through.ensures.lines (new_session wish) donation whole
+    (lines_begin c.args.client.now.core c.args.client.now.client wish c.in_ok-heard.heard begun.left_out.items (lines_at (amounts_of begun.meter.start) steps c.as_slice.result.now) whole
+    (ap (λ lines. lines.left_out) c.new-2.ensures.lines) (ap (λ start. lines_at (amounts_of start) steps c.as_slice.result.now None (new_session wish)) c.new-2.ensures.start) has
     (c.in_ok-heard.ensures wish (kinds_told c.args.client.now.core c.args.client.now.client (new_session wish) has (option_copied c.kinds.result) c.kinds.ensures) enough same))
-    ∙ ap (λ places. short_at c.args.self.steps.now places None (new_session wish)) c.as_slice.ensures.value
+    ∙ ap (λ places. lines_at (amounts_of c.args.donation) steps places None (new_session wish)) c.as_slice.ensures.value

@@ -7,9 +7,10 @@ use Rattle.own_model.specs.Transcript.{entry_at}
 use Rattle.core_calls.specs.Call.{model_call}
 use Rattle.budget_meter.specs.Needs.{amounts_of}
 use Rattle.budget_search.specs.OpenedSessions.{HasSelectors, IsReady, held, opened_by, opened_with, sent_at, is_too_small, raised_in}
-use Rattle.budget_search.specs.ShortRequests.{donated_shortage, refused_line}
+use Rattle.budget_search.specs.RunLines.{ended_by, lines_in}
+use Rattle.budget_search.specs.SessionLines.{donated_shortage, refused_line}
 use Rattle.budget_search.proofs.SessionLemmas.{account_told, none_told, each_ok, each_on, each_three, routed_few, routed_open, shows_run, small_run, was_not, was_opened, wish_again}
-use Rattle.budget_search.proofs.ShortRequestLemmas.{each_two, short_opened, short_unopened}
+use Rattle.budget_search.proofs.SessionLineLemmas.{each_two, lines_opened, lines_unopened}
 use Rattle.budget_search.proofs.session_trial.SessionLines.trial.Goals as goal
 use Rattle.std.proofs.lemmas.Result.{IfErr-weaker}
 use Rattle.own_model.specs.Account.{Account, Fits}
@@ -210,8 +211,8 @@ returns-clause-lacks g c =
     (sym (ap is_too_small c.answer.ensures) ∙ large))
     c.unopened.ensures.large
 
-pub returns-in-Some-account-clause-short : goal.returns-in-Some-account-clause-short
-returns-in-Some-account-clause-short g c =
+pub returns-in-Some-account-clause-lines : goal.returns-in-Some-account-clause-lines
+returns-in-Some-account-clause-lines g c =
     each_ok c.run.result
     (λ trial is session ready opens.
     let world = c.args.client.now.core in
@@ -230,12 +231,12 @@ returns-in-Some-account-clause-short g c =
     again.1.0 c.in-Some-account.account
     (account_told c.step.new.self.core c.step.new.self.client client world.entries c.account.result c.in-Some-account.account c.step.ensures.same c.step.ensures.entries ready.entry
     c.in-Some-account.is c.account.ensures) in
-    short_opened c.args.self.steps.now c.args.self.opened.now.step c.args.self.opened.now.steps.items again.0 donation session trial.refused again.1.1 opened.enough
+    lines_opened c.args.self.steps.now c.args.self.opened.now.step c.args.self.opened.now.steps.items again.0 donation session (lines_in trial) again.1.1 opened.enough
     (is wish opened.enough opened.same (subst (λ p. HasSelectors c.step.new.self.core p (held (new_session wish) None)) (sym c.step.ensures.same) opened.has)))
-    c.run.ensures.short
+    c.run.ensures.lines
 
-pub returns-clause-short : goal.returns-clause-short
-returns-clause-short g c =
+pub returns-clause-lines : goal.returns-clause-lines
+returns-clause-lines g c =
     each_two c.unopened.result
     (λ trial small is session ready opens.
     let world = c.args.client.now.core in
@@ -254,6 +255,6 @@ returns-clause-short g c =
     again.1.0
     (none_told c.step.new.self.core c.step.new.self.client client world.entries c.account.result c.step.ensures.same c.step.ensures.entries ready.entry c.in-None.is c.account.ensures)
     (sym (ap is_too_small c.answer.ensures) ∙ small) in
-    short_unopened c.args.self.steps.now c.args.self.opened.now.step c.in-Some.opening.now c.args.self.opened.now.steps.items donation session c.step.new.self.reply.text trial.refused found
-    (is ∙ ap (λ reply. refused_line c.in-Some.opening.now.number (donated_shortage reply)) c.answer.ensures) left.shows)
-    c.unopened.ensures.small c.unopened.ensures.short
+    lines_unopened c.args.self.steps.now c.args.self.opened.now.step c.in-Some.opening.now c.args.self.opened.now.steps.items donation session c.step.new.self.reply.text (lines_in trial) found
+    (is ∙ ap (λ reply. ended_by (refused_line c.in-Some.opening.now.number (donated_shortage reply))) c.answer.ensures) left.shows)
+    c.unopened.ensures.small c.unopened.ensures.lines

@@ -1,12 +1,14 @@
 -- By the call of the line.
 use Rattle.std.proofs.lemmas.Bool.Decides.{nat_tests}
-use Rattle.std.proofs.Common.{arith, ◌≡◌, sym, ap, ◌∙◌, subst}
+use Rattle.std.proofs.Common.{arith, ◌≡◌, refl, sym, ap, ◌∙◌, subst}
 use Rattle.std.specs.Prelude.{Some}
 use Rattle.core_calls.specs.Call.{model_call}
+use Rattle.budget_meter.specs.Needs.{amounts_of}
 use Rattle.budget_search.specs.OpenedSessions.{HasLeft, sends, HasDue}
-use Rattle.budget_search.specs.ShortRequests.{IsShortBy, short_call}
+use Rattle.budget_search.specs.SessionLines.{HasSessionLeft, lines_calling}
+use Rattle.budget_search.specs.Steps.{mark_of}
 use Rattle.budget_search.proofs.SessionLemmas.{each_ok, each_on}
-use Rattle.budget_search.proofs.session_trial.SessionClient.goes_on.Goals as goal
+use Rattle.budget_search.proofs.session_client.SessionClient.goes_on.Goals as goal
 use Rattle.std.proofs.lemmas.Result.{IfErr-weaker}
 use Rattle.budget_search.proofs.FaultLemmas.{passed_on}
 
@@ -80,34 +82,38 @@ returns-in_default-call-clause-due g c = λ due rest before.
     subst (λ each. HasDue c.args.self.now.core c.args.self.now.client due each)
     (ap (λ call. sends left call rest) (sym c.in-Some.ensures.call) ∙ other) before
 
-pub returns-in-CallSession-clause-short : goal.returns-in-CallSession-clause-short
-returns-in-CallSession-clause-short g c =
+pub returns-in-CallSession-clause-later : goal.returns-in-CallSession-clause-later
+returns-in-CallSession-clause-later g c =
     each_ok c.ask.result
-    (λ on follows is session donation rest first before.
-    follows is session donation rest first c.in-CallSession.selector
-    (subst (λ call. IsShortBy c.args.self.now.core c.args.self.now.client c.args.run.now.heard session donation (short_call c.args.step.now.number c.args.step.now.is_left_out call rest) first)
+    (λ on follows is session donation rest whole before.
+    follows is session donation rest whole c.in-CallSession.selector
+    (subst (λ call. HasSessionLeft c.args.self.now.core c.args.self.now.client c.args.run.now.heard session donation c.args.run.now.trial.left_out.items
+    (lines_calling (amounts_of c.args.run.now.trial.meter.start) (mark_of c.args.step.now) call rest) whole)
     (sym (ap (λ x. Some (model_call x)) (sym c.in-CallSession.is) ∙ c.in-Some.ensures.call)) before))
-    c.ask.ensures.short
+    c.ask.ensures.later
 
-pub returns-in-CallSession-clause-refused : goal.returns-in-CallSession-clause-refused
-returns-in-CallSession-clause-refused g c =
+pub returns-in-CallSession-clause-lines : goal.returns-in-CallSession-clause-lines
+returns-in-CallSession-clause-lines g c =
     each_ok c.ask.result
-    (λ on follows is session donation rest first before.
-    follows is session donation rest first c.in-CallSession.selector
-    (subst (λ call. IsShortBy c.args.self.now.core c.args.self.now.client c.args.run.now.heard session donation (short_call c.args.step.now.number c.args.step.now.is_left_out call rest) first)
+    (λ on follows is session donation rest whole before.
+    follows is session donation rest whole c.in-CallSession.selector
+    (subst (λ call. HasSessionLeft c.args.self.now.core c.args.self.now.client c.args.run.now.heard session donation c.args.run.now.trial.left_out.items
+    (lines_calling (amounts_of c.args.run.now.trial.meter.start) (mark_of c.args.step.now) call rest) whole)
     (sym (ap (λ x. Some (model_call x)) (sym c.in-CallSession.is) ∙ c.in-Some.ensures.call)) before))
-    c.ask.ensures.refused
+    c.ask.ensures.lines
 
-pub returns-in_ok-raise-in-Upgrade-clause-short : goal.returns-in_ok-raise-in-Upgrade-clause-short
-returns-in_ok-raise-in-Upgrade-clause-short g c = λ _ session donation rest first before.
-    c.in_ok-raise-in-Upgrade.ensures.short session donation rest first c.args.step.now.number c.in-Upgrade.selector
-    (subst (λ call. IsShortBy c.args.self.now.core c.args.self.now.client c.args.run.now.heard session donation (short_call c.args.step.now.number c.args.step.now.is_left_out call rest) first)
+pub returns-in_ok-raise-in-Upgrade-clause-later : goal.returns-in_ok-raise-in-Upgrade-clause-later
+returns-in_ok-raise-in-Upgrade-clause-later g c = λ _ session donation rest whole before.
+    c.in_ok-raise-in-Upgrade.ensures.later session donation rest whole (mark_of c.args.step.now) c.in-Upgrade.selector refl
+    (subst (λ call. HasSessionLeft c.args.self.now.core c.args.self.now.client c.args.run.now.heard session donation c.args.run.now.trial.left_out.items
+    (lines_calling (amounts_of c.args.run.now.trial.meter.start) (mark_of c.args.step.now) call rest) whole)
     (sym (ap (λ x. Some (model_call x)) (sym c.in-Upgrade.is) ∙ c.in-Some.ensures.call)) before)
 
-pub returns-in_default-call-clause-short : goal.returns-in_default-call-clause-short
-returns-in_default-call-clause-short g c = λ _ session donation rest first before.
-    let left = c.args.step.now.is_left_out in
-    let other : short_call c.args.step.now.number left (Some (model_call c.in-Some.call)) rest ≡ rest
+pub returns-in_default-call-clause-later : goal.returns-in_default-call-clause-later
+returns-in_default-call-clause-later g c = λ _ session donation rest whole before.
+    let start = amounts_of c.args.run.now.trial.meter.start in
+    let mark = mark_of c.args.step.now in
+    let other : lines_calling start mark (Some (model_call c.in-Some.call)) rest ≡ rest
     = grind (arith, nat_tests, c.in_default-call.not-Upgrade, c.in_default-call.not-CallSession) in
-    subst (λ each. IsShortBy c.args.self.now.core c.args.self.now.client c.args.run.now.heard session donation each first)
-    (ap (λ call. short_call c.args.step.now.number left call rest) (sym c.in-Some.ensures.call) ∙ other) before
+    subst (λ each. HasSessionLeft c.args.self.now.core c.args.self.now.client c.args.run.now.heard session donation c.args.run.now.trial.left_out.items each whole)
+    (ap (λ call. lines_calling start mark call rest) (sym c.in-Some.ensures.call) ∙ other) before

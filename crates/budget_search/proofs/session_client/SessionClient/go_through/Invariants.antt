@@ -1,13 +1,13 @@
 -- What is left to send is what the lines at the places to come do.
 use Rattle.std.proofs.Common.{◌≡◌, List, None, drop}
-use Rattle.std.specs.Prelude.{Option}
 use Rattle.own_model.specs.Amounts.{Amounts}
 use Rattle.own_model.specs.Session.{Session}
 use Rattle.budget_meter.specs.SessionRuns.{Sent}
+use Rattle.budget_meter.specs.Needs.{amounts_of}
 use Rattle.budget_search.specs.OpenedSessions.{HasLeft, sent_at, HasDue, whole_at}
-use Rattle.budget_search.specs.ShortRequests.{IsShortBy, short_at}
-use Rattle.budget_search.specs.declared.trial.RefusedLine.{RefusedLine}
-use Rattle.budget_search.proofs.session_trial.SessionClient.go_through.Given as goal
+use Rattle.budget_search.specs.RunLines.{RunLines}
+use Rattle.budget_search.specs.SessionLines.{HasSessionLeft, lines_at}
+use Rattle.budget_search.proofs.session_client.SessionClient.go_through.Given as goal
 
 abbrev pub invariant-loop-place : goal.invariant-loop-place
 invariant-loop-place g l = record {
@@ -20,7 +20,10 @@ invariant-loop-place g l = record {
   left : (sent : List Sent) (session : Session) (donation : Amounts) →
       HasLeft l.initial.self.core l.initial.self.client l.initial.run.heard sent (sent_at l.steps l.places) session donation →
       HasLeft l.self.core l.self.client l.run.heard sent (sent_at l.steps (drop l.place-index l.places)) session donation;
-  short : (session : Session) (donation : Amounts) (first : Option RefusedLine) →
-      IsShortBy l.initial.self.core l.initial.self.client l.initial.run.heard session donation (short_at l.steps l.places) first →
-      IsShortBy l.self.core l.self.client l.run.heard session donation (short_at l.steps (drop l.place-index l.places)) first;
+  meter : l.run.trial.meter ≡ l.initial.run.trial.meter;
+  lines : (session : Session) (donation : Amounts) (whole : RunLines) →
+      HasSessionLeft l.initial.self.core l.initial.self.client l.initial.run.heard session donation l.initial.run.trial.left_out.items
+      (lines_at (amounts_of l.initial.run.trial.meter.start) l.steps l.places) whole →
+      HasSessionLeft l.self.core l.self.client l.run.heard session donation l.run.trial.left_out.items
+      (lines_at (amounts_of l.initial.run.trial.meter.start) l.steps (drop l.place-index l.places)) whole;
 }
