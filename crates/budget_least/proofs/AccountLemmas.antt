@@ -8,18 +8,20 @@ use Rattle.std.specs.Option.{option_map, option_map_or, unwrap_or}
 use Rattle.own_model.specs.Amounts.{Amounts}
 use Rattle.own_model.specs.Listed.{Binary, Listed, ListedEntry, kind_of}
 use Rattle.own_model.specs.Listed.Binary.{Script as AScript, Server as AServer, Init as AnInit}
-use Rattle.own_model.specs.StartList.Kind.{Script}
+use Rattle.own_model.specs.StartList.{Kind}
+use Rattle.own_model.specs.StartList.Kind.{Script, Server, Init}
 use Rattle.list_parser.specs.Depth.{is_init, runs_init}
 use Rattle.budget_meter.specs.Needs.{amounts_of}
+use Rattle.budget_least.proofs.SessionLemmas.{own_none, same_sessions}
 use Rattle.budget_search.proofs.AlikeLemmas.{entry_named}
 use Rattle.budget_search.proofs.CountLemmas.{accounts_own}
 use Rattle.budget_search.proofs.SeenLemmas.{Seen, seen, accounts_still, written_still}
 use Rattle.budget_search.specs.AccountNeeds.{need_rows, IsChanged, IsIdle}
 use Rattle.budget_search.specs.Alike.{given_in, most_in, own_entry}
-use Rattle.budget_search.specs.BudgetIntervals.{gaps_after, lowest_of, safe_of}
+use Rattle.budget_search.specs.BudgetIntervals.{gaps_after, left_out_at, lowest_of, safe_of}
 use Rattle.budget_search.specs.Own.{suffices_with, AreExact}
-use Rattle.budget_search.specs.SessionAccounts.{AreSessionAccounts}
-use Rattle.budget_search.specs.ShortLines.{short_line_with}
+use Rattle.budget_search.specs.OwnLines.{lines_from}
+use Rattle.budget_search.specs.RunLines.{RunLines}
 use Rattle.budget_search.specs.Sufficient.{HasLeast, HasSafe}
 use Rattle.budget_search.specs.declared.account_budgets.AccountBudgets.{AccountBudgets}
 use Rattle.budget_search.specs.declared.component_line.ComponentLine.{ComponentLine}
@@ -27,6 +29,7 @@ use Rattle.budget_search.specs.declared.script_search.ScriptSessions.{ScriptSess
 use Rattle.budget_least.specs.ComponentAccounts.{steps_at, AreAccounts, AreAccountsOf, AreSessionsFrom, AreSessionsOf, IsMeasured, IsOwnOf, IsSessionsOf}
 use Rattle.budget_least.specs.ComponentLines.{lines_of, AreAllWritten, AreWritten, ReadLine}
 use Rattle.budget_least.specs.InitNeeds.{is_init_at, AreChanged}
+use Rattle.budget_least.specs.LineDonations.{sessions_in}
 
 -- ---- sessions of one component more
 
@@ -43,7 +46,7 @@ one_more list steps first (one ∷ scripts) script are is =
 -- ---- lines that donate otherwise
 
 abbrev seen_back : ReadLine → Seen
-seen_back line = record { number = line.number; left_out = line.left_out; text = line.text }
+seen_back line = record { mark = line.mark; text = line.text }
 
 seen_lines : (steps : List ComponentLine) → map seen steps ≡ map seen_back (lines_of steps)
 seen_lines [] = refl
@@ -74,7 +77,9 @@ module _ {Z : Type 0} (list : Listed) (olds news : List (Vec ComponentLine Z))
   session_still component (Some found) is = record {
     script = is.script;
     accounts = accounts_still list component (steps_at olds component) (steps_at news component) (seen_at component) found.accounts.items is.accounts;
-    refused = is.refused ∙ written_still list component (steps_at olds component) (steps_at news component) (seen_at component) (given_in list component);
+    refused =
+        is.refused
+        ∙ ap (λ (lines : RunLines). lines.refused) (written_still list component (steps_at olds component) (steps_at news component) (seen_at component) (given_in list component));
   }
 
   pub sessions_still : (component : ℕ) (scripts : List (Option ScriptSessions)) → AreSessionsFrom list olds component scripts → AreSessionsFrom list news component scripts
@@ -133,9 +138,11 @@ module _ (list : Listed) (place : ℕ) (need : Option Amounts) (starts : is_init
     exact = subst (λ r. AreExact list component steps (most_in list component).caps (most_in list component).ram r) (sym rows) is.exact;
     least = subst (λ r. HasLeast (suffices_with list component steps) (most_in list component) (lowest_of r)) (sym rows) is.least;
     safe = subst (λ r. HasSafe (suffices_with list component steps) (most_in list component) (safe_of r)) (sym rows) is.safe;
-    shortfalls = record {
-      highest = kept.refused ∙ is.shortfalls.highest;
-      gaps = kept.gaps ∙ is.shortfalls.gaps ∙ ap (gaps_after (short_line_with list component steps) (most_in list component).caps None) (sym rows);
+    lines = record {
+      highest = kept.refused ∙ is.lines.highest;
+      gaps = kept.gaps ∙ is.lines.gaps ∙ ap (gaps_after (lines_from list component steps) (most_in list component).caps None) (sym rows);
+      left_out =
+          kept.left_out ∙ is.lines.left_out ∙ ap (λ r. left_out_at (lines_from list component steps) (most_in list component).caps (lowest_of r)) (sym rows);
     };
   }
 
@@ -201,14 +208,21 @@ module _ (list : Listed) (place : ℕ) (need : Option Amounts) (starts : is_init
   none_kept [] are = refl
   none_kept (new ∷ news) are = absurd are
 
+  unscripted_kept : (component : ℕ) (steps : List ComponentLine) (olds news : List AccountBudgets) → ((own_entry list component).kind ≡ Script → ⊥) →
+      AreChanged place need olds news → AreSessionsOf list component steps olds → news ≡ olds
+  unscripted_kept component steps olds news other are before =
+      none_kept news (subst (λ l. AreChanged place need l news) (before.other other) are) ∙ sym (before.other other)
+
+  kept_by_kind : (kind : Kind) (component : ℕ) (steps : List ComponentLine) (olds news : List AccountBudgets) → (own_entry list component).kind ≡ kind →
+      AreChanged place need olds news → AreSessionsOf list component steps olds → news ≡ olds
+  kept_by_kind Script component steps olds news is are before =
+      same_kept component olds news is are (accounts_own list component steps olds (before.script is))
+  kept_by_kind Server component steps olds news is are before = unscripted_kept component steps olds news (λ script. absurd (cc)) are before
+  kept_by_kind Init component steps olds news is are before = unscripted_kept component steps olds news (λ script. absurd (cc)) are before
+
   sessions_kept : (component : ℕ) (steps : List ComponentLine) (olds news : List AccountBudgets) → AreChanged place need olds news →
-      AreSessionsOf list component steps olds → AreSessionsOf list component steps news
-  sessions_kept component steps olds news are before = record {
-    script = λ kind.
-        let sessions = before.script kind in
-        subst (AreSessionAccounts list component steps) (sym (same_kept component olds news kind are (accounts_own list component steps olds sessions))) sessions;
-    other = λ kind. none_kept news (subst (λ l. AreChanged place need l news) (before.other kind) are);
-  }
+      AreSessionsOf list component steps olds → news ≡ olds
+  sessions_kept component steps olds news are before = kept_by_kind (own_entry list component).kind component steps olds news refl are before
 
   with_own : (component : ℕ) (steps : List ComponentLine) (olds : List AccountBudgets) (old : AccountBudgets) (front back news : List AccountBudgets) → news ≡ front ++ back →
       AreChanged place need olds front → AreChanged place need (old ∷ []) back → AreSessionsOf list component steps olds → IsOwnOf list component steps old →
@@ -220,7 +234,7 @@ module _ (list : Listed) (place : ℕ) (need : Option Amounts) (starts : is_init
         sessions = front;
         own = new;
         these = these ∙ ap (λ l. front ++ new ∷ l) only;
-        sessions_are = sessions_kept component steps olds front are sessions;
+        sessions_are = subst (AreSessionsOf list component steps) (sym (sessions_kept component steps olds front are sessions)) sessions;
         own_is = own_kept component steps old new last.0 own;
       }
 
@@ -245,6 +259,31 @@ module _ (list : Listed) (place : ℕ) (need : Option Amounts) (starts : is_init
         before_are = all_kept steps count joined.before split.front split.front_are joined.before_are;
         after_are = its_kept count (steps_at steps count) joined.after split.back split.back_are joined.after_are;
       }
+
+  -- and their sessions stay
+  own_kept_out : (old : AccountBudgets) (back : List AccountBudgets) → old.session ≡ None → AreChanged place need (old ∷ []) back → sessions_in back ≡ sessions_in (old ∷ [])
+  own_kept_out old [] none are = absurd are
+  own_kept_out old (new ∷ back) none are =
+      ap (λ l. sessions_in (new ∷ l)) (none_kept back are.1) ∙ own_none new (are.0.session ∙ none) ∙ sym (own_none old none)
+
+  its_stay : (component : ℕ) (steps : List ComponentLine) (olds news : List AccountBudgets) → AreChanged place need olds news → AreAccountsOf list component steps olds →
+      sessions_in news ≡ sessions_in olds
+  its_stay component steps olds news are its =
+      let split : Split place need its.sessions (its.own ∷ []) news =
+      split_in place need its.sessions (its.own ∷ []) news (subst (λ l. AreChanged place need l news) its.these are) in
+      same_sessions its.sessions (its.own ∷ []) olds split.front split.back news its.these split.these
+      (ap sessions_in (sessions_kept component steps its.sessions split.front split.front_are its.sessions_are))
+      (own_kept_out its.own split.back its.own_is.own split.back_are)
+
+  pub all_stay : {Z : Type 0} (steps : List (Vec ComponentLine Z)) (count : ℕ) (olds news : List AccountBudgets) → AreChanged place need olds news → AreAccounts list steps count olds →
+      sessions_in news ≡ sessions_in olds
+  all_stay steps zero olds news are none = ap sessions_in (none_kept news (subst (λ l. AreChanged place need l news) none are) ∙ sym none)
+  all_stay steps (suc count) olds news are joined =
+      let split : Split place need joined.before joined.after news =
+      split_in place need joined.before joined.after news (subst (λ l. AreChanged place need l news) joined.these are) in
+      same_sessions joined.before joined.after olds split.front split.back news joined.these split.these
+      (all_stay steps count joined.before split.front split.front_are joined.before_are)
+      (its_stay count (steps_at steps count) joined.after split.back split.back_are joined.after_are)
 
 -- ---- one component more
 
@@ -278,3 +317,7 @@ pub written_at : {Z : Type 0} (steps : List (Vec ComponentLine Z)) → AreAllWri
 written_at [] all component = tt
 written_at (lines ∷ steps) all zero = all.0
 written_at (lines ∷ steps) all (suc component) = written_at steps all.1 component
+
+pub args_unset : (steps : List ComponentLine) → AreWritten steps → AllByRecursion (λ (step : ComponentLine). step.args ≡ None) steps
+args_unset [] all = tt
+args_unset (step ∷ steps) all = (all.0.args, args_unset steps all.1)

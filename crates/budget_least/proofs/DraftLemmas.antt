@@ -4,6 +4,7 @@ use Rattle.std.specs.Prelude.{Vec}
 use Rattle.std.specs.List.{slice_split}
 use Rattle.own_model.specs.Listed.{Listed}
 use Rattle.line_steps.specs.RunPosition.{RunPosition}
+use Rattle.budget_least.proofs.SessionLemmas.{donations_kept}
 use Rattle.budget_search.specs.declared.account_budgets.AccountBudgets.{AccountBudgets}
 use Rattle.budget_search.specs.declared.component_line.ComponentLine.{ComponentLine}
 use Rattle.budget_least.specs.BoundRuns.{BoundRun}
@@ -11,6 +12,7 @@ use Rattle.budget_least.specs.ChangedLines.{changed_numbers}
 use Rattle.budget_least.specs.ComponentAccounts.{AreAccounts}
 use Rattle.budget_least.specs.ComponentLines.{first_reading, lines_in, lines_of, numbers_in, AreRead, HasRead, ReadLine}
 use Rattle.budget_least.specs.InitNeeds.{AreNeeded}
+use Rattle.budget_least.specs.LineDonations.{HasDonations}
 use Rattle.budget_least.specs.ReportOf.{first_budgets, has_names, AreFilledBy, AreUnsettledIf, AreWrittenBy, HasAccounts, HaveKept, IsDraft, IsDraftAt, IsReportIf}
 use Rattle.budget_least.specs.declared.binding_run.BindingBudgets.{BindingBudgets}
 use Rattle.budget_least.specs.declared.binding_run.BindingBudgets.TheVariants.{Ample, AsDonated, Chosen}
@@ -44,10 +46,10 @@ module _ (question : BudgetQuery) (start : RunPosition) where
 
   pub drafted : (budgets : BindingBudgets) (lines : LinesByComponent) (measured report : BudgetReport) → measured.list.now ≡ question.list.now →
       measured.choice ≡ question.choice → measured.scene.unmeasured ≡ lines.unmeasured → lines_in measured.scene ≡ lines_in lines →
-      HasAccounts measured (length measured.list.now.entries) → report.list ≡ measured.list → report.choice ≡ measured.choice → report.scene ≡ measured.scene →
+      HasAccounts measured (length measured.list.now.entries) → HasDonations question.as_donated measured → report.list ≡ measured.list → report.choice ≡ measured.choice → report.scene ≡ measured.scene →
       HaveKept measured report → AreNeeded report.choice report.list.now report.accounts.items →
       HasRead question.list.now question.scenario.now start budgets lines → IsDraft question start budgets (numbers_in report.scene) report
-  drafted budgets lines measured report list choice unmeasured same accounts lists choices scenes kept needed read = record {
+  drafted budgets lines measured report list choice unmeasured same accounts donations lists choices scenes kept needed read = record {
     list = ap (λ (l : Bor Listed). l.now) lists ∙ list;
     choice = choices ∙ choice;
     lines = (
@@ -56,7 +58,10 @@ module _ (question : BudgetQuery) (start : RunPosition) where
           (ap (λ (scene : LinesByComponent). lines_in scene) scenes ∙ same)
           (ap (λ (scene : LinesByComponent). numbers_in scene) scenes ∙ ap (λ found. map (λ (line : UnmeasuredLine). line.number) found.items) unmeasured) read.1,
     );
-    accounts = subst (λ (l : Bor Listed). HasAccounts report (length l.now.entries)) (sym lists) (kept (length measured.list.now.entries) accounts);
+    donations =
+        donations_kept question.as_donated measured report choices (ap (λ (scene : LinesByComponent). scene.steps.items) scenes)
+        (kept (length measured.list.now.entries) accounts).1 donations;
+    accounts = subst (λ (l : Bor Listed). HasAccounts report (length l.now.entries)) (sym lists) (kept (length measured.list.now.entries) accounts).0;
     needed = needed;
   }
 
@@ -68,6 +73,8 @@ module _ (question : BudgetQuery) (start : RunPosition) where
     list = is.list;
     choice = is.choice;
     lines = (is.lines.0, reading_kept budgets is.lines.0 (lines_in report.scene) (lines_in scene) unread unread (ap (λ steps. seen steps.items) same) refl is.lines.1);
+    donations =
+        donations_kept question.as_donated report (record report { scene = scene }) refl (ap (λ steps. steps.items) same) refl is.donations;
     accounts =
         accounts_kept report.list.now (length report.list.now.entries) report.accounts.items report.scene.steps.items scene.steps.items (ap (λ steps. steps.items) same)
         is.accounts;

@@ -9,5 +9,7 @@ pub mod SizeLemmas
 pub mod BoundRunLemmas
 pub mod ReadingLemmas
 pub mod ChangedLemmas
+pub mod SessionLemmas
 pub mod AccountLemmas
 pub mod DraftLemmas
+pub mod LineDonationLemmas

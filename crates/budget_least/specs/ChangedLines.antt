@@ -8,14 +8,14 @@ use Rattle.budget_least.specs.ComponentLines.{ReadLine}
 -- two lines are the same line of the scenario, make the same call, and are both left out or neither is
 abbrev pub is_same : ReadLine → ReadLine → Bool
 is_same one other =
-    one.number == other.number && (if one.left_out then other.left_out else not other.left_out) && bytes_eq one.text other.text
+    one.mark.number == other.mark.number && (if one.mark.left_out then other.mark.left_out else not other.mark.left_out) && bytes_eq one.text other.text
 
 -- the number of the line at a place, if another line is there in the other run; or of that line, if there is none
 abbrev pub changed_number : Option ReadLine → Option ReadLine → Option ℕ
 changed_number None None = None
-changed_number None (Some other) = Some other.number
-changed_number (Some line) None = Some line.number
-changed_number (Some line) (Some other) = if is_same line other then None else Some line.number
+changed_number None (Some other) = Some other.mark.number
+changed_number (Some line) None = Some line.mark.number
+changed_number (Some line) (Some other) = if is_same line other then None else Some line.mark.number
 
 -- the numbers of a component's lines that are other lines in the other run, place by place: before a place, and of all
 abbrev pub changed_before : ℕ → List ReadLine → List ReadLine → List ℕ

@@ -7,10 +7,10 @@ use Rattle.own_model.specs.StartList.Kind.{Script}
 use Rattle.budget_meter.specs.Needs.{amounts_of}
 use Rattle.budget_search.specs.AccountNeeds.{IsIdle}
 use Rattle.budget_search.specs.Alike.{given_in, most_in, own_entry, reserve_in}
-use Rattle.budget_search.specs.BudgetIntervals.{lowest_of, safe_of, HasShortfalls}
+use Rattle.budget_search.specs.BudgetIntervals.{lowest_of, safe_of, HasRunLines}
+use Rattle.budget_search.specs.OwnLines.{lines_as_written, lines_from}
 use Rattle.budget_search.specs.Own.{suffices_with, AreExact}
 use Rattle.budget_search.specs.SessionAccounts.{AreSessionAccounts}
-use Rattle.budget_search.specs.ShortLines.{short_as_written, short_line_with}
 use Rattle.budget_search.specs.Sufficient.{HasLeast, HasSafe}
 use Rattle.budget_search.specs.declared.account_budgets.AccountBudgets.{AccountBudgets}
 use Rattle.budget_search.specs.declared.component_line.ComponentLine.{ComponentLine}
@@ -24,14 +24,14 @@ steps_at steps component = unwrap_or (option_map (λ lines. lines.items) (slice_
 
 -- an account has exactly the budgets under which the run of a script's lines isn't short of quota, up to the largest machine's less
 -- the script's reserve. Its minimum and its safe budget are those of these. It has the line that is short of quota under the
--- budget of the list, with the donations that the scenario writes, and those below the intervals
+-- budget of the list, with the donations that the scenario writes, those below the intervals, and those that are left out
 pub record IsMeasured (list : Listed) (component : ℕ) (steps : List ComponentLine) (account : AccountBudgets) : Type 0 where
   pub reserve : amounts_of account.reserve ≡ reserve_in list component
-  pub refused : account.given.refused ≡ short_as_written list component steps (given_in list component)
+  pub refused : account.given.refused ≡ (lines_as_written list component steps (given_in list component)).refused
   pub exact : AreExact list component steps (most_in list component).caps (most_in list component).ram account.found.rows.items
   pub least : HasLeast (suffices_with list component steps) (most_in list component) (lowest_of account.found.rows.items)
   pub safe : HasSafe (suffices_with list component steps) (most_in list component) (safe_of account.found.rows.items)
-  pub shortfalls : HasShortfalls (short_line_with list component steps) (most_in list component) account.found
+  pub lines : HasRunLines (lines_from list component steps) (most_in list component) account.found
 
 -- an account is the own account of a component with these lines, with the budget of the list: that of a script is measured, and
 -- that of a server makes no calls
@@ -81,7 +81,7 @@ pub record IsGiven (search : ScriptSearch) : Type 0 where
 pub record AreFoundFor (list : Listed) (component : ℕ) (steps : List ComponentLine) (found : ScriptSessions) : Type 0 where
   pub script : (own_entry list component).kind ≡ Script
   pub accounts : AreSessionAccounts list component steps found.accounts.items
-  pub refused : found.given.refused ≡ short_as_written list component steps (given_in list component)
+  pub refused : found.given.refused ≡ (lines_as_written list component steps (given_in list component)).refused
 
 -- the sessions of a script, or none of another component
 abbrev pub IsSessionsOf : Listed → ℕ → List ComponentLine → Option ScriptSessions → Type 0

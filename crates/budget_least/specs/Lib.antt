@@ -4,6 +4,7 @@ pub mod BoundRuns
 pub mod ComponentLines
 pub mod ChangedLines
 pub mod ComponentAccounts
+pub mod LineDonations
 pub mod Report
 pub mod ReportOf
 pub mod WrittenList

@@ -7,6 +7,7 @@ use Rattle.budget_least.specs.ChangedLines.{changed_numbers}
 use Rattle.budget_least.specs.ComponentAccounts.{AreAccounts}
 use Rattle.budget_least.specs.ComponentLines.{first_reading, lines_in, numbers_in, AreRead, HasRead}
 use Rattle.budget_least.specs.InitNeeds.{AreNeeded}
+use Rattle.budget_least.specs.LineDonations.{sessions_in, HasDonations}
 use Rattle.budget_least.specs.declared.binding_run.BindingBudgets.{BindingBudgets}
 use Rattle.budget_least.specs.declared.binding_run.BindingBudgets.TheVariants.{Ample, AsDonated, Chosen}
 use Rattle.budget_least.specs.declared.lines_by_component.LinesByComponent.{LinesByComponent}
@@ -40,15 +41,18 @@ AreLinesOf question start budgets unread report =
 abbrev pub HasAccounts : BudgetReport → ℕ → Type 0
 HasAccounts report count = AreAccounts report.list.now report.scene.steps.items count report.accounts.items
 
--- another report has the accounts that a report has
+-- another report has the accounts that a report has, with the same sessions
 abbrev pub HaveKept : BudgetReport → BudgetReport → Type 0
-HaveKept old new = (count : ℕ) → HasAccounts old count → HasAccounts new count
+HaveKept old new =
+    (count : ℕ) → HasAccounts old count → HasAccounts new count × (sessions_in new.accounts.items ≡ sessions_in old.accounts.items)
 
--- a report has the lines of such a run, and their accounts. Accounts of inits have what the inits' lists need
+-- a report has the lines of such a run, which donate what their sessions need, and the accounts of these lines. Accounts of inits
+-- have what the inits' lists need
 pub record IsDraft (question : BudgetQuery) (start : RunPosition) (budgets : BindingBudgets) (unread : List ℕ) (report : BudgetReport) : Type 0 where
   pub list : report.list.now ≡ question.list.now
   pub choice : report.choice ≡ question.choice
   pub lines : AreLinesOf question start budgets unread report
+  pub donations : HasDonations question.as_donated report
   pub accounts : HasAccounts report (length report.list.now.entries)
   pub needed : AreNeeded report.choice report.list.now report.accounts.items
 

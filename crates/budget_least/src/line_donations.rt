@@ -1,4 +1,9 @@
 //! The donations of the lines that open sessions.
+ghost use Rattle.std.specs.Prelude.{◌≡◌, ◌++◌, ◌∷◌, [], List, OnOk};
+ghost use Rattle.std.specs.Option.{option_map};
+ghost use Rattle.budget_meter.specs.Needs.{amounts_of};
+ghost use Rattle.budget_search.specs.declared.account_budgets.AccountBudgets.{AccountBudgets};
+ghost use Rattle.budget_least.specs.LineDonations.{donation_for, kept_for, larger};
 
 use budget_meter::Budget;
 use budget_search::{AccountBudgets, BudgetChoice};
@@ -19,7 +24,10 @@ enum LineDonation {
 
 impl LineDonation {
     // Returns the donation of a line that opens one more session.
-    fn with(self, account: &AccountBudgets) -> LineDonation {
+    fn with(self, account: &AccountBudgets) -> LineDonation
+        ensures { (sessions : List AccountBudgets) → self ≡ kept_for sessions →
+            result ≡ kept_for (sessions ++ account.now ∷ []) }
+    {
         let (Some(least), Some(safe)) = (account.least(), account.safe()) else {
             return LineDonation::Insufficient;
         };
@@ -30,8 +38,8 @@ impl LineDonation {
                 safe: more,
             } => {
                 let safe = larger(safe, more);
-                if least == other {
-                    LineDonation::Alike { least, safe }
+                if other == least {
+                    LineDonation::Alike { least: other, safe }
                 } else {
                     LineDonation::Unlike { safe }
                 }
@@ -44,7 +52,10 @@ impl LineDonation {
     }
 
     // Returns what the line donates by a choice, if a donation suffices for each of its sessions.
-    fn donation(self, choice: BudgetChoice) -> Option<Budget> {
+    fn donation(self, choice: BudgetChoice) -> Option<Budget>
+        ensures { (sessions : List AccountBudgets) → self ≡ kept_for sessions →
+            option_map amounts_of result ≡ donation_for choice sessions }
+    {
         match (self, choice) {
             (LineDonation::Alike { least, .. }, BudgetChoice::Minimum) => Some(least),
             (LineDonation::Alike { safe, .. } | LineDonation::Unlike { safe }, _) => Some(safe),
@@ -54,7 +65,9 @@ impl LineDonation {
 }
 
 // Returns the larger RAM and the larger number of capabilities of two budgets.
-fn larger(one: Budget, other: Budget) -> Budget {
+fn larger(one: Budget, other: Budget) -> Budget
+    ensures { amounts_of result ≡ larger (amounts_of one) (amounts_of other) }
+{
     Budget {
         ram: one.ram.max(other.ram),
         caps: one.caps.max(other.caps),
@@ -71,8 +84,17 @@ pub(crate) struct LineDonations {
 }
 
 impl LineDonations {
+    ghost use Rattle.std.specs.Prelude.{◌≡◌, ◌++◌, ◌∷◌, [], List, OnOk};
+    ghost use Rattle.std.specs.Option.{option_map};
+    ghost use Rattle.budget_meter.specs.Needs.{amounts_of};
+    ghost use Rattle.budget_search.specs.declared.account_budgets.AccountBudgets.{AccountBudgets};
+    ghost use Rattle.budget_least.specs.LineDonations.{HoldsFor, donation_for, sessions_at};
+
     /// Returns the donations before the first session.
-    pub(crate) fn new(alloc: Global, choice: BudgetChoice) -> LineDonations {
+    pub(crate) fn new(alloc: Global, choice: BudgetChoice) -> LineDonations
+        ensures holds { HoldsFor result [] }
+        ensures choice { result.choice ≡ choice }
+    {
         LineDonations {
             lines: Vec::new(alloc),
             choice,
@@ -80,7 +102,11 @@ impl LineDonations {
     }
 
     /// Adds sessions, by what their accounts need. The error is that the host is out of memory.
-    pub(crate) fn add_all(&mut self, accounts: &[AccountBudgets]) -> Result<(), AllocError> {
+    pub(crate) fn add_all(&mut self, accounts: &[AccountBudgets]) -> Result<(), AllocError>
+        ensures holds { OnOk result ((before : List AccountBudgets) → HoldsFor self.old before →
+            HoldsFor self.new (before ++ accounts.now)) }
+        ensures choice { self.new.choice ≡ self.old.choice }
+    {
         for account in accounts {
             self.add(account)?;
         }
@@ -88,7 +114,11 @@ impl LineDonations {
     }
 
     // Adds a session.
-    fn add(&mut self, account: &AccountBudgets) -> Result<(), AllocError> {
+    fn add(&mut self, account: &AccountBudgets) -> Result<(), AllocError>
+        ensures holds { OnOk result ((before : List AccountBudgets) → HoldsFor self.old before →
+            HoldsFor self.new (before ++ account.now ∷ [])) }
+        ensures choice { self.new.choice ≡ self.old.choice }
+    {
         let Some(session) = account.session() else {
             return Ok(());
         };
@@ -103,7 +133,11 @@ impl LineDonations {
     }
 
     /// Returns the donation of the line of a number: the minimum of its sessions, or a donation from which on all suffice for each.
-    pub(crate) fn of(&self, number: u64) -> Option<Budget> {
+    pub(crate) fn of(&self, number: u64) -> Option<Budget>
+        ensures { (sessions : List AccountBudgets) → HoldsFor self.now sessions →
+            option_map amounts_of result
+            ≡ donation_for self.now.choice (sessions_at number sessions) }
+    {
         self.lines.get(number as usize)?.donation(self.choice)
     }
 }

@@ -1,8 +1,13 @@
 //! The lines of a scenario, component by component.
-ghost use Rattle.std.specs.Prelude.{◌≡◌, ◌==◌, [], is_some, map, replicate, IfOk, OnOk};
+ghost use Rattle.std.specs.Prelude.{◌≡◌, ◌<◌, ◌==◌, [], is_some, length, map, replicate, IfOk, OnOk};
 ghost use Rattle.std.specs.List.{position};
 ghost use Rattle.std.specs.Option.{option_copied};
-ghost use Rattle.budget_least.specs.ComponentLines.{expects_refusal, line_of, lines_of, AreAllWritten};
+ghost use Rattle.core_calls.specs.Call.{model_call};
+ghost use Rattle.std.specs.Prelude.{List};
+ghost use Rattle.std.specs.List.{AllByRecursion};
+ghost use Rattle.budget_search.specs.declared.account_budgets.AccountBudgets.{AccountBudgets};
+ghost use Rattle.budget_least.specs.ComponentLines.{expects_refusal, expects_shortage, is_routed, line_of, lines_of, shows, AreAllWritten, AreWritten, IsAsWritten};
+ghost use Rattle.budget_least.specs.LineDonations.{HoldsFor, IsDonated};
 
 use crate::binding_run::{BindingBudgets, BindingRun};
 use crate::changed_line::ChangedLine;
@@ -10,7 +15,7 @@ use crate::line_donations::LineDonations;
 use crate::unmeasured_line::{UnmeasuredLine, UnmeasuredReason};
 use crate::written_donation::can_donate;
 use crate::written_scenario::lines_of;
-use budget_search::{ComponentLine, LineNumbers, SHORTAGES};
+use budget_search::{ComponentLine, LineNumbers, SHORTAGES, Shortage};
 use core_calls::Call;
 use init_core::route;
 use line_friendly::{meets, next_word, trimmed_line};
@@ -41,8 +46,11 @@ impl LinesByComponent {
     ghost use Rattle.line_names.specs.Views.{filled_view};
     ghost use Rattle.line_steps.specs.ResolvedLines.{is_unread};
     ghost use Rattle.line_steps.specs.ResolvedViews.{resolved_view, HasParsedCall};
+    ghost use Rattle.std.specs.Prelude.{List};
+    ghost use Rattle.budget_search.specs.declared.account_budgets.AccountBudgets.{AccountBudgets};
     ghost use Rattle.budget_least.specs.ComponentAccounts.{steps_at};
-    ghost use Rattle.budget_least.specs.ComponentLines.{expects_refusal, line_of, lines_in, numbers_in, reading, said_in, with_line, AreAllWritten, AreRead, HasRead, IsAdded, IsAddedTo, IsRead, IsTaken};
+    ghost use Rattle.budget_least.specs.LineDonations.{AreAllDonated, HoldsFor};
+    ghost use Rattle.budget_least.specs.ComponentLines.{line_of, lines_in, numbers_in, reading, said_in, with_line, AreAllWritten, IsAsWritten, AreRead, HasRead, IsAdded, IsAddedTo, IsRead, IsTaken};
 
     /// Reads the unfolded text of a scenario, by the components of a list, and fills its lines with what a run with these budgets
     /// binds. The error is that of a boot, or that the host is out of memory.
@@ -103,6 +111,9 @@ impl LinesByComponent {
     ) -> Result<(), AllocError>
         ensures unmeasured { self.new.unmeasured ≡ self.old.unmeasured }
         ensures lines { OnOk result (lines_in self.new ≡ lines_in self.old) }
+        ensures donated { OnOk result ((sessions : List AccountBudgets) →
+            HoldsFor donations.now sessions → AreAllWritten self.old.steps.items →
+            AreAllDonated donations.now.choice sessions self.new.steps.items) }
     {
         for component in 0..self.steps.len() {
             let steps = &mut self.steps[component];
@@ -285,7 +296,7 @@ impl LinesByComponent {
     ) -> Result<(), BootFault>
         requires { IsReadAs call.now.line.now call.now.call }
         ensures added { OnOk result (IsAdded number (filled_view call.now.filled) call.now.line.now
-            (expects_refusal (option_copied call.now.reply)) (said_in call.now.line.now)
+            (option_copied call.now.reply) (said_in call.now.line.now)
             (reading run.old self.old) (reading run.new self.new)) }
         ensures written { OnOk result
             (AreAllWritten self.old.steps.items → AreAllWritten self.new.steps.items) }
@@ -314,13 +325,14 @@ impl LinesByComponent {
         requires there { component < length run.old.list.entries }
         requires formed { IsWellFormed said }
         ensures added { OnOk result (IsAddedTo number (filled_view call.now.filled) call.now.line.now
-            (expects_refusal (option_copied call.now.reply)) (model_call said.entry) component
+            (option_copied call.now.reply) (model_call said.entry) component
             (reading run.old self.old) (reading run.new self.new)) }
         ensures written { OnOk result
             (AreAllWritten self.old.steps.items → AreAllWritten self.new.steps.items) }
         ensures fault { IfErr result (IsSearchFault run.old.list) }
     {
         let is_left_out = expects_refusal(call.reply);
+        let may_be_short = may_be_short(call.reply) && is_routed(run.list(), component, said);
         if !is_left_out {
             let place = self.of(component).len();
             run.answer(alloc, component, place, said, &call.filled)?;
@@ -330,7 +342,7 @@ impl LinesByComponent {
         let step = ComponentLine {
             number,
             is_left_out,
-            may_be_short: may_be_short(call.reply) && is_routed(run.list(), component, said),
+            may_be_short,
             line: kept,
             can_donate: can_donate(line),
             donation: None,
@@ -345,7 +357,7 @@ impl LinesByComponent {
         ensures unmeasured { self.new.unmeasured ≡ self.old.unmeasured }
         ensures lines { OnOk result (lines_in self.new
             ≡ with_line component (line_of line) (lines_in self.old)) }
-        ensures written { OnOk result (line.args ≡ None →
+        ensures written { OnOk result (IsAsWritten line →
             AreAllWritten self.old.steps.items → AreAllWritten self.new.steps.items) }
     {
         if component >= self.steps.len() {
@@ -376,7 +388,10 @@ fn donate_all(
     steps: &mut Vec<ComponentLine>,
     donations: &LineDonations,
 ) -> Result<(), AllocError>
-    ensures { OnOk result (lines_of steps.new.items ≡ lines_of steps.old.items) }
+    ensures lines { OnOk result (lines_of steps.new.items ≡ lines_of steps.old.items) }
+    ensures donated { OnOk result ((sessions : List AccountBudgets) →
+        HoldsFor donations.now sessions → AreWritten steps.old.items →
+        AllByRecursion (IsDonated donations.now.choice sessions) steps.new.items) }
 {
     for place in 0..steps.len() {
         donate(alloc, &mut steps[place], donations)?;
@@ -390,7 +405,10 @@ fn donate(
     step: &mut ComponentLine,
     donations: &LineDonations,
 ) -> Result<(), AllocError>
-    ensures { OnOk result (line_of step.new ≡ line_of step.old) }
+    ensures line { OnOk result (line_of step.new ≡ line_of step.old) }
+    ensures donated { OnOk result ((sessions : List AccountBudgets) →
+        HoldsFor donations.now sessions → IsAsWritten step.old →
+        IsDonated donations.now.choice sessions step.new) }
 {
     let donation = donations.of(step.number);
     let Some(donation) = donation else {
@@ -418,22 +436,29 @@ fn expects_refusal(reply: Option<&[u8]>) -> bool
 }
 
 // Returns whether the refusal that a line expects may be a shortage of quota.
-fn may_be_short(reply: Option<&[u8]>) -> bool {
+fn may_be_short(reply: Option<&[u8]>) -> bool
+    ensures { result ≡ expects_shortage (option_copied reply.entry) }
+{
     let Some(expected) = reply else {
         return false;
     };
-    for shortage in SHORTAGES {
-        if meets(shortage.reply().as_bytes(), expected) {
-            return true;
-        }
-    }
-    false
+    SHORTAGES.iter().any(|shortage| shows(*shortage, expected))
+}
+
+// Returns whether the reply to a shortage is as expected.
+fn shows(shortage: Shortage, expected: &[u8]) -> bool
+    ensures { result ≡ shows expected.now shortage }
+{
+    meets(shortage.reply().as_bytes(), expected)
 }
 
 // Returns whether a call isn't denied by the routes of a list.
-fn is_routed(list: &StartList, component: usize, call: Call<'_>) -> bool {
+fn is_routed(list: &StartList, component: usize, call: Call<'_>) -> bool
+    requires { component < length list.now.entries }
+    ensures { result ≡ is_routed list.now component (model_call call.entry) }
+{
     match call {
-        Call::Open { service, args } if component < list.count() => {
+        Call::Open { service, args } => {
             route(list, component, service, SessionArgs::label_given(args)).is_some()
         }
         _ => true,

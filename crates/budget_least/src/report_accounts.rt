@@ -5,10 +5,12 @@ ghost use Rattle.budget_search.specs.NoBudgets.{IsSearchFault};
 ghost use Rattle.own_model.specs.StartList.Kind.{Script as AScript};
 ghost use Rattle.budget_search.specs.Alike.{given_in, own_entry};
 ghost use Rattle.budget_search.specs.SessionAccounts.{AreSessionAccounts};
-ghost use Rattle.budget_search.specs.ShortLines.{short_as_written};
+ghost use Rattle.budget_search.specs.OwnLines.{lines_as_written};
 ghost use Rattle.budget_search.specs.declared.component_line.ComponentLine.{ComponentLine};
 ghost use Rattle.budget_least.specs.ComponentAccounts.{AreAccountsOf, IsGiven, IsSessionsOf};
+ghost use Rattle.budget_search.specs.declared.account_budgets.AccountBudgets.{AccountBudgets};
 ghost use Rattle.budget_least.specs.ComponentLines.{AreWritten};
+ghost use Rattle.budget_least.specs.LineDonations.{HoldsFor, sessions_in, sessions_of};
 
 use crate::line_donations::LineDonations;
 use crate::report::BudgetReport;
@@ -22,6 +24,9 @@ impl BudgetReport<'_> {
     ghost use Rattle.list_parser.specs.declared.fault.BootFault.TheVariants.{NoMemory};
     ghost use Rattle.budget_search.specs.NoBudgets.{IsSearchFault};
     ghost use Rattle.budget_least.specs.ComponentLines.{lines_in, AreAllWritten};
+    ghost use Rattle.std.specs.Prelude.{◌++◌, flat_map, false, true, List};
+    ghost use Rattle.budget_search.specs.declared.account_budgets.AccountBudgets.{AccountBudgets};
+    ghost use Rattle.budget_least.specs.LineDonations.{AreAllDonated, HasDonations, HoldsFor, sessions_in, sessions_of};
     ghost use Rattle.budget_least.specs.ReportOf.{HasAccounts};
 
     /// Adds the accounts of all components, without what inits need. The lines donate what their sessions need before scripts' own
@@ -35,6 +40,7 @@ impl BudgetReport<'_> {
         ensures lines { OnOk result (lines_in self.new.scene ≡ lines_in self.old.scene) }
         ensures accounts { OnOk result
             (HasAccounts self.new (length self.new.list.now.entries)) }
+        ensures donations { OnOk result (HasDonations as_donated self.new) }
         ensures fault { IfErr result (IsSearchFault self.old.list.now) }
     {
         let mut donations = LineDonations::new(alloc, self.choice);
@@ -55,6 +61,9 @@ impl BudgetReport<'_> {
             AreSessionsFrom self.now.list.now self.now.scene.steps.items 0 scripts.items) }
         ensures count { IfOk result (λ scripts.
             length scripts.items ≡ length self.now.list.now.entries) }
+        ensures holds { IfOk result (λ scripts. HoldsFor donations.old [] →
+            HoldsFor donations.new (flat_map sessions_of scripts.items)) }
+        ensures choice { donations.new.choice ≡ donations.old.choice }
         ensures fault { IfErr result (IsSearchFault self.now.list.now) }
     {
         let list = self.list;
@@ -79,6 +88,10 @@ impl BudgetReport<'_> {
         ensures accounts { self.new.accounts ≡ self.old.accounts }
         ensures unmeasured { self.new.scene.unmeasured ≡ self.old.scene.unmeasured }
         ensures lines { OnOk result (lines_in self.new.scene ≡ lines_in self.old.scene) }
+        ensures donated { as_donated ≡ false → OnOk result ((sessions : List AccountBudgets) →
+            HoldsFor donations.now sessions → AreAllWritten self.old.scene.steps.items →
+            AreAllDonated donations.now.choice sessions self.new.scene.steps.items) }
+        ensures same { as_donated ≡ true → self.new ≡ self.old }
         ensures fault { IfErr result (λ fault. fault ≡ NoMemory) }
     {
         if as_donated {
@@ -102,6 +115,8 @@ impl BudgetReport<'_> {
         ensures scene { self.new.scene ≡ self.old.scene }
         ensures accounts { OnOk result
             (HasAccounts self.new (length self.new.list.now.entries)) }
+        ensures added { OnOk result
+            (sessions_in self.new.accounts.items ≡ flat_map sessions_of scripts.items) }
         ensures fault { IfErr result (IsSearchFault self.old.list.now) }
     {
         let _few = self.list.count();
@@ -128,6 +143,8 @@ impl BudgetReport<'_> {
         ensures choice { self.new.choice ≡ self.old.choice }
         ensures scene { self.new.scene ≡ self.old.scene }
         ensures accounts { OnOk result (HasAccounts self.new (component + 1)) }
+        ensures added { OnOk result (sessions_in self.new.accounts.items
+            ≡ sessions_in self.old.accounts.items ++ sessions_of sessions) }
         ensures fault { IfErr result (IsSearchFault self.old.list.now) }
     {
         let steps = self.scene.of(component);
@@ -151,7 +168,11 @@ fn add_all(accounts: &mut Vec<AccountBudgets>, more: Vec<AccountBudgets>) -> Res
 fn add_donations(
     donations: &mut LineDonations,
     script: &Option<ScriptSessions>,
-) -> Result<(), AllocError> {
+) -> Result<(), AllocError>
+    ensures holds { OnOk result ((before : List AccountBudgets) → HoldsFor donations.old before →
+        HoldsFor donations.new (before ++ sessions_of script.now)) }
+    ensures choice { donations.new.choice ≡ donations.old.choice }
+{
     match script {
         Some(script) => donations.add_all(script.accounts.as_slice()),
         None => Ok(()),
@@ -190,6 +211,7 @@ fn accounts_of(
     requires there { component < length list.now.entries }
     requires sessions { IsSessionsOf list.now component steps.now sessions }
     ensures accounts { IfOk result (λ accounts. AreAccountsOf list.now component steps.now accounts.items) }
+    ensures sessions { IfOk result (λ accounts. sessions_in accounts.items ≡ sessions_of sessions) }
     ensures fault { IfErr result (IsSearchFault list.now) }
 {
     let Some(sessions) = sessions else {
@@ -212,10 +234,12 @@ fn script_accounts(
     requires sessions { AreSessionAccounts search.now.list.now search.now.component steps.now
         sessions.accounts.items }
     requires refused { sessions.given.refused
-        ≡ short_as_written search.now.list.now search.now.component steps.now
-        (given_in search.now.list.now search.now.component) }
+        ≡ (lines_as_written search.now.list.now search.now.component steps.now
+        (given_in search.now.list.now search.now.component)).refused }
     ensures accounts { IfOk result (λ accounts.
         AreAccountsOf search.now.list.now search.now.component steps.now accounts.items) }
+    ensures sessions { IfOk result (λ accounts.
+        sessions_in accounts.items ≡ sessions.accounts.items) }
     ensures fault { IfErr result (IsSearchFault search.now.list.now) }
 {
     let own = search.own(alloc, steps, &sessions.given)?;
@@ -234,6 +258,7 @@ fn server_accounts(
     requires other { (own_entry list.now component).kind ≢ AScript }
     ensures accounts { IfOk result (λ accounts. (steps : List ComponentLine) →
         AreAccountsOf list.now component steps accounts.items) }
+    ensures sessions { IfOk result (λ accounts. sessions_in accounts.items ≡ []) }
     ensures fault { IfErr result (λ fault. fault ≡ NoMemory) }
 {
     let given = budget_of(&list.entries()[component]);

@@ -1,7 +1,7 @@
 -- An error is passed on.
 use Rattle.std.proofs.Common.{sym, subst, ◌∙◌}
 use Rattle.budget_search.specs.Alike.{given_in}
-use Rattle.budget_search.specs.ShortLines.{short_as_written}
+use Rattle.budget_search.specs.OwnLines.{lines_as_written}
 use Rattle.budget_least.specs.ComponentAccounts.{IsSessionsOf}
 use Rattle.budget_least.proofs.report_accounts.accounts_of.Goals as goal
 
@@ -13,4 +13,4 @@ pub script_accounts-requires-clause-refused : goal.script_accounts-requires-clau
 script_accounts-requires-clause-refused c =
     let is = c.in-Some-of.ensures in
     (subst (IsSessionsOf c.args.list.now c.args.component c.args.steps.now) c.in-Some.is c.requires.sessions).refused
-    ∙ (λ i. short_as_written (sym is.list i) (sym is.component i) c.args.steps.now (given_in (sym is.list i) (sym is.component i)))
+    ∙ (λ i. (lines_as_written (sym is.list i) (sym is.component i) c.args.steps.now (given_in (sym is.list i) (sym is.component i))).refused)

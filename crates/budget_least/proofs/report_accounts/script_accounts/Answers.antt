@@ -2,6 +2,7 @@
 use Rattle.std.proofs.Common.{ap, ◌∙◌}
 use Rattle.budget_meter.specs.Needs.{amounts_of}
 use Rattle.budget_search.proofs.FaultLemmas.{passed_on}
+use Rattle.budget_least.proofs.SessionLemmas.{accounts_keyed, without_own}
 use Rattle.budget_least.proofs.report_accounts.script_accounts.Goals as goal
 
 pub returns-clause-accounts : goal.returns-clause-accounts
@@ -20,11 +21,17 @@ returns-clause-accounts c = record {
       exact = c.in_ok-own.ensures.exact kind;
       least = c.in_ok-own.ensures.least kind;
       safe = c.in_ok-own.ensures.safe kind;
-      shortfalls = c.in_ok-own.ensures.shortfalls kind;
+      lines = c.in_ok-own.ensures.lines kind;
     };
     server = λ other. absurd (other c.requires.given.script);
   };
 }
+
+pub returns-clause-sessions : goal.returns-clause-sessions
+returns-clause-sessions c =
+    let sessions = c.args.sessions.accounts.items in
+    without_own sessions c.in_ok-own.own c.push.new.self.items c.in_ok-push.ensures.items c.in_ok-own.ensures.own
+    ∙ accounts_keyed c.args.search.now.list.now c.args.search.now.component c.args.steps.now sessions c.requires.sessions
 
 pub returns-in_err-own-clause-fault : goal.returns-in_err-own-clause-fault
 returns-in_err-own-clause-fault c =

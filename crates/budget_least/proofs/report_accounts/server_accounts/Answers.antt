@@ -1,11 +1,13 @@
 -- A component that makes no calls has the budget of its entry.
-use Rattle.std.proofs.Common.{◌≡◌, [], get_or, length, Some, refl, subst, ◌∙◌}
+use Rattle.std.proofs.Common.{◌≡◌, [], get_or, length, Some, refl, ap, subst, ◌∙◌}
 use Rattle.std.specs.List.{slice_get}
 use Rattle.std.proofs.lemmas.Option.{slice_get_read}
 use Rattle.budget_meter.specs.Needs.{amounts_of}
 use Rattle.budget_search.proofs.AlikeLemmas.{given_told}
 use Rattle.budget_search.specs.AccountNeeds.{IsIdle}
 use Rattle.budget_search.specs.Alike.{given_in}
+use Rattle.budget_least.proofs.SessionLemmas.{own_none}
+use Rattle.budget_least.specs.LineDonations.{sessions_in}
 use Rattle.budget_least.proofs.report_accounts.server_accounts.Goals as goal
 
 pub returns-clause-accounts : goal.returns-clause-accounts
@@ -31,3 +33,6 @@ returns-clause-accounts c = λ steps.
         server = λ other none. subst (λ g. IsIdle component g c.in_ok-idle.idle) given c.in_ok-idle.ensures;
       };
     }
+
+pub returns-clause-sessions : goal.returns-clause-sessions
+returns-clause-sessions c = ap sessions_in c.in_ok-accounts.ensures ∙ own_none c.in_ok-idle.idle c.in_ok-idle.ensures.own

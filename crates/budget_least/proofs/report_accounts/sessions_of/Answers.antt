@@ -1,11 +1,12 @@
 -- The search is that of the component.
-use Rattle.std.proofs.Common.{subst, sym, ◌∙◌}
+use Rattle.std.proofs.Common.{ap, subst, sym, ◌∙◌}
 use Rattle.budget_search.specs.Alike.{given_in, own_entry}
 use Rattle.budget_search.specs.NoBudgets.{LacksBudgets}
 use Rattle.budget_search.proofs.FaultLemmas.{passed_on}
 use Rattle.budget_search.proofs.SeenLemmas.{as_written}
 use Rattle.budget_search.specs.SessionAccounts.{AreSessionAccounts}
-use Rattle.budget_search.specs.ShortLines.{short_line_with}
+use Rattle.budget_search.specs.OwnLines.{lines_from}
+use Rattle.budget_least.proofs.AccountLemmas.{args_unset}
 use Rattle.budget_least.proofs.report_accounts.sessions_of.Goals as goal
 
 pub returns-in_err-sessions-in-Some-clause-fault : goal.returns-in_err-sessions-in-Some-clause-fault
@@ -31,6 +32,6 @@ returns-in_ok-sessions-in-Some-clause-sessions c =
           subst (λ l. AreSessionAccounts l component steps found.accounts.items) is.list
           (subst (λ n. AreSessionAccounts c.in-Some.search.list.now n steps found.accounts.items) is.component (c.in_ok-sessions-in-Some.ensures.accounts script));
       refused =
-          c.in_ok-sessions-in-Some.ensures.refused script ∙ (λ i. short_line_with (is.list i) (is.component i) steps (is.given i))
-          ∙ as_written list component steps c.requires.written (given_in list component);
+          c.in_ok-sessions-in-Some.ensures.refused script ∙ (λ i. (lines_from (is.list i) (is.component i) steps (is.given i)).refused)
+          ∙ ap (λ lines. lines.refused) (as_written list component steps (args_unset steps c.requires.written) (given_in list component));
     }

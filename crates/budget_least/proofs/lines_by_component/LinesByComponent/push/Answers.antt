@@ -1,8 +1,7 @@
 -- The component is there, or not.
-use Rattle.std.proofs.Common.{arith, ◌≡◌, [], ◌∷◌, None, sym, subst}
+use Rattle.std.proofs.Common.{arith, [], ◌∷◌, sym, subst}
 use Rattle.own_model.proofs.ListLemmas.{all_append, all_set, all_within}
-use Rattle.budget_search.specs.declared.component_line.ComponentLine.{ComponentLine}
-use Rattle.budget_least.specs.ComponentLines.{line_of, AreWritten}
+use Rattle.budget_least.specs.ComponentLines.{line_of, AreWritten, IsAsWritten}
 use Rattle.budget_least.proofs.LineLemmas.{no_more, one_more}
 use Rattle.budget_least.proofs.lines_by_component.LinesByComponent.push.Goals as goal
 
@@ -19,7 +18,7 @@ pub returns-clause-written : goal.returns-clause-written
 returns-clause-written c = λ none all.
     all_set (λ (lines : _). AreWritten lines.items) c.args.self.now.steps.items c.args.component c.push.new.self all
     (subst AreWritten (sym c.in_ok-push.ensures.items)
-    (all_append (λ (step : ComponentLine). step.args ≡ None) c.index_mut-steps.result.now.items (c.args.line ∷ [])
+    (all_append IsAsWritten c.index_mut-steps.result.now.items (c.args.line ∷ [])
     (subst (λ (lines : _). AreWritten lines.items) (sym c.index_mut-steps.ensures.value)
     (all_within (λ (lines : _). AreWritten lines.items) c.args.self.now.steps.items c.args.component c.index_mut-steps.result.now all
     (omega (arith, c.if-component-len.false, c.len.ensures, c.args.self.now.steps.ok.0))))

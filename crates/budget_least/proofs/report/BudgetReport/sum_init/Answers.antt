@@ -1,9 +1,9 @@
 -- The component starts others, or nobody.
-use Rattle.std.proofs.Common.{arith, ◌≡◌, ◌+◌, suc, sym, subst, ◌∙◌, Bor}
+use Rattle.std.proofs.Common.{arith, ◌≡◌, ◌+◌, suc, refl, sym, subst, ◌∙◌, Bor}
 use Rattle.std.specs.List.{slice_get}
 use Rattle.std.specs.Option.{option_map}
 use Rattle.budget_meter.specs.Needs.{amounts_of}
-use Rattle.budget_least.proofs.AccountLemmas.{all_kept}
+use Rattle.budget_least.proofs.AccountLemmas.{all_kept, all_stay}
 use Rattle.budget_least.proofs.NeededLemmas.{home_told, init_told, needed_next, needed_skipped, same_report}
 use Rattle.own_model.specs.Listed.{Listed}
 use Rattle.budget_least.specs.ComponentAccounts.{AreAccounts}
@@ -22,7 +22,7 @@ returns-then-not-is_init-clause-needed c = λ before.
     (init_told (slice_get list.entries c.args.place) c.is_init.result c.is_init.ensures ∙ c.if-not-is_init.true) before
 
 pub returns-then-not-is_init-clause-accounts : goal.returns-then-not-is_init-clause-accounts
-returns-then-not-is_init-clause-accounts c = λ count before. before
+returns-then-not-is_init-clause-accounts c = λ count before. (before, refl)
 
 pub returns-clause-accounts : goal.returns-clause-accounts
 returns-clause-accounts c = λ count before.
@@ -31,10 +31,13 @@ returns-clause-accounts c = λ count before.
     let was = c.args.self.now.accounts.items in
     let all = c.set_need.new.self.accounts.items in
     let need = option_map amounts_of c.needed_below-needed.result in
-    subst (λ (scene : LinesByComponent). AreAccounts c.set_need.new.self.list.now scene.steps.items count all) (sym c.set_need.ensures.scene)
-    (subst (λ (l : Bor Listed). AreAccounts l.now steps count all) (sym c.set_need.ensures.list)
-    (all_kept list c.args.place need (init_told (slice_get list.entries c.args.place) c.is_init.result c.is_init.ensures ∙ c.if-not-is_init.false) steps count was all
-    c.in_ok-set_need.ensures.changed before))
+    let starts = init_told (slice_get list.entries c.args.place) c.is_init.result c.is_init.ensures ∙ c.if-not-is_init.false in
+    let changed = c.in_ok-set_need.ensures.changed in (
+      subst (λ (scene : LinesByComponent). AreAccounts c.set_need.new.self.list.now scene.steps.items count all) (sym c.set_need.ensures.scene)
+          (subst (λ (l : Bor Listed). AreAccounts l.now steps count all) (sym c.set_need.ensures.list)
+          (all_kept list c.args.place need starts steps count was all changed before)),
+      all_stay list c.args.place need starts steps count was all changed before,
+    )
 
 pub returns-clause-needed : goal.returns-clause-needed
 returns-clause-needed c = λ before.

@@ -14,7 +14,7 @@ loop-place-init c =
       list = refl;
       choice = refl;
       scene = refl;
-      accounts = λ count before. before;
+      accounts = λ count before. (before, refl);
       within = omega (arith, c.count-place.ensures.value);
       needed = subst (λ n. AreNeededFrom n choice list accounts) (sym c.count-place.ensures.value) (needed_first choice list accounts accounts);
     }
@@ -31,7 +31,10 @@ loop-place-preserved c =
       list = c.sum_init.ensures.list ∙ c.loop-place.invariant.list;
       choice = c.sum_init.ensures.choice ∙ c.loop-place.invariant.choice;
       scene = c.sum_init.ensures.scene ∙ c.loop-place.invariant.scene;
-      accounts = λ n before. c.in_ok-sum_init.ensures.accounts n (c.loop-place.invariant.accounts n before);
+      accounts = λ n before.
+          let was = c.loop-place.invariant.accounts n before in
+          let now = c.in_ok-sum_init.ensures.accounts n was.0 in
+          (now.0, now.1 ∙ was.1);
       within = omega (arith, c.loop-place.invariant.within, count);
       needed = c.in_ok-sum_init.ensures.needed (subst (λ n. AreNeededFrom n self.choice self.list.now self.accounts.items) next c.loop-place.invariant.needed);
     }

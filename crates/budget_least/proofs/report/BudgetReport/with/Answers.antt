@@ -10,7 +10,7 @@ returns-clause-draft c = λ start budgets read.
     let accounts = c.in_ok-add_accounts.ensures in
     let needs = c.in_ok-sum_inits.ensures in
     drafted c.args.question start budgets c.args.lines c.add_accounts.new.self c.sum_inits.new.self (ap (λ (list : Bor Listed). list.now) c.add_accounts.ensures.list)
-    c.add_accounts.ensures.choice accounts.unmeasured accounts.lines accounts.accounts c.sum_inits.ensures.list c.sum_inits.ensures.choice c.sum_inits.ensures.scene
+    c.add_accounts.ensures.choice accounts.unmeasured accounts.lines accounts.accounts accounts.donations c.sum_inits.ensures.list c.sum_inits.ensures.choice c.sum_inits.ensures.scene
     needs.accounts needs.needed read
 
 pub returns-in_err-add_accounts-clause-fault : goal.returns-in_err-add_accounts-clause-fault
