@@ -1,10 +1,8 @@
 //! The lines of a scenario, component by component.
-ghost use Rattle.std.specs.Prelude.{◌≡◌, ◌<◌, ◌==◌, [], is_some, length, map, replicate, IfOk, OnOk};
-ghost use Rattle.std.specs.List.{position};
+ghost use Rattle.std.specs.Prelude.{◌≡◌, ◌<◌, ◌==◌, [], is_some, length, map, replicate, IfOk, OnOk, List};
+ghost use Rattle.std.specs.List.{position, AllByRecursion};
 ghost use Rattle.std.specs.Option.{option_copied};
 ghost use Rattle.core_calls.specs.Call.{model_call};
-ghost use Rattle.std.specs.Prelude.{List};
-ghost use Rattle.std.specs.List.{AllByRecursion};
 ghost use Rattle.budget_search.specs.declared.account_budgets.AccountBudgets.{AccountBudgets};
 ghost use Rattle.budget_least.specs.ComponentLines.{expects_refusal, expects_shortage, is_routed, line_of, lines_of, shows, AreAllWritten, AreWritten, IsAsWritten};
 ghost use Rattle.budget_least.specs.LineDonations.{HoldsFor, IsDonated};
@@ -36,7 +34,7 @@ pub(crate) struct LinesByComponent {
 }
 
 impl LinesByComponent {
-    ghost use Rattle.std.specs.Prelude.{◌≡◌, ◌≢◌, ◌++◌, ◌∷◌, [], ◌<◌, ◌==◌, false, length, map, replicate, None, IfErr, IfOk, OnOk};
+    ghost use Rattle.std.specs.Prelude.{◌≡◌, ◌≢◌, ◌++◌, ◌∷◌, [], ◌<◌, ◌==◌, false, length, map, replicate, None, IfErr, IfOk, OnOk, List};
     ghost use Rattle.list_parser.specs.declared.fault.BootFault.TheVariants.{NoMemory};
     ghost use Rattle.budget_search.specs.NoBudgets.{IsSearchFault};
     ghost use Rattle.std.specs.List.{slice_get, slice_split};
@@ -46,7 +44,6 @@ impl LinesByComponent {
     ghost use Rattle.line_names.specs.Views.{filled_view};
     ghost use Rattle.line_steps.specs.ResolvedLines.{is_unread};
     ghost use Rattle.line_steps.specs.ResolvedViews.{resolved_view, HasParsedCall};
-    ghost use Rattle.std.specs.Prelude.{List};
     ghost use Rattle.budget_search.specs.declared.account_budgets.AccountBudgets.{AccountBudgets};
     ghost use Rattle.budget_least.specs.ComponentAccounts.{steps_at};
     ghost use Rattle.budget_least.specs.LineDonations.{AreAllDonated, HoldsFor};

@@ -19,12 +19,11 @@ use list_parser::{BootFault, StartList};
 use std::alloc::{AllocError, Global};
 
 impl BudgetReport<'_> {
-    ghost use Rattle.std.specs.Prelude.{◌≡◌, ◌+◌, ◌<◌, [], length, IfOk, OnOk, ◌≢◌, IfErr};
+    ghost use Rattle.std.specs.Prelude.{◌≡◌, ◌+◌, ◌<◌, [], length, IfOk, OnOk, ◌≢◌, IfErr, ◌++◌, flat_map, false, true, List};
     ghost use Rattle.budget_least.specs.ComponentAccounts.{steps_at, AreSessionsFrom, IsSessionsOf};
     ghost use Rattle.list_parser.specs.declared.fault.BootFault.TheVariants.{NoMemory};
     ghost use Rattle.budget_search.specs.NoBudgets.{IsSearchFault};
     ghost use Rattle.budget_least.specs.ComponentLines.{lines_in, AreAllWritten};
-    ghost use Rattle.std.specs.Prelude.{◌++◌, flat_map, false, true, List};
     ghost use Rattle.budget_search.specs.declared.account_budgets.AccountBudgets.{AccountBudgets};
     ghost use Rattle.budget_least.specs.LineDonations.{AreAllDonated, HasDonations, HoldsFor, sessions_in, sessions_of};
     ghost use Rattle.budget_least.specs.ReportOf.{HasAccounts};

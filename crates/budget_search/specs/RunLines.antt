@@ -39,6 +39,6 @@ skipped_line budget account number asked = record { line = number; need = capped
 abbrev pub skipped_lines : Amounts → Account → ℕ → List Test → List SkippedLine
 skipped_lines budget account number asked = map (skipped_line budget account number) asked
 
--- a line of this mark is left out: it is told if it asks for something, and if its refusal may be a shortage
+-- a line of this mark is left out: it counts if it asks for something, and if its refusal may be a shortage
 abbrev pub skipped_by : Amounts → Account → Mark → List Test → List SkippedLine
 skipped_by budget account mark asked = if mark.may_be_short then skipped_lines budget account mark.number asked else []
