@@ -26,6 +26,17 @@ pub struct Block {
     pub before: u64,
 }
 
+/// A block that a walk over the headers of a chunk has reached.
+#[derive(Clone, Copy)]
+pub struct Step {
+    /// The offset of the block directly before this block, or this block's own offset if it is the first one.
+    pub before: u64,
+    /// The offset of the block's first byte in the chunk.
+    pub offset: u64,
+    /// The offset of the byte directly after the block.
+    pub next: u64,
+}
+
 /// Stores the header of a block: its size in bytes, and its state.
 pub fn set_header<M: WordMemory>(memory: &mut M, place: u64, size: u64, state: u64)
     requires { IsNode (M.bytes (M.rest memory.old)) place }

@@ -16,7 +16,7 @@ mod memory;
 mod theorems;
 
 pub use best_fit::{BestFit, BlockAddr, MOST_CHUNKS, UsedBlock, block_bytes};
-pub use chunk::{Block, STATE, USED};
+pub use chunk::{Block, STATE, Step, USED};
 pub use memory::{HIGH, LEFT, RIGHT, WordMemory};
 pub use theorems::{
     best_hole_is_found, blocks_lie_apart, chunks_have_sizes, heap_stays, holes_are_joined,

@@ -1,12 +1,12 @@
 //! The words under the heap, denoted by their places.
-ghost use Rattle.std.specs.Prelude.{◌≡◌, ℕ, ◌+◌, ◌*◌, ◌%◌, ◌<◌, ◌≤◌, List, length};
+ghost use Rattle.std.specs.Prelude.{◌≡◌, ℕ, ◌+◌, ◌%◌, ◌<◌, ◌≤◌, List};
 ghost use Rattle.own_model.specs.Heap.{Block as ModelBlock, bytes_in};
 ghost use Rattle.avl_alloc.specs.Words.{IsWord, IsPlace, IsNode, place_at, with_word};
 ghost use Rattle.avl_alloc.specs.FreeBlocks.{links_at, with_links};
 ghost use Rattle.avl_alloc.specs.Layout.{Laid, IsRoom};
-ghost use Rattle.avl_alloc.specs.Walk.{block_over};
+ghost use Rattle.avl_alloc.specs.Walk.{block_over, walk_loads};
 
-use super::chunk::{Block, STATE, USED};
+use super::chunk::{Block, STATE, Step, USED};
 use avl_tree::Links;
 
 /// The offset of the left child in a free block, in bytes.
@@ -81,7 +81,8 @@ pub trait WordMemory {
     }
 
     /// Returns the block that contains an offset of a chunk, found by a walk over the headers from the chunk's first byte.
-    /// It loads at most two words for each block.
+    /// It loads the size of each block on the way, and the states of the last two: m + 2 words for the m-th block, of the
+    /// first one 2.
     fn walk(&mut self, chunk: usize, target: u64) -> Block
         requires { (blocks : List ModelBlock) × Laid (word self.old) (place_at chunk 0) blocks ×
             IsRoom (bytes (rest self.old)) (place_at chunk 0) (bytes_in blocks) ×
@@ -94,23 +95,37 @@ pub trait WordMemory {
         ensures rest { rest self.new ≡ rest self.old }
         ensures loads { (blocks : List ModelBlock)
             → Laid (word self.old) (place_at chunk 0) blocks → target < bytes_in blocks
-            → loads self.new ≤ loads self.old + 2 * length blocks }
+            → loads self.new ≡ loads self.old + walk_loads target blocks }
     {
-        let mut offset = 0;
-        let mut before = 0;
-        'steps: loop {
-            let size = self.load(chunk, offset);
-            let used = self.load(chunk, offset + STATE) == USED;
-            if target < offset + size {
-                return Block {
-                    offset,
-                    size,
-                    used,
-                    before,
-                };
-            }
-            before = if used { 0 } else { size };
-            offset += size;
+        let mut step = Step {
+            before: 0,
+            offset: 0,
+            next: self.load(chunk, 0),
+        };
+        'steps: while step.next <= target {
+            step = Step {
+                before: step.offset,
+                offset: step.next,
+                next: step.next + self.load(chunk, step.next),
+            };
+        }
+        let size = step.next - step.offset;
+        let used = self.load(chunk, step.offset + STATE) == USED;
+        if step.before == step.offset {
+            return Block {
+                offset: step.offset,
+                size,
+                used,
+                before: 0,
+            };
+        }
+        let behind = self.load(chunk, step.before + STATE) == USED;
+        let before = if behind { 0 } else { step.offset - step.before };
+        Block {
+            offset: step.offset,
+            size,
+            used,
+            before,
         }
     }
 }

@@ -17,15 +17,10 @@ use Rattle.own_model.specs.FileText as model
 use Rattle.own_model.specs.FileText.{file_reply}
 use Rattle.own_model.specs.FileText.FileError.{Gap, NoBuffer}
 use Rattle.own_model.specs.FileText.FileReply.{Count, Refused}
-use Rattle.region_map.specs.Regions.{Regions}
-use Rattle.dataspace_core.specs.Store.{Store, space_at}
-use Rattle.server_frame.specs.SessionBuffer.{IsEffect, bytes_lent}
-use Rattle.server_frame.specs.Session.{holding_of}
+use Rattle.session_nodes.specs.Frame.{Regions, Store, space_at, IsEffect, bytes_lent, holding_of, Effect, Nothing}
 use Rattle.core_calls.specs.FileError.{model_error}
 use Rattle.core_calls.specs.ReplyText.{Told}
 use Rattle.core_calls.specs.declared.file_error.FileError.{FileError}
-use Rattle.server_frame.specs.declared.effect.Effect.{Effect}
-use Rattle.server_frame.specs.declared.effect.Effect.TheVariants.{Nothing}
 use Rattle.session_proto.specs.File.{model_request}
 use Rattle.session_proto.specs.declared.file.FileRequest.{FileRequest}
 use Rattle.session_nodes.specs.SoundHeaps.{Stock}

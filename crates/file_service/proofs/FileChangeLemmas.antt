@@ -10,7 +10,7 @@ use Rattle.own_model.specs.Growth.{shape_given}
 use Rattle.own_model.specs.NatMap.{NatMap}
 use Rattle.own_model.specs.Nodes.{block_taken, content_ram, content_caps}
 use Rattle.own_model.specs.OwnHeap.{OwnHeap}
-use Rattle.sliced_heap.specs.Chain.{is_listed}
+use Rattle.session_nodes.specs.Frame.{is_listed}
 use Rattle.session_nodes.specs.Calls.{payload_in}
 use Rattle.session_nodes.specs.Node.{StoredNode}
 use Rattle.session_nodes.specs.NodeList.{nodes_in, taken_in, Creates, IsFound, Removes, Replaces, Sets}

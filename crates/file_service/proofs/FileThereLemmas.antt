@@ -2,8 +2,7 @@
 use Rattle.std.proofs.Common.{◌≡◌, List, ℕ, Option, Some, length, sym, subst}
 use Rattle.std.specs.Prelude.{IfSome}
 use Rattle.own_model.specs.FileService.{File, file_named}
-use Rattle.region_map.specs.Regions.{Regions}
-use Rattle.dataspace_core.specs.Store.{Store}
+use Rattle.session_nodes.specs.Frame.{Regions, Store}
 use Rattle.session_nodes.specs.Index.{previous_at}
 use Rattle.session_nodes.specs.Node.{value_of}
 use Rattle.session_nodes.specs.NodeList.{Finds}

@@ -17,7 +17,7 @@ use Rattle.own_model.specs.OwnState.{zeros, with_part}
 use Rattle.own_model.specs.Sliced.{sliced_size}
 use Rattle.own_model.proofs.ByteLemmas.{length-zeros, length-with_part}
 use Rattle.own_model.proofs.NatMapLemmas.{get-insert_same, get-insert_other}
-use Rattle.sliced_heap.specs.Chain.{is_listed}
+use Rattle.session_nodes.specs.Frame.{is_listed}
 use Rattle.session_nodes.specs.Calls.{payload_in, content_taken, content_copied, content_written, HasBytes}
 use Rattle.session_nodes.specs.Order.{node_at, StandAt, HasContent}
 use Rattle.file_service.specs.Files.{file_at, files_of}

@@ -16,8 +16,7 @@ use Rattle.own_model.specs.Text.{bytes_of_hex, hex_bytes}
 use Rattle.own_model.proofs.FileTextLemmas.{write_is_short}
 use Rattle.own_model.proofs.LogLemmas.{bytes_of_digits}
 use Rattle.own_model.proofs.NatMapLemmas.{some_of}
-use Rattle.region_map.specs.Regions.{Regions}
-use Rattle.dataspace_core.specs.Store.{Store}
+use Rattle.session_nodes.specs.Frame.{Regions, Store}
 use Rattle.core_calls.specs.ReplyText.{Told, told_alone}
 use Rattle.session_nodes.specs.SessionHeaps.{stock_of}
 use Rattle.file_service.specs.Session.{files_in, served_in, HasFiles, Serves}

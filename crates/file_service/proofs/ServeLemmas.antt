@@ -10,8 +10,7 @@ use Rattle.own_model.specs.FileText.FileReply.{Done, Count, Bytes, Refused}
 use Rattle.own_model.specs.FileText.FileError.{BadName, Exists, NotFound, Gap, TooLong}
 use Rattle.own_model.specs.Growth.{heap_refusal, hole_for, shape_given}
 use Rattle.own_model.specs.Text.{is_name}
-use Rattle.region_map.specs.Regions.{Regions}
-use Rattle.dataspace_core.specs.Store.{Store}
+use Rattle.session_nodes.specs.Frame.{Regions, Store}
 use Rattle.session_nodes.specs.SoundHeaps.{Stock}
 use Rattle.session_nodes.specs.SessionHeaps.{stock_of}
 use Rattle.session_nodes.specs.NodeList.{Finds}

@@ -19,7 +19,7 @@ use Rattle.own_model.specs.OwnState.{with_part}
 use Rattle.own_model.specs.Sliced.{sliced_size, sliced_refusal}
 use Rattle.own_model.proofs.ByteLemmas.{length-with_part}
 use Rattle.own_model.proofs.NatMapLemmas.{some_of, insert_back, get-insert_same, get-insert_other}
-use Rattle.sliced_heap.specs.Chain.{is_listed}
+use Rattle.session_nodes.specs.Frame.{is_listed}
 use Rattle.session_nodes.specs.Calls.{payload_in, content_written}
 use Rattle.session_nodes.specs.Order.{node_at, nodes_from, HasContent, StandAt}
 use Rattle.file_service.specs.Files.{file_at, files_of}

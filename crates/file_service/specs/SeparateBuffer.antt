@@ -6,13 +6,12 @@ use Rattle.own_model.specs.NatMap.{NatMap}
 use Rattle.own_model.specs.OwnHeap.{OwnHeap}
 use Rattle.own_model.specs.Session.{Labelled}
 use Rattle.own_model.specs.Services.ServiceState.{Filing}
-use Rattle.dataspace_core.specs.Share.{Share}
-use Rattle.heap_core.specs.Heap.{heap_in}
-use Rattle.sliced_heap.specs.Sliced.{sliced_of}
-use Rattle.server_frame.specs.SessionBuffer.{LendsAside, AllLendAside, share_with}
+use Rattle.session_nodes.specs.Frame.{Share, sliced_of, LendsAside, AllLendAside, share_with}
+use Rattle.session_nodes.specs.NodeList.{heap_in}
 use Rattle.session_nodes.specs.Index.{AreListed}
 use Rattle.session_nodes.specs.SeparateBuffer as apart
-use Rattle.session_nodes.specs.SessionBuffer.{IsBufferAt, KeepsBuffer, buffer_key}
+use Rattle.session_nodes.specs.SessionBuffer.{IsBufferAt, KeepsBuffer}
+pub use Rattle.session_nodes.specs.SessionBuffer.{buffer_key}
 use Rattle.session_nodes.specs.declared.session_buffer.SessionBuffer.{SessionBuffer}
 use Rattle.file_service.specs.Files.{files_of}
 use Rattle.file_service.specs.Session.{IsSession, value_of}

@@ -5,24 +5,17 @@ use Rattle.own_model.specs.FileText as model
 use Rattle.own_model.specs.FileText.FileReply.{Done, Count, Bytes, Lent, Refused}
 use Rattle.session_proto.specs.FileReply.{model_error}
 use Rattle.core_calls.specs.declared.file_error.FileError.{FileError}
-use Rattle.dataspace_core.specs.Share.{Share}
-use Rattle.heap_core.specs.Heap.{heap_in}
-use Rattle.sliced_heap.specs.Sliced.{sliced_of}
+use Rattle.session_nodes.specs.Frame.{Share, sliced_of, Regions, Store, IsEffect, bytes_lent, holding_of, Effect}
 use Rattle.own_model.specs.Session.{Labelled}
 use Rattle.own_model.specs.Services.ServiceState.{Filing}
 use Rattle.file_service.specs.Files.{files_of}
-use Rattle.session_nodes.specs.NodeList.{HasNodes, KeepsList}
+use Rattle.session_nodes.specs.NodeList.{heap_in, HasNodes, KeepsList}
 use Rattle.session_nodes.specs.SoundHeaps.{Stock}
 use Rattle.session_nodes.specs.SessionHeaps.{stock_of, AreSoundHeaps, AreKept, StaySoundHeaps}
 use Rattle.session_nodes.specs.SessionBuffer.{KeepsBuffer, HasBuffer, buffer_key}
 use Rattle.own_model.specs.BufferService.{SessionRequest, BufferServed, session_request_served}
 use Rattle.trade_base.specs.declared.id.DsId.{DsId}
-use Rattle.region_map.specs.Regions.{Regions}
-use Rattle.dataspace_core.specs.Store.{Store}
-use Rattle.server_frame.specs.SessionBuffer.{IsEffect, bytes_lent}
-use Rattle.server_frame.specs.Session.{holding_of}
 use Rattle.core_calls.specs.ReplyText.{Told, told_alone}
-use Rattle.server_frame.specs.declared.effect.Effect.{Effect}
 use Rattle.file_service.specs.declared.session.FileSession.{FileSession}
 
 -- what a session is, read out of what its account has

@@ -5,17 +5,14 @@ ghost use Rattle.std.specs.Result.{result_err};
 ghost use Rattle.own_model.specs.BufferService.{range_refusal};
 ghost use Rattle.own_model.specs.BufferService.BufferRequest.{Make, GiveBack, Put, Get};
 ghost use Rattle.own_model.specs.BufferService.SessionRequest.{OfBuffer};
-ghost use Rattle.dataspace_core.specs.Store.{Exists};
-ghost use Rattle.server_frame.specs.SessionBuffer.{IsEffect, bytes_lent};
+ghost use Rattle.session_nodes.specs.Frame.{Exists, IsEffect, bytes_lent};
 ghost use Rattle.session_proto.specs.FileReply.{model_error};
 ghost use Rattle.session_nodes.specs.SessionHeaps.{StaySoundHeaps};
 ghost use Rattle.session_nodes.specs.SessionBuffer.{buffer_key, lent_effect, gone_effect};
 ghost use Rattle.file_service.specs.Session.{Answers, IsReady, session_served, counted_reply, done_reply, lent_reply};
 
 use crate::session::{FileRange, FileSession};
-use dataspace_core::Memory;
-use region_map::RegionMap;
-use session_nodes::{ContentRange, SessionBuffer, WriteSource};
+use session_nodes::{ContentRange, Memory, RegionMap, SessionBuffer, WriteSource};
 use session_proto::FileError;
 use trade_base::DsId;
 

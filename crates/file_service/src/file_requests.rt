@@ -9,9 +9,7 @@ ghost use Rattle.session_nodes.specs.SessionHeaps.{stock_of, AreSoundHeaps, Keep
 ghost use Rattle.file_service.specs.Session.{HasFiles, Serves, done_reply, counted_reply, served_in};
 
 use crate::session::FileSession;
-use dataspace_core::Memory;
-use region_map::RegionMap;
-use session_nodes::{FoundNode, WriteSource};
+use session_nodes::{FoundNode, Memory, RegionMap, WriteSource};
 use session_proto::FileError;
 use text_codec::is_name;
 use trade_base::{FILE_NODE, Refusal};

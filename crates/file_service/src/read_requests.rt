@@ -7,9 +7,7 @@ ghost use Rattle.session_nodes.specs.SessionHeaps.{stock_of, AreSoundHeaps};
 ghost use Rattle.file_service.specs.Session.{files_in, HasFiles, counted_reply, bytes_reply, IsTold};
 
 use crate::session::{FileRange, FileSession};
-use dataspace_core::Memory;
-use region_map::RegionMap;
-use session_nodes::Node;
+use session_nodes::{Memory, Node, RegionMap};
 use session_proto::FileError;
 
 /// The most bytes that one request reads.

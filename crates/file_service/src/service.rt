@@ -10,23 +10,16 @@ ghost use Rattle.own_model.specs.FileText.FileRequest.{Name, Read, Write};
 ghost use Rattle.own_model.specs.Offer.Offer.{OffersFiles};
 ghost use Rattle.own_model.specs.Session.{Labelled, state_at_first};
 ghost use Rattle.own_model.specs.Text.{bytes_of_hex, hex_bytes};
-ghost use Rattle.dataspace_core.specs.Store.{account_in, IsOpenIn};
-ghost use Rattle.sliced_heap.specs.Heap.{payer_of};
+ghost use Rattle.session_nodes.specs.Frame.{account_in, IsOpenIn, payer_of, service_step, Nothing};
 ghost use Rattle.file_service.specs.SeparateBuffer.{lends_aside};
-ghost use Rattle.server_frame.specs.Session.{service_step};
-ghost use Rattle.server_frame.specs.declared.effect.Effect.TheVariants.{Nothing};
 ghost use Rattle.session_nodes.specs.SessionHeaps.{stock_of, AreSoundHeaps, KeepsHeaps};
 ghost use Rattle.session_nodes.specs.SessionBuffer.{buffer_key, lent_effect, gone_effect};
 ghost use Rattle.file_service.specs.Session.{HasFiles, IsReady, IsAnswered, IsTold, Serves, done_reply, counted_reply, lent_reply, served_in, session_served};
 
 use crate::session::{FileRange, FileSession};
 use core_calls::Reply;
-use dataspace_core::Memory;
-use region_map::RegionMap;
-use server_frame::{Effect, SessionService};
-use session_nodes::SessionHeaps;
+use session_nodes::{Effect, Memory, RegionMap, SessionHeaps, SessionService, SlicedHeap};
 use session_proto::{FileError, FileReply, FileRequest};
-use sliced_heap::SlicedHeap;
 use text_codec::decode_hex;
 use trade_base::DsId;
 

@@ -2,10 +2,7 @@
 
 use arrayvec::ArrayVec;
 use core_calls::LONGEST_LABEL;
-use dataspace_core::Memory;
-use region_map::RegionMap;
-use session_nodes::{FoundNode, NodeList, SessionBuffer};
-use sliced_heap::SlicedHeap;
+use session_nodes::{FoundNode, Memory, NodeList, RegionMap, SessionBuffer, SlicedHeap};
 
 /// What the file service stores for a session. Each file has a node.
 #[derive(Drop)]
@@ -27,13 +24,10 @@ pub(crate) struct FileRange<'a> {
 
 impl FileSession {
     ghost use Rattle.std.specs.Prelude.{◌≡◌, ◌≤◌, length, IfSome, IfNone, None};
-    ghost use Rattle.dataspace_core.specs.Share.{Share};
+    ghost use Rattle.session_nodes.specs.Frame.{Share, payer_of, IsLinked, HasBlocksAlone};
     ghost use Rattle.own_model.specs.FileService.{file_named};
     ghost use Rattle.own_model.specs.Offer.Offer.{OffersFiles};
     ghost use Rattle.own_model.specs.Session.{state_at_first};
-    ghost use Rattle.sliced_heap.specs.Heap.{payer_of};
-    ghost use Rattle.sliced_heap.specs.Sliced.{IsLinked};
-    ghost use Rattle.server_frame.specs.Session.{HasBlocksAlone};
     ghost use Rattle.session_nodes.specs.NodeList.{Finds};
     ghost use Rattle.session_nodes.specs.SessionHeaps.{stock_of, AreSoundHeaps};
     ghost use Rattle.file_service.specs.Session.{value_of, files_in, HasFiles, IsSession};

@@ -1,5 +1,5 @@
 -- A walk over the headers of a chunk's bytes, a step at a time.
-use Rattle.std.proofs.Common.{◌≡◌, ℕ, ◌+◌, ◌-◌, ◌*◌, ◌/◌, ◌%◌, ◌^◌, ◌<◌, ◌≤◌, Bool, true, false, List, length, min, get_or, eqb, refl, sym, ap, subst, ◌∙◌, arith}
+use Rattle.std.proofs.Common.{◌≡◌, ℕ, ◌+◌, ◌-◌, ◌*◌, ◌/◌, ◌%◌, ◌^◌, ◌<◌, ◌≤◌, List, length, min, get_or, eqb, sym, ap, subst, ◌∙◌, arith}
 use Rattle.std.specs.Prelude.{if◌then◌else◌, nat_lt, slice_range}
 use Rattle.trade_base.specs.Word.{word_of}
 use Rattle.own_model.specs.Heap as heap
@@ -7,13 +7,13 @@ use Rattle.own_model.specs.Heap.{bytes_in}
 use Rattle.avl_alloc.specs.declared.chunk.Block.{Block}
 use Rattle.avl_alloc.specs.Words.{Words, IsWord, place_at}
 use Rattle.avl_alloc.specs.Layout.{Laid, IsRoom}
-use Rattle.avl_alloc.specs.Walk.{block_over, IsAhead}
+use Rattle.avl_alloc.specs.Walk.{block_over, hole_in, IsWalking}
 use Rattle.avl_alloc.proofs.HoleLemmas.{ltb-true, ltb-false}
-use Rattle.avl_alloc.proofs.WalkLemmas.{ahead-start, ahead-some, ahead-here, ahead-on, ahead-fewer, ahead-block, ahead-read, of_chunk, IsBlockThere}
+use Rattle.avl_alloc.proofs.WalkLemmas.{ahead-start, ahead-read, of_chunk, step_there, walk_on, walk_found}
 use Rattle.dataspace_core.specs.Store.{Store}
-use Rattle.heap_core.specs.declared.walk.Step.{Step}
+use Rattle.avl_alloc.specs.declared.chunk.Step.{Step}
 use Rattle.heap_core.specs.Words.{word_from, word_in, bytes_in_store, around, bytes_around}
-use Rattle.heap_core.specs.Walk.{HasWords, IsPageOf, HasHeaders, HasRoom, IsEarlier, IsWalking, hole_in, behind, step_at}
+use Rattle.heap_core.specs.Walk.{HasWords, IsPageOf, HasRoom, IsEarlier, step_at}
 use Rattle.heap_core.proofs.WordsLemmas.{range_in, range_whole, word_there, word_at_place, IsReached, is_reached, room_within}
 
 -- a page of bytes has their words
@@ -25,83 +25,6 @@ page_words page bytes w start offset words short is size q aligned fits =
     ∙ word_there bytes (offset / 4096 * 4096 + q) (omega arith) (omega (arith, whole))
     ∙ ap word_of (range_in bytes (offset / 4096 * 4096) 4096 q 8 whole fits)
     ∙ ap (λ p. word_of (slice_range p q (q + 8))) (sym is)
-
-no_hole : (used : Bool) → (if used then 0 else 0 - 0) ≡ 0
-no_hole true = refl
-no_hole false = refl
-
-at_most_one : (first : Bool) → (if first then 0 else 1) ≤ 1
-at_most_one true = omega arith
-at_most_one false = omega arith
-
--- the first step
-pub walk_start : (w : Words) (start target size : ℕ) (blocks : List heap.Block) (k : ℕ) → HasHeaders w start target blocks → size ≡ w (start + 0) →
-    IsWalking w start target blocks (record { before = 0; offset = 0; next = size }) (k + 1) k
-walk_start w start target size blocks k headers read = record {
-  inside = headers.inside;
-  ahead = blocks;
-  is = subst (λ z. IsAhead w start 0 z target blocks blocks (k + 1 + 0) (k + 1)) (sym (no_hole (eqb (w (start + 0 + 8)) 1)))
-      (ahead-fewer w start 0 0 target blocks blocks (k + 1) (k + 1 + 0) (k + 1) (omega arith) (ahead-start w start target blocks (k + 1) headers.laid));
-  next = omega (arith, read);
-  even = refl;
-  order = omega arith;
-}
-
--- the block of a step is a whole one among so many bytes
-pub record IsWholeBlock (step : Step) (total : ℕ) : Type 0 where
-  pub even : step.offset % 16 ≡ 0
-  pub next_even : step.next % 16 ≡ 0
-  pub least : step.offset + 48 ≤ step.next
-  pub end : step.next ≤ total
-
-module _ (w : Words) (start target : ℕ) (blocks : List heap.Block) (step : Step) (n k : ℕ) (walking : IsWalking w start target blocks step n k) where
-  abbrev used : Bool
-  used = eqb (w (start + step.offset + 8)) 1
-
-  abbrev before : ℕ
-  before = hole_in (w (start + step.before + 8)) step.before step.offset
-
-  here : IsBlockThere (w (start + step.offset)) step.offset (bytes_in blocks)
-  here = ahead-block w start step.offset before target blocks walking.ahead (n + behind step) (k + 1) walking.inside walking.is
-
-  -- the block of a step is a whole one, and lies in the chunk
-  pub step_there : IsWholeBlock step (bytes_in blocks)
-  step_there =
-      let at = here in let next = walking.next in let even = walking.is.even in let even' = at.even in
-      record { even = even; next_even = omega arith; least = omega (arith, at.least); end = omega (arith, at.within) }
-
-  -- the step to the next block
-  pub walk_on : (size : ℕ) → step.next ≤ target → size ≡ w (start + step.next) → IsWalking w start target blocks (record { before = step.offset; offset = step.next; next = step.next + size }) (n + 1) k
-  walk_on size le read =
-      let next = walking.next in
-      let sized : w (start + step.offset) ≡ step.next - step.offset = omega (arith, next) in
-      let on = ahead-on w start step.offset before target blocks (n + behind step) (k + 1) walking.inside
-      (w (start + step.offset)) used refl refl (omega (arith, next, le)) walking.ahead walking.is in
-      let there = subst (λ z. IsAhead w start z (if used then 0 else (step.next - step.offset)) target blocks on.0 (n + behind step + 2) (k + 1)) (sym next)
-      (subst (λ z. IsAhead w start (step.offset + w (start + step.offset)) (if used then 0 else z) target blocks on.0 (n + behind step + 2) (k + 1)) sized on.1) in
-      let more = at_most_one (eqb step.offset step.next) in
-      record {
-        inside = walking.inside;
-        ahead = on.0;
-        is = ahead-fewer w start step.next (if used then 0 else (step.next - step.offset)) target blocks on.0 (n + behind step + 2)
-            (n + 1 + (if eqb step.offset step.next then 0 else 1)) (k + 1) (omega (arith, more)) there;
-        next = omega (arith, read);
-        even = walking.is.even;
-        order = omega (arith, next);
-      }
-
-  -- the block that contains the target
-  pub walk_found : target < step.next → (let found : Block = record { offset = step.offset; size = step.next - step.offset; used = used; before = before } in found ≡ block_over 0 0 target blocks)
-  walk_found lt =
-      let next = walking.next in
-      ahead-here w start step.offset before target blocks (n + behind step) (k + 1) walking.inside
-      (step.next - step.offset) used (omega (arith, next)) refl (omega (arith, next, lt)) walking.ahead walking.is
-
-  -- two more loads are few
-  pub walk_few : n + 1 + behind step ≤ k + 2 * length blocks
-  walk_few =
-      let few = ahead-some w start step.offset before target blocks (n + behind step) (k + 1) walking.inside walking.ahead walking.is in
-      omega (arith, few)
 
 -- ---- within a page
 

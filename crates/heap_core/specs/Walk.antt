@@ -1,12 +1,11 @@
 -- A walk over the headers of a chunk's bytes.
-use Rattle.std.specs.Prelude.{◌≡◌, ℕ, ◌+◌, ◌-◌, ◌*◌, ◌/◌, ◌%◌, ◌^◌, ◌<◌, ◌≤◌, ◌==◌, if◌then◌else◌, nat_lt, List, length, slice_range}
+use Rattle.std.specs.Prelude.{◌≡◌, ℕ, ◌+◌, ◌*◌, ◌/◌, ◌%◌, ◌^◌, ◌<◌, ◌≤◌, if◌then◌else◌, nat_lt, List, length, slice_range}
 use Rattle.trade_base.specs.Word.{word_of}
 use Rattle.own_model.specs.Heap.{Block, bytes_in}
 use Rattle.avl_alloc.specs.Words.{Words}
 use Rattle.avl_alloc.specs.Layout.{Laid}
-use Rattle.avl_alloc.specs.Walk.{IsAhead}
 use Rattle.heap_core.specs.Words.{word_from}
-use Rattle.heap_core.specs.declared.walk.Step.{Step}
+use Rattle.avl_alloc.specs.declared.chunk.Step.{Step}
 
 -- these bytes have the words from a place on
 abbrev pub HasWords : List ℕ → Words → ℕ → Type 0
@@ -26,14 +25,6 @@ pub record HasRoom (blocks : List Block) (size : ℕ) : Type 0 where
   pub within : bytes_in blocks ≤ size
   pub short : bytes_in blocks ≤ 2 ^ 32
 
--- the size of a block in this state between two offsets if it is free, else 0
-abbrev pub hole_in : ℕ → ℕ → ℕ → ℕ
-hole_in state from to = if state == 1 then 0 else to - from
-
--- 1 if a block is before that of a step, else 0
-abbrev pub behind : Step → ℕ
-behind step = if step.before == step.offset then 0 else 1
-
 -- the step at an offset of the page that begins at a start, where the block before it is in the page, or else outside
 abbrev pub step_at : ℕ → ℕ → ℕ → ℕ → ℕ → Step
 step_at start outside before offset next = record { before = if nat_lt before offset then start + before else outside; offset = start + offset; next = start + next }
@@ -44,12 +35,3 @@ pub record IsEarlier (step : Step) (size : ℕ) : Type 0 where
   pub order : step.before ≤ step.offset
   pub within : step.before + 16 ≤ size
   pub short : step.before + 16 ≤ 2 ^ 32
-
--- a walk to an offset has reached this step, where it has loaded so many words and began with so many
-pub record IsWalking (w : Words) (start target : ℕ) (blocks : List Block) (step : Step) (n k : ℕ) : Type 0 where
-  pub inside : target < bytes_in blocks
-  pub ahead : List Block
-  pub is : IsAhead w start step.offset (hole_in (w (start + step.before + 8)) step.before step.offset) target blocks ahead (n + behind step) (k + 1)
-  pub next : step.next ≡ step.offset + w (start + step.offset)
-  pub even : step.before % 16 ≡ 0
-  pub order : step.before ≤ step.offset

@@ -1,28 +1,17 @@
 //! A walk over the headers of a chunk, over the bytes of one page at a time.
-ghost use Rattle.std.specs.Prelude.{◌≡◌, ℕ, ◌+◌, ◌*◌, ◌^◌, ◌<◌, ◌≤◌, List, length, slice_range};
+ghost use Rattle.std.specs.Prelude.{◌≡◌, ℕ, ◌+◌, ◌^◌, ◌<◌, ◌≤◌, List, length, slice_range};
 ghost use Rattle.own_model.specs.Heap.{Block as ModelBlock, bytes_in};
-ghost use Rattle.avl_alloc.specs.Walk.{block_over};
+ghost use Rattle.avl_alloc.specs.Walk.{block_over, walk_loads, hole_in, behind, IsWalking};
 ghost use Rattle.dataspace_core.specs.Store.{Exists, space_at};
 ghost use Rattle.trade_base.specs.Word.{word_of};
 ghost use Rattle.heap_core.specs.Words.{word_from};
-ghost use Rattle.heap_core.specs.Walk.{HasWords, HasHeaders, HasRoom, IsPageOf, IsWalking, IsEarlier, hole_in, behind, step_at};
+ghost use Rattle.heap_core.specs.Walk.{HasWords, HasHeaders, HasRoom, IsPageOf, IsEarlier, step_at};
 
 use crate::loads::Loads;
-use avl_alloc::{Block, STATE, USED};
+use avl_alloc::{Block, STATE, Step, USED};
 use dataspace_core::Memory;
 use std::sync::ledger::Ledger;
 use trade_base::{DsId, PAGE};
-
-/// A block that a walk has reached.
-#[derive(Clone, Copy)]
-pub(crate) struct Step {
-    /// The offset of the block directly before this block, or this block's own offset if it is the first one.
-    before: u64,
-    /// The offset of the block's first byte in the chunk.
-    offset: u64,
-    /// The offset of the byte directly after the block.
-    next: u64,
-}
 
 /// Returns the block that contains an offset of a chunk's dataspace. The walk begins with the header at offset 0. It loads
 /// the size of each block, and the states of the last two.
@@ -37,7 +26,7 @@ pub(crate) fn walk<L: Ledger>(memory: &Memory, ds: DsId, target: u64, loads: &mu
         → result ≡ block_over 0 0 target blocks }
     ensures loads { (w : ℕ → ℕ) (start : ℕ) (blocks : List ModelBlock)
         → HasWords (space_at memory.now ds.0).bytes w start → HasHeaders w start target blocks
-        → loads.new ≤ loads.old + 2 * length blocks }
+        → loads.new ≡ loads.old + walk_loads target blocks }
 {
     let mut step = Step {
         before: 0,

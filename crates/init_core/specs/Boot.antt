@@ -6,6 +6,7 @@ use Rattle.trade_base.specs.declared.id.AccountId.{AccountId}
 use Rattle.own_model.specs.Listed.{Listed, ListedEntry, kind_of, levels_within, most_lists, offer_in, start_of, start_list_of}
 use Rattle.own_model.specs.StartList.{StartEntry, AllCovered, Boots, inits_at_first, inits_keep, inits_kept, start_state}
 use Rattle.dataspace_core.specs.Store.{Store, OpensPart, accounts_in, root_in, room_in, ram_limits_in, caps_limits_in, IsOpenIn, IsChildIn}
+pub use Rattle.pd_core.specs.CodedWorld.{coded_world}
 use Rattle.pd_core.specs.Component.{Place, entry_of, offer_of, payer_of, reserve_of, tables_of, HasNewHeap}
 use Rattle.pd_core.specs.Core.{Heads, Places, Roles, IsInitOf, IsInits, entries_of, inits_of, roles_of}
 use Rattle.pd_core.specs.Fresh.{starts_of, AreEmpty, AreFreshBelow, IsNewServer}

@@ -13,5 +13,6 @@ pub use list_parser::{
     quota_faults_are_of_lacks,
 };
 pub use list_routes::{MOST_LISTS, route, target_child};
+pub use pd_core::{Core, Router};
 pub use startup::boot;
 pub use table::RouteTable;

@@ -124,7 +124,7 @@ fn most_loads<L: Ledger>(rt: &impl Abort, blank: Blank, words: Vec<u64>) -> u64
     for i in 0..2700u64 {
         let size = trial.free(BlockAddr {
             chunk: 0,
-            offset: (2699 - i) * 96,
+            offset: (2699 - i) * 96 + 48,
         });
         assert_eq!(rt; size, Some(48));
     }

@@ -10,7 +10,7 @@ use Rattle.std.specs.List.{All, position, position_or_len}
 use Rattle.own_model.specs.LogService.{labelled, written, Logged, IsPartial, IsUnbroken, is_newline}
 use Rattle.own_model.proofs.LogLemmas.{written-none, written_newline, writes_add, writes_lines}
 use Rattle.own_model.specs.Reply.{log_text}
-use Rattle.sliced_heap.specs.declared.heap.SlicedHeap.{SlicedHeap}
+use Rattle.server_frame.specs.Memory.{SlicedHeap}
 use Rattle.core_calls.specs.ReplyText.{Told}
 use Rattle.log_service.specs.Session.{LabelledLine, lines_text, Writes}
 

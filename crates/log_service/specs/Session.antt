@@ -5,10 +5,7 @@ use Rattle.own_model.specs.LogService.{labelled, written}
 use Rattle.own_model.specs.Reply.{log_text}
 use Rattle.own_model.specs.Session.{Labelled}
 use Rattle.own_model.specs.Services.ServiceState.{Logging}
-use Rattle.dataspace_core.specs.Share.{Share}
-use Rattle.sliced_heap.specs.Heap.{payer_of}
-use Rattle.sliced_heap.specs.Sliced.{IsLinked}
-use Rattle.sliced_heap.specs.declared.heap.SlicedHeap.{SlicedHeap}
+use Rattle.server_frame.specs.Memory.{Share, payer_of, IsLinked, SlicedHeap}
 use Rattle.server_frame.specs.Session.{HasBlocksAlone}
 use Rattle.core_calls.specs.ReplyText.{Told}
 

@@ -6,15 +6,12 @@ ghost use Rattle.own_model.specs.Services.ServiceState.{Logging};
 ghost use Rattle.log_service.specs.Session.{lines_text, as_kept, IsSession};
 ghost use Rattle.server_frame.proofs.LentLaws.{lends_nothing};
 ghost use Rattle.server_frame.specs.Session.{service_step};
-ghost use Rattle.sliced_heap.specs.Heap.{payer_of};
+ghost use Rattle.server_frame.specs.Memory.{payer_of};
 
 use crate::session::LogSession;
 use core_calls::Reply;
-use dataspace_core::Memory;
-use region_map::RegionMap;
-use server_frame::{Effect, SessionService};
+use server_frame::{Effect, Memory, RegionMap, SessionService, SlicedHeap};
 use session_proto::{LogReply, LogRequest};
-use sliced_heap::SlicedHeap;
 use trade_base::DsId;
 
 /// The log service. It stores nothing except its sessions.

@@ -7,7 +7,7 @@ ghost use Rattle.log_service.specs.Session.{Writes};
 
 use arrayvec::ArrayVec;
 use core_calls::{LONGEST_LABEL, MOST_LINES, Reply};
-use sliced_heap::SlicedHeap;
+use server_frame::SlicedHeap;
 use std::marker::Model;
 use std::mem;
 use text_codec::{decode_hex_from, find_byte};

@@ -19,15 +19,10 @@ use Rattle.own_model.specs.ObjectText as model
 use Rattle.own_model.specs.ObjectText.{object_reply}
 use Rattle.own_model.specs.ObjectText.ObjectError.{Shared}
 use Rattle.own_model.specs.ObjectText.ObjectReply.{Done, Lent, Refused}
-use Rattle.region_map.specs.Regions.{Regions}
-use Rattle.dataspace_core.specs.Store.{Store}
-use Rattle.server_frame.specs.SessionBuffer.{IsEffect, bytes_lent}
-use Rattle.server_frame.specs.Session.{holding_of}
+use Rattle.session_nodes.specs.Frame.{Regions, Store, IsEffect, bytes_lent, holding_of, Effect, Nothing}
 use Rattle.core_calls.specs.FileError.{model_error}
 use Rattle.core_calls.specs.declared.file_error.FileError.{FileError}
 use Rattle.core_calls.specs.ReplyText.{Told, told_alone}
-use Rattle.server_frame.specs.declared.effect.Effect.{Effect}
-use Rattle.server_frame.specs.declared.effect.Effect.TheVariants.{Nothing}
 use Rattle.session_proto.specs.Objects.{model_request}
 use Rattle.session_proto.specs.declared.object.ObjectRequest.{ObjectRequest}
 use Rattle.session_nodes.specs.SoundHeaps.{Stock}

@@ -11,7 +11,7 @@ use Rattle.own_model.specs.Nodes.{with_first, without_first, content_ram, conten
 use Rattle.own_model.specs.ObjectKinds.{ObjectKind}
 use Rattle.own_model.specs.ObjectService.{DeclaredObject, is_named, made_in, with_units, contents, contents_credited, resize_charged}
 use Rattle.own_model.specs.OwnHeap.{OwnHeap}
-use Rattle.sliced_heap.specs.Chain.{is_listed, has_no_repeat}
+use Rattle.session_nodes.specs.Frame.{is_listed, has_no_repeat}
 use Rattle.session_nodes.specs.Node.{StoredNode}
 use Rattle.session_nodes.specs.NodeList.{nodes_in, taken_in, Creates, HasNodes, IsFound, Removes, Replaces}
 use Rattle.session_nodes.specs.Order.{node_at, nodes_from, user_at, Stays}

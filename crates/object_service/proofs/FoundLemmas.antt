@@ -9,7 +9,7 @@ use Rattle.own_model.specs.NatMap.{NatMap}
 use Rattle.own_model.specs.ObjectKinds.{ObjectKind}
 use Rattle.own_model.specs.ObjectService.{is_named, object_named}
 use Rattle.own_model.specs.OwnHeap.{OwnHeap}
-use Rattle.sliced_heap.specs.Chain.{is_listed}
+use Rattle.session_nodes.specs.Frame.{is_listed}
 use Rattle.session_nodes.specs.Node.{StoredNode}
 use Rattle.session_nodes.specs.NodeList.{IsFound, NoneHas}
 use Rattle.session_nodes.specs.Order.{node_at, nodes_from}

@@ -6,7 +6,7 @@ use Rattle.std.specs.Prelude.{◌/◌, ◌%◌}
 use Rattle.own_model.specs.NatMap.{NatMap}
 use Rattle.own_model.specs.ObjectKinds.{ObjectKind}
 use Rattle.own_model.specs.OwnHeap.{OwnHeap}
-use Rattle.sliced_heap.specs.Chain.{is_listed}
+use Rattle.session_nodes.specs.Frame.{is_listed}
 use Rattle.session_nodes.specs.Node.{word_from}
 use Rattle.session_nodes.specs.NodeList.{nodes_in, HasNodes}
 use Rattle.session_nodes.specs.Order.{Stays}

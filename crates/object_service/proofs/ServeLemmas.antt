@@ -23,8 +23,7 @@ use Rattle.own_model.specs.ObjectText.ObjectReply.{Done, Refused}
 use Rattle.own_model.specs.ObjectText.ObjectRequest.{Make, Resize, Drop, CountKind, Name}
 use Rattle.own_model.specs.Text.{is_name}
 use Rattle.own_model.proofs.ObjectErrorLemmas.{nodes_are_blocks}
-use Rattle.region_map.specs.Regions.{Regions}
-use Rattle.dataspace_core.specs.Store.{Store}
+use Rattle.session_nodes.specs.Frame.{Regions, Store}
 use Rattle.session_nodes.specs.NodeList.{Finds}
 use Rattle.session_nodes.specs.SessionHeaps.{stock_of}
 use Rattle.session_nodes.specs.SoundHeaps.{Stock}

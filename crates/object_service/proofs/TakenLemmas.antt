@@ -9,7 +9,7 @@ use Rattle.own_model.specs.OwnState.{zeros}
 use Rattle.own_model.specs.Sliced.{sliced_header, sliced_size}
 use Rattle.own_model.proofs.ByteLemmas.{length-zeros}
 use Rattle.own_model.proofs.NatMapLemmas.{get-insert_same, get-insert_other}
-use Rattle.sliced_heap.specs.Chain.{is_listed}
+use Rattle.session_nodes.specs.Frame.{is_listed}
 use Rattle.session_nodes.specs.Calls.{content_taken}
 use Rattle.session_nodes.specs.Index.{IsIndexed}
 use Rattle.session_nodes.specs.Node.{StoredNode}

@@ -3,9 +3,7 @@ use Rattle.std.proofs.Common.{◌≡◌, ℕ, ◌≤◌, true, List, Option, Som
 use Rattle.std.specs.Prelude.{IfSome}
 use Rattle.own_model.specs.ObjectKinds.{ObjectKind}
 use Rattle.own_model.specs.ObjectService.{object_named}
-use Rattle.region_map.specs.Regions.{Regions}
-use Rattle.dataspace_core.specs.Store.{Store}
-use Rattle.sliced_heap.specs.Chain.{is_listed}
+use Rattle.session_nodes.specs.Frame.{Regions, Store, is_listed}
 use Rattle.session_nodes.specs.Calls.{HasBytes}
 use Rattle.session_nodes.specs.Index.{previous_at}
 use Rattle.session_nodes.specs.Node.{value_of}

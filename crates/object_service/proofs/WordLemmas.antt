@@ -10,7 +10,7 @@ use Rattle.trade_base.proofs.ElsewhereLemmas.{range_before}
 use Rattle.trade_base.proofs.WordLemmas.{word_of-word_bytes, length-word_bytes}
 use Rattle.own_model.specs.Heap.{header}
 use Rattle.own_model.specs.OwnHeap.{OwnHeap, chunk_with, offset_of}
-use Rattle.sliced_heap.specs.Chain.{is_listed}
+use Rattle.session_nodes.specs.Frame.{is_listed}
 use Rattle.session_nodes.specs.Calls.{payload_in, HasBytes}
 use Rattle.session_nodes.specs.Node.{word_from}
 use Rattle.session_nodes.specs.NodeList.{nodes_in, HasNodes, PutsUser}

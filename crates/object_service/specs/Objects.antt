@@ -5,7 +5,7 @@ use Rattle.own_model.specs.Heap.{header}
 use Rattle.own_model.specs.ObjectKinds.{ObjectKind}
 use Rattle.own_model.specs.ObjectService.{DeclaredObject, Objects}
 use Rattle.own_model.specs.OwnHeap.{OwnHeap, chunk_with, offset_of}
-use Rattle.sliced_heap.specs.Chain.{is_listed}
+use Rattle.session_nodes.specs.Frame.{is_listed}
 use Rattle.session_nodes.specs.Node.{word_from}
 use Rattle.session_nodes.specs.Order.{node_at, nodes_from, user_at}
 use Rattle.object_service.specs.Kinds.{kind_at}

@@ -6,10 +6,8 @@ use Rattle.own_model.specs.ObjectKinds.{ObjectKind}
 use Rattle.own_model.specs.OwnHeap.{OwnHeap}
 use Rattle.own_model.specs.Session.{Labelled}
 use Rattle.own_model.specs.Services.ServiceState.{Holding}
-use Rattle.dataspace_core.specs.Share.{Share}
-use Rattle.heap_core.specs.Heap.{heap_in}
-use Rattle.sliced_heap.specs.Sliced.{sliced_of}
-use Rattle.server_frame.specs.SessionBuffer.{LendsAside, AllLendAside, share_with}
+use Rattle.session_nodes.specs.Frame.{Share, sliced_of, LendsAside, AllLendAside, share_with}
+use Rattle.session_nodes.specs.NodeList.{heap_in}
 use Rattle.session_nodes.specs.Index.{AreListed}
 use Rattle.session_nodes.specs.SeparateBuffer as apart
 use Rattle.session_nodes.specs.SessionBuffer.{IsBufferAt, KeepsBuffer, buffer_key}

@@ -11,19 +11,13 @@ use Rattle.own_model.specs.ObjectText.ObjectReply.{Done, Counted, Named, Refused
 use Rattle.own_model.specs.Services.ServiceState.{Holding}
 use Rattle.own_model.specs.Session.{Labelled}
 use Rattle.trade_base.specs.declared.id.DsId.{DsId}
-use Rattle.region_map.specs.Regions.{Regions}
-use Rattle.dataspace_core.specs.Share.{Share}
-use Rattle.dataspace_core.specs.Store.{Store}
-use Rattle.heap_core.specs.Heap.{heap_in}
+use Rattle.session_nodes.specs.Frame.{Regions, Share, Store, holding_of, IsEffect, bytes_lent, Effect}
 use Rattle.core_calls.specs.ObjectError.{model_object_error}
 use Rattle.core_calls.specs.ReplyText.{Told, told_alone}
 use Rattle.core_calls.specs.declared.file_error.FileError.{FileError}
 use Rattle.core_calls.specs.declared.object_error.ObjectError.{ObjectError}
 use Rattle.core_calls.specs.declared.object_error.ObjectError.TheVariants.{Shared}
-use Rattle.server_frame.specs.Session.{holding_of}
-use Rattle.server_frame.specs.SessionBuffer.{IsEffect, bytes_lent}
-use Rattle.server_frame.specs.declared.effect.Effect.{Effect}
-use Rattle.session_nodes.specs.NodeList.{HasNodes, KeepsList}
+use Rattle.session_nodes.specs.NodeList.{heap_in, HasNodes, KeepsList}
 use Rattle.session_nodes.specs.SessionBuffer.{KeepsBuffer, HasBuffer, buffer_key}
 use Rattle.session_nodes.specs.SessionHeaps.{stock_of, AreKept, AreSoundHeaps, StaySoundHeaps}
 use Rattle.session_nodes.specs.SoundHeaps.{Stock}

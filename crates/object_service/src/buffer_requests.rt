@@ -4,14 +4,13 @@ ghost use Rattle.own_model.specs.BufferService.BufferRequest.{Make, GiveBack};
 ghost use Rattle.own_model.specs.ObjectKinds as model;
 ghost use Rattle.own_model.specs.ObjectSession.HoldingRequest.{OfBuffer};
 ghost use Rattle.own_model.specs.ObjectText.ObjectReply.{Done, Lent};
-ghost use Rattle.server_frame.specs.SessionBuffer.{IsEffect};
+ghost use Rattle.session_nodes.specs.Frame.{IsEffect};
 ghost use Rattle.session_nodes.specs.SessionHeaps.{StaySoundHeaps};
 ghost use Rattle.session_nodes.specs.SessionBuffer.{buffer_key, lent_effect, gone_effect};
 ghost use Rattle.object_service.specs.Session.{Answers, IsReady, buffer_reply, session_served};
 
 use crate::session::ObjectSession;
-use dataspace_core::Memory;
-use region_map::RegionMap;
+use session_nodes::{Memory, RegionMap};
 use session_proto::FileError;
 use trade_base::DsId;
 

@@ -7,7 +7,7 @@ ghost use Rattle.own_model.specs.ObjectKinds.{AreObjectKinds, IsObjectKind};
 ghost use Rattle.own_model.specs.ObjectService.{contents_refusal};
 ghost use Rattle.own_model.specs.ObjectText.ObjectRequest.{Make, Resize, Drop};
 ghost use Rattle.core_calls.specs.ObjectError.{model_object_error};
-ghost use Rattle.sliced_heap.specs.Chain.{is_listed};
+ghost use Rattle.session_nodes.specs.Frame.{is_listed};
 ghost use Rattle.session_nodes.specs.NodeList.{nodes_in, Finds, HasNodes, NoneHas};
 ghost use Rattle.session_nodes.specs.Order.{user_at};
 ghost use Rattle.session_nodes.specs.SessionHeaps.{stock_of, AreSoundHeaps, KeepsHeaps};
@@ -18,10 +18,8 @@ ghost use Rattle.object_service.specs.Session.{created_in, objects_in, resized_i
 
 use crate::read_requests::number_of;
 use crate::session::ObjectSession;
-use dataspace_core::Memory;
 use object_kinds::ObjectKind;
-use region_map::RegionMap;
-use session_nodes::{FoundNode, SessionHeaps};
+use session_nodes::{FoundNode, Memory, RegionMap, SessionHeaps};
 use session_proto::{FileError, ObjectError};
 use text_codec::is_name;
 use trade_base::Refusal;

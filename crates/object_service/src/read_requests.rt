@@ -13,10 +13,8 @@ ghost use Rattle.object_service.specs.Session.{counted_reply, named_reply, objec
 
 use crate::object_requests::{KIND, UNIT_LIMIT, UNITS};
 use crate::session::ObjectSession;
-use dataspace_core::Memory;
 use object_kinds::ObjectKind;
-use region_map::RegionMap;
-use session_nodes::Node;
+use session_nodes::{Memory, Node, RegionMap};
 use session_proto::ObjectError;
 
 /// An object that is found.

@@ -7,8 +7,7 @@ ghost use Rattle.own_model.specs.ObjectText.{object_reply};
 ghost use Rattle.own_model.specs.ObjectText.{ObjectReply as Answered};
 ghost use Rattle.own_model.specs.ObjectText.ObjectReply.{Done, Lent};
 ghost use Rattle.own_model.specs.ObjectText.ObjectRequest.{Name};
-ghost use Rattle.dataspace_core.specs.Store.{account_in, IsOpenIn};
-ghost use Rattle.sliced_heap.specs.Heap.{payer_of};
+ghost use Rattle.session_nodes.specs.Frame.{account_in, IsOpenIn, payer_of};
 ghost use Rattle.session_nodes.specs.SessionBuffer.{lent_effect, gone_effect};
 ghost use Rattle.session_nodes.specs.SessionHeaps.{stock_of, AreSoundHeaps};
 ghost use Rattle.object_service.specs.Session.{HasObjects, IsReady, IsAnswered, Serves, buffer_reply, counted_reply, done_reply, served_in, session_served};
@@ -16,13 +15,9 @@ ghost use Rattle.object_service.specs.Session.{HasObjects, IsReady, IsAnswered, 
 use crate::read_requests::name_of;
 use crate::session::ObjectSession;
 use core_calls::Reply;
-use dataspace_core::Memory;
 use object_kinds::ObjectKind;
-use region_map::RegionMap;
-use server_frame::{Effect, SessionService};
-use session_nodes::SessionHeaps;
+use session_nodes::{Effect, Memory, RegionMap, SessionHeaps, SessionService, SlicedHeap};
 use session_proto::{FileError, ObjectError, ObjectReply, ObjectRequest};
-use sliced_heap::SlicedHeap;
 use std::marker::Model;
 use trade_base::DsId;
 
@@ -64,8 +59,7 @@ impl SessionService for ObjectService {
     ghost use Rattle.std.specs.Prelude.{◌≡◌};
     ghost use Rattle.own_model.specs.Offer.Offer.{OffersObjects};
     ghost use Rattle.own_model.specs.Session.{Labelled, state_at_first};
-    ghost use Rattle.server_frame.specs.Session.{service_step};
-    ghost use Rattle.sliced_heap.specs.Heap.{payer_of};
+    ghost use Rattle.session_nodes.specs.Frame.{service_step, payer_of};
     ghost use Rattle.session_nodes.specs.SessionBuffer.{buffer_key};
     ghost use Rattle.object_service.specs.SeparateBuffer.{lends_aside};
     ghost use Rattle.object_service.specs.Session.{value_of, IsSession};

@@ -3,8 +3,7 @@
 use crate::counts::ObjectCounts;
 use arrayvec::ArrayVec;
 use core_calls::LONGEST_LABEL;
-use session_nodes::{NodeList, SessionBuffer};
-use sliced_heap::SlicedHeap;
+use session_nodes::{NodeList, SessionBuffer, SlicedHeap};
 
 /// What a declared server stores for a session. Each object has a node, and two words after it in the node's block: the
 /// number of the kind times 65,536 plus the bytes of a unit, and the units.
@@ -21,13 +20,10 @@ pub struct ObjectSession {
 
 impl ObjectSession {
     ghost use Rattle.std.specs.Prelude.{◌≡◌, ◌≤◌, List, length, None};
-    ghost use Rattle.dataspace_core.specs.Share.{Share};
+    ghost use Rattle.session_nodes.specs.Frame.{Share, payer_of, IsLinked, HasBlocksAlone};
     ghost use Rattle.own_model.specs.ObjectKinds.{ObjectKind};
     ghost use Rattle.own_model.specs.Offer.Offer.{OffersObjects};
     ghost use Rattle.own_model.specs.Session.{state_at_first};
-    ghost use Rattle.sliced_heap.specs.Heap.{payer_of};
-    ghost use Rattle.sliced_heap.specs.Sliced.{IsLinked};
-    ghost use Rattle.server_frame.specs.Session.{HasBlocksAlone};
     ghost use Rattle.object_service.specs.Session.{value_of, IsSession};
 
     /// Creates a session without objects and without a buffer.

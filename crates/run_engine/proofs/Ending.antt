@@ -8,9 +8,10 @@ use Rattle.own_model.specs.World.{World, IsBalanced, IsBalancedFor, world_runnin
 use Rattle.own_model.proofs.StepBalanceLemmas.{lines_balanced, lines_balanced_for}
 use Rattle.own_model.proofs.RunningLemmas.{Tracks-none, transcript_after-running, length-states_running, states_running-at}
 use Rattle.run_lines.specs.Answered.{output_of_lines, after_all}
-use Rattle.run_lines.specs.Lines.{AreReadable}
+use Rattle.run_devices.specs.Lines.{AreReadable}
 use Rattle.run_engine.specs.Runs.{Completes, EndsWith, KeepsWorld, Runs}
-use Rattle.run_lines.specs.Causes.{HasCause, AppendsPart, StopsFor, is_write_fault}
+use Rattle.run_lines.specs.Causes.{HasCause, StopsFor, is_write_fault}
+use Rattle.run_devices.specs.RunOutput.{AppendsPart}
 use Rattle.run_lines.specs.Faults.{is_write_fault as is_unwritten, play_fault}
 use Rattle.run_engine.specs.declared.engine.RunSummary.{RunSummary}
 use Rattle.run_lines.proofs.CauseLemmas.{within_bounds}
@@ -21,7 +22,7 @@ use Rattle.run_lines.proofs.ToldLemmas.{left_none, told_none}
 use Rattle.run_engine.specs.Stops.{Stops, IsWritten}
 use Rattle.run_lines.specs.declared.run_fault.RunFault.{RunFault}
 use Rattle.run_lines.proofs.ReachLemmas.{close_as, keeps_up_as}
-use Rattle.run_lines.proofs.GatheredLemmas.{Appends-none}
+use Rattle.run_devices.proofs.GatheredLemmas.{Appends-none}
 use Rattle.run_lines.specs.declared.run_fault.RunFault.TheVariants.{ReadFault, WriteFault, TooManyLines}
 use Rattle.run_lines.specs.declared.line_run_fault.LineRunFault.{LineRunFault}
 use Rattle.run_lines.specs.declared.line_run_fault.LineRunFault.TheVariants.{ReadFault as Unread, WriteFault as Unwritten, TooManyLines as TooMany, NoMemory}

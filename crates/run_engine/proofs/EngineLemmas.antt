@@ -4,7 +4,7 @@ use Rattle.own_model.specs.World.{World}
 use Rattle.run_lines.specs.Answer.{AnswersLine, answer_text}
 use Rattle.run_lines.specs.Answered.{after_all, output_of_lines}
 use Rattle.run_lines.specs.Faults.{Fails}
-use Rattle.run_lines.specs.RunOutput.{OutputsUnless}
+use Rattle.run_devices.specs.RunOutput.{OutputsUnless}
 use Rattle.run_lines.specs.LineRuns.{Continues, HandlesLine}
 use Rattle.run_lines.specs.declared.line_answer.LineAnswer.{LineAnswer}
 use Rattle.run_lines.specs.declared.line_run_fault.LineRunFault.{LineRunFault}

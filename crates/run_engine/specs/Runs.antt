@@ -7,7 +7,7 @@ use Rattle.own_model.specs.Text.{lines_of}
 use Rattle.own_model.specs.Transcript.{transcript_after, calls_of, state_at, state_after}
 use Rattle.own_model.specs.World.{World, IsBalanced, IsBalancedFor, world_running}
 use Rattle.run_lines.specs.Faults.{play_fault}
-use Rattle.run_lines.specs.Lines.{AreReadable}
+use Rattle.run_devices.specs.Lines.{AreReadable}
 use Rattle.run_engine.specs.Stops.{Stops}
 use Rattle.run_lines.specs.Causes.{is_write_fault, HasCause}
 use Rattle.run_lines.specs.declared.line_run_fault.LineRunFault.{LineRunFault}

@@ -5,8 +5,9 @@ use Rattle.own_model.specs.LinesOfName.{said_by}
 use Rattle.own_model.specs.Text.{lines_of}
 use Rattle.own_model.specs.Transcript.{transcript_after, calls_of, state_at, state_after}
 use Rattle.own_model.specs.World.{World, world_running}
-use Rattle.run_lines.specs.Lines.{AreReadable}
-use Rattle.run_lines.specs.Causes.{AppendsPart, StopsFor}
+use Rattle.run_devices.specs.Lines.{AreReadable}
+use Rattle.run_lines.specs.Causes.{StopsFor}
+use Rattle.run_devices.specs.RunOutput.{AppendsPart}
 use Rattle.run_lines.specs.Reach.{KeepsUp, WritesClose}
 use Rattle.run_lines.specs.declared.run_fault.RunFault.{RunFault}
 use Rattle.run_lines.specs.declared.run_fault.RunFault.TheVariants.{ReadFault, WriteFault, TooManyLines}

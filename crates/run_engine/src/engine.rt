@@ -6,7 +6,7 @@ ghost use Rattle.own_model.specs.StartList.{entries_of};
 ghost use Rattle.run_lines.specs.Answer.{answer_text};
 ghost use Rattle.run_lines.specs.Answered.{after_all, output_of_lines};
 ghost use Rattle.run_lines.specs.Faults.{Fails};
-ghost use Rattle.run_lines.specs.RunOutput.{OutputsUnless};
+ghost use Rattle.run_devices.specs.RunOutput.{OutputsUnless};
 ghost use Rattle.run_engine.specs.Runs.{Completes, EndsWith, FaultBefore, KeepsWorld, Runs};
 ghost use Rattle.run_lines.specs.Causes.{HasCause, is_write_fault};
 ghost use Rattle.run_engine.specs.Stops.{Stops};
@@ -14,10 +14,9 @@ ghost use Rattle.run_lines.specs.declared.line_run_fault.LineRunFault.TheVariant
 
 use core_calls::Reply;
 use list_parser::StartList;
-use pd_core::{Core, Router};
 use run_lines::{
-    Buffers, LineAnswer, LineDispatcher, LineHandler, LineRunFault, LineRunResult, RunFault, Sink,
-    Source, WriteBuffer, play,
+    Buffers, Core, LineAnswer, LineDispatcher, LineHandler, LineRunFault, LineRunResult, Router,
+    RunFault, Sink, Source, WriteBuffer, play,
 };
 
 /// The result of a run that reached the end of its input.

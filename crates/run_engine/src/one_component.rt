@@ -9,8 +9,7 @@ ghost use Rattle.run_engine.specs.Stops.{Stops};
 use crate::engine::{RunSummary, run_selected};
 use core_calls::Reply;
 use list_parser::StartList;
-use pd_core::{Core, Router};
-use run_lines::{LineDispatcher, RunFault, Sink, Source};
+use run_lines::{Core, LineDispatcher, Router, RunFault, Sink, Source};
 
 /// Answers the lines of one name alone: those of at most `LONGEST_LINE` bytes that `read_line` parses as calls under it.
 /// Every other line is counted and skipped: it has no output, and is read only as far as the name. All else, including the

@@ -2,3 +2,4 @@ pub mod SessionBuffer
 pub mod Session
 pub mod Frame
 pub mod Theorems
+pub mod Memory

@@ -9,7 +9,10 @@ mod session_account;
 mod theorems;
 
 pub use core_calls::{LONGEST_LABEL, MOST_LINES, Quotas, Reply};
+pub use dataspace_core::Memory;
 pub use effect::Effect;
+pub use region_map::RegionMap;
 pub use server::Server;
 pub use service::SessionService;
+pub use sliced_heap::SlicedHeap;
 pub use theorems::{lent_bytes_are_the_clients, sessions_find_places};

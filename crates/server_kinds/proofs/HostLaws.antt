@@ -10,9 +10,7 @@ use Rattle.own_model.specs.Session.{Labelled}
 use Rattle.own_model.proofs.NatMapLemmas.{same}
 use Rattle.quota_core.specs.SlabMap.{map_of}
 use Rattle.quota_core.proofs.SlabMap.{get-map_of, get-map_of_at, ContainsKey-map_of, map_of-empty}
-use Rattle.region_map.specs.Regions.{Regions, fresh_regions}
-use Rattle.dataspace_core.specs.Room.{HasRoom}
-use Rattle.dataspace_core.specs.Store.{Store, part, space_at, account_in, ram_limits_in, caps_limits_in, IsOpenIn, IsChildIn}
+use Rattle.server_frame.specs.Memory.{Regions, fresh_regions, HasRoom, Store, part, space_at, account_in, ram_limits_in, caps_limits_in, IsOpenIn, IsChildIn}
 use Rattle.server_frame.specs.Frame.{Row, row_of, IsNoSession}
 use Rattle.server_frame.specs.declared.server.Session.{Session}
 use Rattle.server_frame.proofs.FrameLaws.{server_at_first, server_stays}

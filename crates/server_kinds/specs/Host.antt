@@ -7,16 +7,14 @@ use Rattle.own_model.specs.ObjectKinds.{ObjectKind}
 use Rattle.own_model.specs.Offer.{Offer}
 use Rattle.own_model.specs.Offer.Offer.{OffersLog, OffersFiles, OffersObjects}
 use Rattle.own_model.specs.Session.{Labelled, donation_refusal}
-use Rattle.region_map.specs.Regions.{Regions}
-use Rattle.dataspace_core.specs.Share.{Share}
-use Rattle.dataspace_core.specs.Store.{Store, account_in, room_in, ram_limits_in, caps_limits_in, IsOpenIn}
+use Rattle.server_frame.specs.Memory.{Regions, Share, Store, account_in, room_in, ram_limits_in, caps_limits_in, IsOpenIn}
 use Rattle.server_frame.specs.Frame.{Row, sessions_of, IsServer, IsNoSession}
 use Rattle.server_frame.specs.SessionBuffer.{AllLendAside}
 use Rattle.server_frame.proofs.LentLaws.{lends_nothing}
 use Rattle.server_frame.specs.declared.server.Session.{Session}
 use Rattle.log_service.specs.Session.{LabelledLine, as_kept, IsSession as IsLogSession}
 use Rattle.file_service.specs.SeparateBuffer.{lends_aside}
-use Rattle.session_nodes.specs.SessionBuffer.{buffer_key}
+use Rattle.file_service.specs.SeparateBuffer.{buffer_key}
 use Rattle.file_service.specs.Session.{value_of, IsSession as IsFileSession}
 use Rattle.file_service.specs.declared.session.FileSession.{FileSession}
 use Rattle.object_service.specs.SeparateBuffer as apart

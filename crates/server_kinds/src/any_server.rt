@@ -8,19 +8,17 @@ ghost use Rattle.own_model.specs.ObjectKinds.{AreObjectKinds};
 ghost use Rattle.own_model.specs.Offer.{offer_of_service};
 ghost use Rattle.own_model.specs.Offer.Offer.{OffersObjects};
 ghost use Rattle.own_model.specs.Session.{donation_refusal, state_at_first};
-ghost use Rattle.dataspace_core.specs.Store.{Store, account_in, ram_limits_in, caps_limits_in, RaisesPart};
+ghost use Rattle.server_frame.specs.Memory.{Store, account_in, ram_limits_in, caps_limits_in, RaisesPart};
 ghost use Rattle.server_frame.specs.Frame.{AtRow, row_served, sessions_of, IsServer, OpensSession, ServesSession, ClosesSession};
 ghost use Rattle.server_kinds.specs.Host.{CanOpen};
 ghost use Rattle.server_frame.specs.SessionBuffer.{key_of};
 ghost use Rattle.server_frame.specs.Session.{service_step};
 
-use core_calls::{LONGEST_LABEL, Reply};
-use dataspace_core::Memory;
 use file_service::FileService;
 use log_service::LogService;
 use object_kinds::ObjectKind;
 use object_service::ObjectService;
-use server_frame::{Effect, Server, SessionService};
+use server_frame::{Effect, LONGEST_LABEL, Memory, Reply, Server, SessionService};
 use std::alloc::Global;
 use trade_base::{AccountId, Caps, DsId, NoMemory, Ram, Refusal, Service, SessionId};
 

@@ -11,3 +11,4 @@ pub mod Index
 pub mod NodeList
 pub mod NameLaws
 pub mod SeparateBuffer
+pub mod Frame

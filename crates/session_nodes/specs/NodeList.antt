@@ -8,7 +8,7 @@ use Rattle.own_model.specs.NatMap.{NatMap}
 use Rattle.own_model.specs.Nodes.{BlockTaken, block_taken, content_ram, content_caps}
 use Rattle.own_model.specs.OwnHeap.{OwnHeap, chunk_with, offset_of}
 use Rattle.dataspace_core.specs.Share.{Share}
-use Rattle.heap_core.specs.Heap.{heap_in}
+pub use Rattle.heap_core.specs.Heap.{heap_in}
 use Rattle.sliced_heap.specs.Chain.{is_listed}
 use Rattle.sliced_heap.specs.Sliced.{sliced_of}
 use Rattle.session_nodes.specs.Calls.{node_stored, HasBytes}

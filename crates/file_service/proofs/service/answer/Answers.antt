@@ -1,7 +1,7 @@
 -- A request of files does nothing to the buffer, and one of the buffer tells what it does to it.
 use Rattle.std.proofs.Common.{ap, refl, subst}
 use Rattle.session_proto.specs.File.{HasHex}
-use Rattle.server_frame.specs.declared.effect.Effect.TheVariants.{Nothing}
+use Rattle.session_nodes.specs.Frame.{Nothing}
 use Rattle.session_nodes.specs.declared.session_heaps.SessionHeaps.{SessionHeaps}
 use Rattle.file_service.proofs.BufferRequestLemmas.{buffer_answered, files_answered, read_as}
 use Rattle.file_service.proofs.RequestLemmas.{hex_is_short}

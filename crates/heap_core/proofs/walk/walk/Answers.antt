@@ -1,26 +1,27 @@
 -- The walk goes from page to page, and then loads two states.
 use Rattle.std.proofs.Common.{◌+◌, ◌^◌, ◌<◌, ◌≤◌, length, refl, sym, subst, ◌∙◌, arith}
 use Rattle.dataspace_core.specs.Store.{space_at}
-use Rattle.heap_core.specs.Walk.{IsWalking}
+use Rattle.avl_alloc.specs.Walk.{IsWalking}
+use Rattle.avl_alloc.proofs.WalkLemmas.{step_there, walk_start, walk_counted}
 use Rattle.heap_core.proofs.WordsLemmas.{word_there}
-use Rattle.heap_core.proofs.WalkLemmas.{page_words, walk_start, walk_inside, walk_result, step_there}
+use Rattle.heap_core.proofs.WalkLemmas.{page_words, walk_inside, walk_result}
 use Rattle.heap_core.proofs.walk.walk.Goals as goal
 
 pub load_word-requires-clause-range : goal.load_word-requires-clause-range
 load_word-requires-clause-range g c =
     let q = c.requires.headers in
-    let inside = walk_inside q.0 q.1 c.args.target _ q.2 _ _ 0 q.5 (walk_start q.0 q.1 c.args.target _ q.2 0 q.4 refl) in
+    let inside = walk_inside q.0 q.1 c.args.target _ q.2 _ _ 0 q.5 (walk_start q.0 q.1 c.args.target _ q.2 0 q.4.laid q.4.inside refl) in
     omega (arith, inside.least, inside.within)
 
 pub pages-init : goal.pages-init
 pages-init g c w start blocks words headers =
     let q = c.requires.headers in
-    let inside = walk_inside q.0 q.1 c.args.target _ q.2 _ _ 0 q.5 (walk_start q.0 q.1 c.args.target _ q.2 0 q.4 refl) in
+    let inside = walk_inside q.0 q.1 c.args.target _ q.2 _ _ 0 q.5 (walk_start q.0 q.1 c.args.target _ q.2 0 q.4.laid q.4.inside refl) in
     let bytes = (space_at c.args.memory.now c.args.ds.0).bytes in
     let long : 0 + 8 ≤ length bytes = omega (arith, inside.least, inside.within) in
     let read = c.load_word.ensures ∙ sym (word_there bytes 0 refl long) ∙ sym (words 0 refl long (omega arith)) in
     subst (λ n. IsWalking w start c.args.target blocks (record { before = 0; offset = 0; next = c.load_word.result }) n c.args.loads.now) (sym c.tick.ensures)
-    (walk_start w start c.args.target c.load_word.result blocks c.args.loads.now headers read)
+    (walk_start w start c.args.target c.load_word.result blocks c.args.loads.now headers.laid headers.inside read)
 
 pub walk_page-step-requires-clause-walking : goal.walk_page-step-requires-clause-walking
 walk_page-step-requires-clause-walking g c =
@@ -65,3 +66,8 @@ returns-clause-found g c w start blocks words headers =
     let bytes = (space_at c.args.memory.now c.args.ds.0).bytes in
     let inside = walk_inside q.0 q.1 c.args.target _ q.2 c.pages.step _ c.args.loads.now q.5 (c.pages.invariant q.0 q.1 q.2 q.3 q.4) in
     walk_result bytes w start c.args.target blocks c.pages.step _ c.args.loads.now c.load_word-used.result c.hole_before.result words inside (c.pages.invariant w start blocks words headers) c.pages-test.false c.load_word-used.ensures c.hole_before.ensures.size
+
+pub returns-clause-loads : goal.returns-clause-loads
+returns-clause-loads g c w start blocks words headers =
+    let counted = walk_counted w start c.args.target blocks c.pages.step _ c.args.loads.now (c.pages.invariant w start blocks words headers) c.pages-test.false in
+    omega (arith, counted, c.tick-2.ensures, c.hole_before.ensures.loads)

@@ -2,7 +2,8 @@ use Rattle.std.proofs.Common.{ℕ, List, ◌-◌, ◌+◌}
 use Rattle.own_model.specs.Heap.{Block}
 use Rattle.avl_alloc.specs.Words.{Words}
 use Rattle.dataspace_core.specs.Store.{space_at}
-use Rattle.heap_core.specs.Walk.{HasWords, HasHeaders, IsWalking}
+use Rattle.avl_alloc.specs.Walk.{IsWalking}
+use Rattle.heap_core.specs.Walk.{HasWords, HasHeaders}
 use Rattle.heap_core.proofs.walk.walk.Given as goal
 
 -- the walk has reached this step

@@ -1,8 +1,9 @@
 -- Each step of the loop goes over three headers, or ends at one of them.
 use Rattle.std.proofs.Common.{refl, sym, ap, subst, arith}
-use Rattle.heap_core.specs.declared.walk.Step.{Step}
-use Rattle.heap_core.specs.Walk.{IsWalking}
-use Rattle.heap_core.proofs.WalkLemmas.{before_end, first_next, first_on, page_next, page_on, step_there}
+use Rattle.avl_alloc.specs.declared.chunk.Step.{Step}
+use Rattle.avl_alloc.specs.Walk.{IsWalking}
+use Rattle.heap_core.proofs.WalkLemmas.{before_end, first_next, first_on, page_next, page_on}
+use Rattle.avl_alloc.proofs.WalkLemmas.{step_there}
 use Rattle.heap_core.proofs.walk.walk_page.Goals as goal
 
 -- the first header of the page

@@ -1,7 +1,8 @@
 use Rattle.std.proofs.Common.{ℕ, List, ◌-◌, ◌+◌, ◌≤◌}
 use Rattle.own_model.specs.Heap.{Block}
 use Rattle.avl_alloc.specs.Words.{Words}
-use Rattle.heap_core.specs.Walk.{IsPageOf, IsWalking, step_at}
+use Rattle.avl_alloc.specs.Walk.{IsWalking}
+use Rattle.heap_core.specs.Walk.{IsPageOf, step_at}
 use Rattle.heap_core.proofs.walk.walk_page.Given as goal
 
 -- a walk that had reached the first step has reached this one

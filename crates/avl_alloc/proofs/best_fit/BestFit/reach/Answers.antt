@@ -4,6 +4,7 @@ use Rattle.own_model.specs.Heap.{bytes_in}
 use Rattle.avl_alloc.specs.Layout.{heap_of}
 use Rattle.avl_alloc.proofs.LayoutLemmas.{sound_chunk, sound_missing, sound_room}
 use Rattle.avl_alloc.proofs.FreedLemmas.{there_none, there_some}
+use Rattle.avl_alloc.proofs.WalkLemmas.{walk_loads_few}
 use Rattle.avl_alloc.proofs.best_fit.BestFit.reach.Goals as goal
 
 -- no such chunk
@@ -47,4 +48,6 @@ returns-clause-found g c =
 pub returns-clause-loads : goal.returns-clause-loads
 returns-clause-loads g c =
     let there = sound_chunk c.args.self.now (g.M.WordMemory.word c.args.memory.now) c.args.addr.chunk c.requires.sound c.if-addr-self.false in
-    c.walk.ensures.loads (chunk_of (heap_of c.args.self.now (g.M.WordMemory.word c.args.memory.now)) c.args.addr.chunk) there.laid (omega (arith, there.total, c.if-addr-self-2.false))
+    let blocks = chunk_of (heap_of c.args.self.now (g.M.WordMemory.word c.args.memory.now)) c.args.addr.chunk in
+    let within : c.args.addr.offset < bytes_in blocks = omega (arith, there.total, c.if-addr-self-2.false) in
+    omega (arith, c.walk.ensures.loads blocks there.laid within, walk_loads_few c.args.addr.offset blocks within)

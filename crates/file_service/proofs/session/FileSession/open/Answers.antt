@@ -3,8 +3,8 @@ use Rattle.std.proofs.Common.{rules, ◌≡◌}
 use Rattle.std.specs.Prelude.{map}
 use Rattle.own_model.specs.OwnHeap.{OwnHeap}
 use Rattle.own_model.specs.Services.ServiceState.{Filing}
-use Rattle.heap_core.specs.Heap.{heap_in}
-use Rattle.sliced_heap.specs.Sliced.{sliced_of}
+use Rattle.session_nodes.specs.NodeList.{heap_in}
+use Rattle.session_nodes.specs.Frame.{sliced_of}
 use Rattle.file_service.specs.Files.{file_at}
 use Rattle.file_service.proofs.session.FileSession.open.Goals as goal
 

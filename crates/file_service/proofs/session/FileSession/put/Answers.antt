@@ -9,9 +9,7 @@ use Rattle.own_model.specs.BufferService.SessionRequest.{OfBuffer}
 use Rattle.own_model.specs.FileService.{File, written, file_named}
 use Rattle.own_model.specs.FileText.FileError.{Gap}
 use Rattle.own_model.specs.FileText.FileReply.{Refused}
-use Rattle.dataspace_core.specs.Store.{space_at}
-use Rattle.server_frame.specs.SessionBuffer.{bytes_lent}
-use Rattle.server_frame.specs.Session.{holding_of}
+use Rattle.session_nodes.specs.Frame.{space_at, bytes_lent, holding_of}
 use Rattle.session_proto.specs.FileReply.{model_error}
 use Rattle.session_nodes.specs.SoundHeaps.{Stock}
 use Rattle.session_nodes.specs.SessionHeaps.{stock_of}

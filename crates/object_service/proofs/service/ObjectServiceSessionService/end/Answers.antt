@@ -1,6 +1,6 @@
 -- The buffer is freed, and then the nodes.
 use Rattle.session_nodes.proofs.ReadyLemmas.{are_sound, is_lent}
-use Rattle.sliced_heap.proofs.EndLemmas.{keeps_then}
+use Rattle.session_nodes.specs.Frame.{keeps_then}
 use Rattle.object_service.proofs.service.ObjectServiceSessionService.end.Goals as goal
 
 pub give_any-requires-clause-furnished : goal.give_any-requires-clause-furnished

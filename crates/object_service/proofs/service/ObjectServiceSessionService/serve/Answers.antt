@@ -1,5 +1,5 @@
 -- A session is ready once its map is known to lie apart, and it is kept after the answer.
-use Rattle.server_frame.specs.Session.{holding_of}
+use Rattle.session_nodes.specs.Frame.{holding_of}
 use Rattle.session_nodes.proofs.ReadyLemmas.{are_kept, are_sound, is_lent}
 use Rattle.session_nodes.proofs.SourceLemmas.{keeps_buffer}
 use Rattle.object_service.proofs.service.ObjectServiceSessionService.serve.Goals as goal

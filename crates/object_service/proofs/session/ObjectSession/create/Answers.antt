@@ -7,7 +7,7 @@ use Rattle.own_model.specs.Growth.{heap_refusal}
 use Rattle.own_model.specs.ObjectService.{told, made_in}
 use Rattle.own_model.specs.ObjectText.ObjectReply.{Done, Refused}
 use Rattle.core_calls.specs.ObjectError.{model_object_error}
-use Rattle.sliced_heap.specs.Chain.{is_listed}
+use Rattle.session_nodes.specs.Frame.{is_listed}
 use Rattle.session_nodes.specs.NodeList.{nodes_in, taken_in, Creates}
 use Rattle.session_nodes.specs.SessionHeaps.{stock_of}
 use Rattle.session_nodes.specs.SoundHeaps.{Stock}

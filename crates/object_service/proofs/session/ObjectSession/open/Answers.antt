@@ -2,8 +2,8 @@
 use Rattle.std.proofs.Common.{ℕ, List, true≢false, sym, ap, subst, ◌∙◌}
 use Rattle.std.specs.Prelude.{map}
 use Rattle.own_model.specs.OwnHeap.{OwnHeap}
-use Rattle.heap_core.specs.Heap.{heap_in}
-use Rattle.sliced_heap.specs.Chain.{is_listed}
+use Rattle.session_nodes.specs.NodeList.{heap_in}
+use Rattle.session_nodes.specs.Frame.{is_listed}
 use Rattle.object_service.specs.Counts.{AreCounted}
 use Rattle.object_service.specs.Objects.{number_at}
 use Rattle.object_service.proofs.session.ObjectSession.open.Goals as goal
