@@ -1,0 +1,6 @@
+mod AccountLemmas
+mod ShareLemmas
+mod ClosedLemmas
+mod StepLemmas
+mod WorldLemmas
+mod DebtLemmas

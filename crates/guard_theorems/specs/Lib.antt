@@ -1,0 +1,4 @@
+pub mod Guarded
+pub mod Theorems
+pub mod Debts
+pub mod Rows
