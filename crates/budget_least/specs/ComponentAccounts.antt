@@ -4,7 +4,7 @@ use Rattle.std.specs.List.{slice_get}
 use Rattle.std.specs.Option.{option_map, unwrap_or}
 use Rattle.own_model.specs.Listed.{Listed}
 use Rattle.own_model.specs.StartList.Kind.{Script}
-use Rattle.budget_meter.specs.Needs.{amounts_of}
+pub use Rattle.budget_meter.specs.Needs.{amounts_of}
 use Rattle.budget_search.specs.AccountNeeds.{IsIdle}
 use Rattle.budget_search.specs.Alike.{given_in, most_in, own_entry, reserve_in}
 use Rattle.budget_search.specs.BudgetIntervals.{lowest_of, safe_of, HasRunLines}

@@ -9,9 +9,10 @@ ghost use Rattle.budget_search.specs.Steps.{with_args};
 ghost use Rattle.budget_least.specs.BoundRuns.{args_at, is_own, own_budget};
 
 use budget_meter::Budget;
-use budget_search::{AccountBudgets, AmpleClient, BudgetChoice, ComponentLine, funded, most_of};
+use budget_search::{
+    AccountBudgets, AmpleClient, BudgetChoice, ComponentLine, RouteTable, boot, funded, most_of,
+};
 use core_calls::{Call, Reply};
-use init_core::{RouteTable, boot};
 use line_names::{Directive, FilledLine, NameTable};
 use line_steps::RunPosition;
 use list_parser::{BootFault, StartList};
@@ -181,7 +182,7 @@ pub(crate) struct BindingRun<'a, 'b, 'm> {
 impl<'a, 'b, 'm> Model for BindingRun<'a, 'b, 'm> {
     ghost use Rattle.std.specs.Prelude.{◌≡◌, length};
     ghost use Rattle.std.specs.Coded.{codes};
-    ghost use Rattle.pd_core.specs.CodedWorld.{coded_world};
+    ghost use Rattle.budget_search.specs.AmpleCalls.{coded_world};
     ghost use Rattle.budget_least.specs.BoundRuns.{BoundRun};
 
     ghost Value = { BoundRun };

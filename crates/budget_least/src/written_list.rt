@@ -7,8 +7,7 @@ ghost use Rattle.budget_least.specs.WrittenList.{has_budget, has_size, size_of};
 use crate::machine_size::MachineSize;
 use crate::member_values::{JsonStep, MemberValue, with_values};
 use budget_meter::{Budget, Bytes};
-use budget_search::{AccountBudgets, BudgetChoice};
-use init_core::boot;
+use budget_search::{AccountBudgets, BudgetChoice, boot};
 use list_parser::{BootFault, StartList};
 use std::alloc::{AllocError, Global};
 

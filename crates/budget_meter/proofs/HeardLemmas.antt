@@ -24,7 +24,7 @@ use Rattle.own_model.specs.SessionArgs.{Arguments, arguments_of}
 use Rattle.own_model.specs.Sliced.{sliced_size, sliced_refusal}
 use Rattle.own_model.specs.StartList.{Entry, Kind}
 use Rattle.own_model.specs.StartList.Kind.{Script, Server, Init}
-use Rattle.pd_core.specs.Answer.{quotas_account}
+use Rattle.core_calls.specs.Quotas.{quotas_account}
 use Rattle.core_calls.specs.declared.quotas.Quotas.{Quotas}
 use Rattle.budget_theorems.specs.Need.{Need, budgeted, limited, needs}
 use Rattle.budget_theorems.specs.Test.{test_of, entry_tests, growth_tests, tests_unless, tests}

@@ -9,7 +9,7 @@ use Rattle.own_model.specs.OwnState.{NamedBuffer, bytes_of_buffer}
 use Rattle.own_model.specs.Session.{ServiceState, Session, Served, Wish, new_session, served, state_at_first, too_small, upgraded}
 use Rattle.own_model.specs.Growth.{Shape}
 use Rattle.own_model.specs.ObjectSession.{HoldingRequest, holding_request}
-use Rattle.pd_core.specs.Answer.{quotas_account}
+use Rattle.core_calls.specs.Quotas.{quotas_account}
 use Rattle.core_calls.specs.declared.quotas.Quotas.{Quotas}
 use Rattle.budget_theorems.specs.Request.{donating, request_tests, shows_session_short}
 use Rattle.budget_theorems.specs.RequestTheorems.{Reaches, session_after, needs_of_one, session_needs, session_run, one_is_short, session_is_short}

@@ -7,7 +7,7 @@ use Rattle.own_model.specs.OwnStep.{Outcome, own_run}
 use Rattle.own_model.specs.Reply.{reply_text}
 use Rattle.own_model.specs.StartList.{Entry, Kind}
 use Rattle.own_model.specs.StartList.Kind.{Script, Server, Init}
-use Rattle.pd_core.specs.Answer.{quotas_account}
+use Rattle.core_calls.specs.Quotas.{quotas_account}
 use Rattle.core_calls.specs.declared.quotas.Quotas.{Quotas}
 use Rattle.budget_theorems.specs.Need.{budgeted, needs}
 use Rattle.budget_meter.specs.Needs.{amounts_of, shown_by, shown_in}

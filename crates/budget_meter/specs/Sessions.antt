@@ -4,7 +4,7 @@ use Rattle.own_model.specs.Amounts.{Amounts}
 use Rattle.own_model.specs.OwnState.{NamedBuffer, bytes_of_buffer}
 use Rattle.own_model.specs.OwnStep.{completed}
 use Rattle.own_model.specs.Session.{Session, Served, served}
-use Rattle.pd_core.specs.Answer.{quotas_account}
+use Rattle.core_calls.specs.Quotas.{quotas_account}
 use Rattle.core_calls.specs.declared.quotas.Quotas.{Quotas}
 use Rattle.budget_theorems.specs.Request.{donating}
 use Rattle.budget_theorems.specs.RequestTheorems.{Reaches, session_needs, session_run, session_is_short}

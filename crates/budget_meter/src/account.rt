@@ -7,7 +7,7 @@ ghost use Rattle.own_model.specs.Growth.{Shape, larger_growth};
 ghost use Rattle.own_model.specs.OwnState.{OwnState};
 ghost use Rattle.own_model.specs.OwnStep.{entry_step, own_run, own_step};
 ghost use Rattle.own_model.specs.StartList.{Entry};
-ghost use Rattle.pd_core.specs.Answer.{quotas_account};
+ghost use Rattle.core_calls.specs.Quotas.{quotas_account};
 ghost use Rattle.core_calls.specs.Call.{model_call};
 ghost use Rattle.budget_theorems.specs.Need.{budgeted};
 ghost use Rattle.budget_theorems.specs.Shortfall.{shows_shortfall};

@@ -1,7 +1,7 @@
 //! The growth of a heap.
 ghost use Rattle.std.specs.Prelude.{◌≡◌, ◌<◌, ◌&&◌, ◌+◌, if◌then◌else◌, nat_le, nat_lt};
 ghost use Rattle.own_model.specs.Growth.{Shape, larger_growth};
-ghost use Rattle.pd_core.specs.Answer.{quotas_account};
+ghost use Rattle.core_calls.specs.Quotas.{quotas_account};
 ghost use Rattle.budget_theorems.specs.Test.{growth_tests};
 ghost use Rattle.budget_meter.specs.Needs.{amounts_of, shown_in, shown_of, together};
 

@@ -1,6 +1,6 @@
 //! The minimum start budget that suffices for the tests of an account.
 ghost use Rattle.std.specs.Prelude.{◌≡◌, ◌+◌, ◌-◌, ◌^◌, ◌<◌, ◌∷◌, [], min, IfSome, IfNone};
-ghost use Rattle.pd_core.specs.Answer.{quotas_account};
+ghost use Rattle.core_calls.specs.Quotas.{quotas_account};
 ghost use Rattle.budget_meter.specs.Needs.{amounts_of, capped, need_in, shown_by, shown_in, shown_of, together};
 ghost use Rattle.budget_meter.specs.SessionRuns.{opening_need};
 

@@ -2,7 +2,7 @@
 ghost use Rattle.std.specs.Prelude.{◌≡◌, [], false, List, Some, if◌then◌else◌};
 ghost use Rattle.std.specs.Option.{option_copied};
 ghost use Rattle.own_model.specs.Growth.{Shape};
-ghost use Rattle.pd_core.specs.Answer.{quotas_account};
+ghost use Rattle.core_calls.specs.Quotas.{quotas_account};
 ghost use Rattle.session_proto.specs.Objects.{model_request};
 ghost use Rattle.own_model.specs.ObjectKinds.{ObjectKind as ModelKind};
 ghost use Rattle.own_model.specs.ObjectService.{Objects};

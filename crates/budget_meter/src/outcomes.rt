@@ -3,7 +3,7 @@ ghost use Rattle.std.specs.Prelude.{◌≡◌, ◌||◌, codes};
 ghost use Rattle.std.specs.Str.{bytes_eq};
 ghost use Rattle.trade_base.specs.Refusal.{refusal_name};
 ghost use Rattle.trade_base.specs.declared.refusal.Refusal.TheVariants.{InvalidSession as Unnamed, OutOfCaps as NoCaps, OutOfRam as NoRam, ServiceDenied as Denied};
-ghost use Rattle.pd_core.specs.Answer.{quotas_account};
+ghost use Rattle.core_calls.specs.Quotas.{quotas_account};
 ghost use Rattle.budget_theorems.specs.Request.{shows_session_short};
 ghost use Rattle.budget_meter.specs.Outcomes.{grants, is_denied, is_done, is_unnamed, lacks, lacks_session};
 ghost use Rattle.budget_meter.specs.RequestTests.{is_granted, shows_charge};

@@ -5,7 +5,7 @@ ghost use Rattle.own_model.specs.Amounts.{Amounts};
 ghost use Rattle.own_model.specs.FileService.{Files};
 ghost use Rattle.own_model.specs.OwnState.{NamedBuffer, bytes_of_buffer};
 ghost use Rattle.own_model.specs.Session.{Session, Wish, new_session, offer_of, served, too_small, upgraded};
-ghost use Rattle.pd_core.specs.Answer.{quotas_account};
+ghost use Rattle.core_calls.specs.Quotas.{quotas_account};
 ghost use Rattle.object_kinds.specs.Offered.{offered_kinds};
 ghost use Rattle.session_proto.specs.File.{HasHex, model_request};
 ghost use Rattle.budget_theorems.specs.Request.{donating};

@@ -15,7 +15,7 @@ use Rattle.own_model.specs.StartList.{Entry, Kind, entries_of, init_at, inits_ke
 use Rattle.own_model.specs.StartList.Kind.{Script}
 use Rattle.own_model.specs.Transcript.{entry_at, state_at, nothing}
 use Rattle.own_model.specs.World.{World, account_by, account_at, outcome_at, start_world, with_state}
-use Rattle.pd_core.specs.Answer.{quotas_account}
+use Rattle.core_calls.specs.Quotas.{quotas_account}
 use Rattle.core_calls.specs.Call.{model_call}
 use Rattle.core_calls.specs.declared.call.Call.{Call as Called}
 use Rattle.core_calls.specs.declared.quotas.Quotas.{Quotas}

@@ -22,7 +22,7 @@ use Rattle.own_model.specs.Routes.{Level, ServerAt, provider}
 use Rattle.own_model.specs.StartList.{Entry}
 use Rattle.own_model.specs.Transcript.{entry_at, state_at, nothing}
 use Rattle.own_model.specs.World.{World, outcome_at, with_state}
-use Rattle.pd_core.specs.Answer.{quotas_account}
+use Rattle.core_calls.specs.Quotas.{quotas_account}
 use Rattle.object_kinds.specs.Offered.{offered_kinds}
 use Rattle.core_calls.specs.declared.quotas.Quotas.{Quotas}
 use Rattle.budget_meter.proofs.HeardLemmas.{there}

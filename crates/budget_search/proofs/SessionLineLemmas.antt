@@ -19,7 +19,7 @@ use Rattle.own_model.specs.Session.{Session, Served, Wish, new_session, served, 
 use Rattle.own_model.specs.SessionArgs.{Arguments, arguments_of}
 use Rattle.own_model.specs.Transcript.{state_at}
 use Rattle.own_model.specs.World.{World, outcome_at, with_state}
-use Rattle.pd_core.specs.Answer.{quotas_account}
+use Rattle.core_calls.specs.Quotas.{quotas_account}
 use Rattle.core_calls.specs.declared.quotas.Quotas.{Quotas}
 use Rattle.budget_theorems.specs.Request.{donating, shows_session_short}
 use Rattle.budget_theorems.specs.RequestTheorems.{session_is_short}

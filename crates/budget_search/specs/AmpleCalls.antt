@@ -11,6 +11,7 @@ use Rattle.own_model.specs.Reply.{reply_text}
 use Rattle.own_model.specs.Reply.Reply.{Done}
 use Rattle.own_model.specs.SessionArgs.{Arguments, arguments_of}
 use Rattle.own_model.specs.World.{World, outcome_at, start_world, with_state}
+pub use Rattle.init_core.specs.Boot.{coded_world}
 use Rattle.budget_search.specs.Donations.{donated_text}
 use Rattle.budget_search.specs.Shortages.{shortage_reply}
 use Rattle.budget_search.specs.declared.trial.Shortage.TheVariants.{SessionRam, SessionCaps}

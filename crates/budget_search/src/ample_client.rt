@@ -7,7 +7,7 @@ use crate::donation::args_with;
 use crate::session_client::is_done;
 use budget_meter::Budget;
 use core_calls::{Answer, Call, FileError, Outcome, Reply, ServiceOutcome};
-use pd_core::{Core, Router};
+use init_core::{Core, Router};
 use session_proto::SessionArgs;
 use std::alloc::{AllocError, Global};
 use std::marker::Model;
@@ -29,7 +29,7 @@ pub struct AmpleClient<R: Router + Drop> {
 
 impl<R: Router + Drop> Model for AmpleClient<R> {
     ghost use Rattle.std.specs.Coded.{codes};
-    ghost use Rattle.pd_core.specs.CodedWorld.{coded_world};
+    ghost use Rattle.init_core.specs.Boot.{coded_world};
     ghost use Rattle.budget_search.specs.AmpleCalls.{Client};
 
     ghost Value = { Client };

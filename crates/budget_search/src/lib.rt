@@ -26,6 +26,7 @@ pub use ample_client::AmpleClient;
 pub use budget_intervals::{BudgetChoice, BudgetGap, BudgetInterval, BudgetIntervals, Likeness};
 pub use component_line::ComponentLine;
 pub use funded_list::{LARGEST, ample, funded, most_of};
+pub use init_core::{RouteTable, boot, route};
 pub use line_numbers::LineNumbers;
 pub use script_search::{ScriptSearch, ScriptSessions, budget_of};
 pub use trial::{BudgetTrial, RefusedLine, SHORTAGES, Shortage, SkippedLine};

@@ -12,9 +12,8 @@ use crate::component_line::ComponentLine;
 use crate::own_run::is_exit;
 use budget_meter::{Budget, named_by};
 use core_calls::{Call, Reply};
-use init_core::boot;
+use init_core::{Router, boot};
 use list_parser::{BootFault, StartList};
-use pd_core::Router;
 use std::alloc::{AllocError, Global};
 
 /// The number of selectors of a component, with 0, which is none.

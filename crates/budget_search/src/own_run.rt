@@ -21,9 +21,8 @@ use crate::component_line::ComponentLine;
 use crate::trial::{BudgetTrial, RefusedLine, Shortage};
 use budget_meter::{AccountMeter, Budget, call_amounts};
 use core_calls::{Answer, Call, Outcome, Reply};
-use init_core::boot;
+use init_core::{Core, Router, boot};
 use list_parser::{BootFault, StartList};
-use pd_core::{Core, Router};
 use std::alloc::Global;
 use trade_base::Refusal;
 

@@ -14,9 +14,8 @@ use crate::session_trial::SessionLines;
 use crate::trial::BudgetTrial;
 use budget_meter::Budget;
 use core_calls::Reply;
-use init_core::boot;
+use init_core::{Router, boot};
 use list_parser::{BootFault, ListEntry, StartList};
-use pd_core::Router;
 use std::alloc::Global;
 
 /// A script of a list.

@@ -4,7 +4,7 @@ ghost use Rattle.list_parser.specs.declared.fault.BootFault.TheVariants.{NoMemor
 ghost use Rattle.std.specs.Option.{option_map};
 ghost use Rattle.std.specs.Str.{bytes_eq};
 ghost use Rattle.own_model.specs.Session.{Session};
-ghost use Rattle.pd_core.specs.Answer.{quotas_account};
+ghost use Rattle.core_calls.specs.Quotas.{quotas_account};
 ghost use Rattle.budget_meter.specs.Needs.{amounts_of};
 ghost use Rattle.budget_meter.specs.Sessions.{IsAt};
 ghost use Rattle.budget_meter.specs.Asked.{asked_in};
@@ -16,9 +16,9 @@ use crate::component_line::ComponentLine;
 use crate::trial::{BudgetTrial, RefusedLine, Shortage};
 use budget_meter::{SessionMeter, named_by};
 use core_calls::{Answer, Call, FileError, Outcome, Quotas, Reply, ServiceOutcome};
+use init_core::{Core, Router};
 use list_parser::{BootFault, ConfigField};
 use object_kinds::ObjectKind;
-use pd_core::{Core, Router};
 
 /// The selector of the only session of a component that has made no other call.
 pub(crate) const FIRST: u64 = 1;
@@ -55,7 +55,7 @@ impl<R: Router + Drop> SessionClient<R> {
     ghost use Rattle.own_model.specs.Session.{Session, offer_of};
     ghost use Rattle.own_model.specs.Transcript.{state_at};
     ghost use Rattle.own_model.specs.World.{outcome_at, with_state};
-    ghost use Rattle.pd_core.specs.Answer.{quotas_account};
+    ghost use Rattle.core_calls.specs.Quotas.{quotas_account};
     ghost use Rattle.object_kinds.specs.Offered.{offered_kinds};
     ghost use Rattle.core_calls.specs.Call.{model_call, IsWellFormed};
     ghost use Rattle.budget_meter.specs.SessionRuns.{Sent};

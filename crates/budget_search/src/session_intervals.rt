@@ -17,8 +17,8 @@ use crate::session_client::SessionClient;
 use crate::session_trial::SessionLines;
 use crate::trial::BudgetTrial;
 use budget_meter::Budget;
+use init_core::Router;
 use list_parser::BootFault;
-use pd_core::Router;
 use std::alloc::Global;
 
 /// Returns exactly the donations, up to the given maximum, with which a session opens and its run isn't short of quota. The error

@@ -5,7 +5,7 @@ ghost use Rattle.list_parser.specs.declared.fault.ConfigField.TheVariants.{Start
 ghost use Rattle.own_model.specs.Amounts.{Amounts, more_of};
 ghost use Rattle.own_model.specs.Session.{Session, Wish, new_session, too_small as session_too_small};
 ghost use Rattle.own_model.specs.Transcript.{entry_at};
-ghost use Rattle.pd_core.specs.Answer.{quotas_account};
+ghost use Rattle.core_calls.specs.Quotas.{quotas_account};
 ghost use Rattle.budget_meter.specs.Needs.{amounts_of, shown_by, shown_in};
 ghost use Rattle.budget_meter.specs.SessionRuns.{opening_need, opened_needs, opened_in_want};
 ghost use Rattle.budget_meter.specs.Sessions.{Shows};
@@ -21,8 +21,8 @@ use crate::session_client::{FIRST, NO_ROOM, SessionClient, SessionRun};
 use crate::trial::{BudgetTrial, RefusedLine, Shortage};
 use budget_meter::{Budget, Meter, SessionMeter};
 use core_calls::{Answer, Call, Outcome, Quotas};
+use init_core::Router;
 use list_parser::BootFault;
-use pd_core::Router;
 use std::alloc::Global;
 use trade_base::Refusal;
 

@@ -1,7 +1,7 @@
 //! The result of a run from a budget.
 ghost use Rattle.std.specs.Prelude.{◌≡◌, ◌++◌, IfErr, OnOk};
 ghost use Rattle.list_parser.specs.declared.fault.BootFault.TheVariants.{NoMemory};
-ghost use Rattle.pd_core.specs.Answer.{quotas_account};
+ghost use Rattle.core_calls.specs.Quotas.{quotas_account};
 ghost use Rattle.budget_meter.specs.NeededAmounts.{amount_tests};
 ghost use Rattle.budget_meter.specs.Needs.{amounts_of};
 ghost use Rattle.budget_search.specs.RunLines.{lines_in, no_lines, skipped_lines};

@@ -10,14 +10,14 @@ use Rattle.own_model.proofs.StepBalanceLemmas.{totals, lines_balanced}
 use Rattle.own_model.proofs.StartLemmas.{start_balanced_for}
 use Rattle.list_parser.specs.StartText.{list_in}
 use Rattle.std.proofs.lemmas.List.Elements.{All-nil}
-use Rattle.run_lines.specs.Lines.{longest_read}
+use Rattle.run_devices.specs.Lines.{longest_read}
 use Rattle.cli_engine.specs.Program.{IsAnswered, IsBoundedFor, IsDone, FailsFor, StopsScenario, TotalsAre, lines_run, ok_line, scenario_text}
 use Rattle.run_lines.specs.Machine.{IsMachine, world_of}
 use Rattle.cli_engine.specs.Ending.{HasResult}
 use Rattle.run_engine.specs.Runs.{Completes}
 use Rattle.std.specs.Option.{option_copied}
 use Rattle.run_engine.specs.Stops.{Stops}
-use Rattle.run_lines.specs.Causes.{AppendsPart}
+use Rattle.run_devices.specs.RunOutput.{AppendsPart}
 use Rattle.cli_engine.specs.declared.program.TaskFailure.{TaskFailure}
 use Rattle.cli_engine.specs.declared.program.TaskFailure.TheVariants as failure
 use Rattle.cli_engine.specs.declared.program.Task.{Task}
@@ -25,7 +25,7 @@ use Rattle.cli_engine.specs.declared.program.Task.TheVariants as task
 use Rattle.run_lines.specs.declared.run_fault.RunFault.{RunFault}
 use Rattle.run_lines.specs.declared.run_fault.RunFault.TheVariants.{WriteFault}
 use Rattle.run_engine.specs.declared.engine.RunSummary.{RunSummary}
-use Rattle.run_lines.proofs.GatheredLemmas.{Appends-more}
+use Rattle.run_devices.proofs.GatheredLemmas.{Appends-more}
 
 -- a scenario from the machine's start
 from_start : (list : Listed) (world : World) → world ≡ world_of list → (P : World → List ℕ → Type 0) (input : Option (List ℕ)) →

@@ -11,9 +11,9 @@ use Rattle.own_model.specs.LinesOfName.{said_by}
 use Rattle.std.specs.Option.{option_copied}
 use Rattle.own_model.specs.World.{World, start_world, world_running, all_ram, all_caps}
 use Rattle.list_parser.specs.declared.fault.BootFault.TheVariants.{NoMemory}
-use Rattle.run_lines.specs.Lines.{AreReadable}
+use Rattle.run_devices.specs.Lines.{AreReadable}
 use Rattle.run_engine.specs.Stops.{Stops}
-use Rattle.run_lines.specs.Causes.{AppendsPart}
+use Rattle.run_devices.specs.RunOutput.{AppendsPart}
 use Rattle.cli_engine.specs.declared.program.TaskFailure.{TaskFailure}
 use Rattle.cli_engine.specs.declared.program.TaskFailure.TheVariants as failure
 use Rattle.cli_engine.specs.declared.program.Task.{Task}

@@ -9,7 +9,8 @@ ghost use Rattle.list_parser.specs.declared.fault.BootFault.{BootFault as Unboot
 ghost use Rattle.list_parser.specs.declared.fault.BootFault.TheVariants.{NoMemory as NoRoom};
 ghost use Rattle.cli_engine.specs.Program.{AsksFor, FailsFor, FailsIn, IsAnswered, IsBoundedFor, IsDone, StopsScenario, ok_line, scenario_text, status_of, written_for};
 ghost use Rattle.run_lines.specs.Machine.{IsMachine, world_of};
-ghost use Rattle.run_lines.specs.Causes.{AppendsPart, is_write_fault};
+ghost use Rattle.run_lines.specs.Causes.{is_write_fault};
+ghost use Rattle.run_devices.specs.RunOutput.{AppendsPart};
 ghost use Rattle.cli_engine.specs.Texts.{failure_text};
 ghost use Rattle.cli_engine.specs.declared.program.TaskFailure.TheVariants.{Boot as Booting, Run as Running};
 ghost use Rattle.cli_engine.specs.declared.program.Task.TheVariants.{Check as Checking, Run as Answering};
@@ -19,10 +20,10 @@ use crate::options::Options;
 use core_calls::Reply;
 use init_core::boot;
 use list_parser::{BootFault, StartList};
-use pd_core::{Core, Router};
 use run_engine::{RunSummary, run_selected};
 use run_lines::{
-    LineDispatcher, MAX_LINES, Output, RunFault, Sink, Source, write_accounts, write_out,
+    Core, LineDispatcher, MAX_LINES, Output, Router, RunFault, Sink, Source, write_accounts,
+    write_out,
 };
 use std::alloc::Global;
 use std::fmt;
@@ -210,7 +211,7 @@ fn answer_scenario<R: Router + Drop, S: Source, K: Sink>(
 }
 
 // Writes that a machine boots. A writer that has failed is not tried again.
-#[tactic(auto, using(run_lines::proofs::GatheredLemmas::told_in_part))]
+#[tactic(auto, using(run_devices::proofs::GatheredLemmas::told_in_part))]
 fn tell_ok<K: Sink>(writer: &mut K) -> Result<RunSummary, RunFault>
     ensures none { IfOk result (λ summary. summary.lines ≡ 0) }
     ensures told { OnOk result (Appends (K.contents writer.old) (K.contents writer.new) ok_line) }

@@ -4,8 +4,8 @@ use Rattle.std.proofs.lemmas.List.{append_assoc, drop-drop, drop-map, drop_all, 
 use Rattle.std.proofs.Math.Seq.{drop-cons}
 use Rattle.std.specs.Borrow.{Bor}
 use Rattle.own_model.specs.Text.{lines_of}
-use Rattle.run_lines.specs.Lines.{after_line, line_of}
-use Rattle.run_lines.proofs.LineLemmas.{lines_of-cons}
+use Rattle.run_devices.specs.Lines.{after_line, line_of}
+use Rattle.run_devices.proofs.LineLemmas.{lines_of-cons}
 use Rattle.line_names.specs.RoundMarks.{RoundMark}
 use Rattle.line_names.specs.Sums.{and_then}
 use Rattle.line_rounds.specs.Structure.{body_length, kind_of}

@@ -1,7 +1,7 @@
 //! The lines of a scenario, and their kinds for rounds.
 ghost use Rattle.std.specs.Prelude.{◌≡◌, ◌+◌, ◌≤◌, IfOk, drop, length, take};
 ghost use Rattle.own_model.specs.Text.{lines_of};
-ghost use Rattle.run_lines.specs.Lines.{line_length};
+ghost use Rattle.run_devices.specs.Lines.{line_length};
 ghost use Rattle.line_rounds.specs.Structure.{column_of, kind_by, kind_of, words_of};
 ghost use Rattle.line_rounds.specs.Views.{texts};
 

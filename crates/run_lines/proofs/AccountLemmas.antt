@@ -16,14 +16,14 @@ use Rattle.std.specs.List.{enumerate_from, flat_map}
 use Rattle.std.specs.Option.{option_map_or}
 use Rattle.own_model.proofs.EntryLemmas.{value_of, value_of_first, value_of_later}
 use Rattle.own_model.proofs.NatMapLemmas.{both_parts, is_less}
+use Rattle.own_model.specs.AccountList.{object_line, session_lines}
 use Rattle.own_model.specs.Listed.{Listed, start_list_of, start_of}
 use Rattle.own_model.specs.OwnState.{Object, OwnState}
 use Rattle.own_model.specs.StartList.{entries_of}
 use Rattle.own_model.specs.World.{World}
-use Rattle.run_lines.specs.Accounts.{object_line_with, selected_line, session_lines_with}
-use Rattle.run_lines.specs.RunOutput.{Tells, OutputsPart, OutputsUnless}
-use Rattle.run_lines.specs.Causes.{AppendsPart}
-use Rattle.run_lines.proofs.GatheredLemmas.{Tells-more, Tells-front}
+use Rattle.run_lines.specs.Accounts.{selected_line}
+use Rattle.run_devices.specs.RunOutput.{AppendsPart, Tells, OutputsPart, OutputsUnless}
+use Rattle.run_devices.proofs.GatheredLemmas.{Tells-more, Tells-front}
 
 -- ---- keys one after another
 
@@ -122,41 +122,25 @@ module _ {X : Type 0} (f : ℕ → X → List ℕ) where
             ]
       ] refl
 
--- rising entries are told alike where the value of each key is
-pub entries_alike : {X : Type 0} (f f' : ℕ → X → List ℕ) (es : List (ℕ × X)) → T (is_sorted nat_cmp es) →
-    ((k : ℕ) (v : X) → value_of k es ≡ Some v → f k v ≡ f' k v) → flat_map (λ e. f e.0 e.1) es ≡ flat_map (λ e. f' e.0 e.1) es
-entries_alike f f' [] h same = refl
-entries_alike {X} f f' (e ∷ es) h same =
-    let parts = both_parts _ _ h in
-    let first : f e.0 e.1 ≡ f' e.0 e.1 = same e.0 e.1 (value_of_first e.0 e es (eq-eqb e.0 e.0 refl)) in
-    let rest : flat_map (λ (e : ℕ × X). f e.0 e.1) es ≡ flat_map (λ (e : ℕ × X). f' e.0 e.1) es =
-    entries_alike f f' es parts.1
-    (λ k v is. elim (eqb k e.0) as (λ b. eqb k e.0 ≡ b → f k v ≡ f' k v) [
-      | true ↦ λ t. absurd (none-some v (sym (free_upto k e.0 es (omega (arith, eqb-true k e.0 t)) parts.0) ∙ is))
-      | false ↦ λ t. same k v (value_of_later k e es t ∙ is)
-    ] refl) in
-    flat_map-cons (λ (e : ℕ × X). f e.0 e.1) e es ∙ ap (λ l. l ++ flat_map (λ (e : ℕ × X). f e.0 e.1) es) first
-    ∙ ap (λ l. f' e.0 e.1 ++ l) rest ∙ sym (flat_map-cons (λ (e : ℕ × X). f' e.0 e.1) e es)
-
 -- ---- open sessions
 
-module _ (name : List ℕ) (beside : ℕ → List ℕ) (s : OwnState) where
+module _ (name : List ℕ) (s : OwnState) where
   abbrev named : ℕ → Option Object
   named k = get s.selectors k
 
   abbrev line : ℕ → Object → List ℕ
-  line = object_line_with name beside
+  line = object_line name
 
   -- what is told of a component's keys up to the last are the lines of its open sessions
-  lines_of_sessions : (n : ℕ) → ((k : ℕ) → n ≤ k → named k ≡ None) → told_from line named 0 n ≡ session_lines_with name beside s
+  lines_of_sessions : (n : ℕ) → ((k : ℕ) → n ≤ k → named k ≡ None) → told_from line named 0 n ≡ session_lines name s
   lines_of_sessions n none =
       told_entries line named n 0 (entries s.selectors) (entries_sorted s.selectors) (λ k more. get-entries s.selectors k)
       (λ k less. absurd (omega (arith, less))) (λ k more. sym (get-entries s.selectors k) ∙ none k (omega (arith, more)))
 
   -- of these the first are told, then one, and then the others
   pub sessions_cut : (n i : ℕ) → i < n → ((k : ℕ) → n ≤ k → named k ≡ None) →
-      session_lines_with name beside s
-      ≡ (told_from line named 0 i ++ selected_line name beside s i) ++ told_from line named (0 + (i + 1)) (n - (i + 1))
+      session_lines name s
+      ≡ (told_from line named 0 i ++ selected_line name s i) ++ told_from line named (0 + (i + 1)) (n - (i + 1))
   sessions_cut n i within none =
       let parts : n ≡ (i + 1) + (n - (i + 1)) = omega (arith, within) in
       sym (lines_of_sessions n none) ∙ told_both line named 0 (i + 1) (n - (i + 1)) n parts
@@ -164,7 +148,7 @@ module _ (name : List ℕ) (beside : ℕ → List ℕ) (s : OwnState) where
 
   -- the last is told
   pub sessions_last : (i : ℕ) → ((k : ℕ) → i + 1 ≤ k → named k ≡ None) →
-      session_lines_with name beside s ≡ told_from line named 0 i ++ selected_line name beside s i
+      session_lines name s ≡ told_from line named 0 i ++ selected_line name s i
   sessions_last i none = sym (lines_of_sessions (i + 1) none) ∙ told_more_keys line named i
 
 -- ---- components in their order

@@ -4,7 +4,7 @@ use Rattle.std.proofs.lemmas.List.{get_or-append-add}
 use Rattle.own_model.specs.Text.{lines_of}
 use Rattle.run_lines.specs.Causes.{HasCause}
 use Rattle.run_lines.specs.Faults.{is_write_fault as is_unwritten}
-use Rattle.run_lines.specs.Lines.{longest_read, AreReadable}
+use Rattle.run_devices.specs.Lines.{longest_read, AreReadable}
 use Rattle.run_lines.specs.LineRuns.{StopsAt}
 use Rattle.run_lines.specs.declared.line_run_fault.LineRunFault.{LineRunFault}
 use Rattle.run_lines.specs.declared.line_run_fault.LineRunFault.TheVariants.{ReadFault as Unread, WriteFault as Unwritten, TooManyLines as TooMany, NoMemory}

@@ -1,15 +1,19 @@
--- The lines of a component: its account's, and its reserve's where that is told.
-use Rattle.std.proofs.Common.{◌≡◌, ℕ, ◌<◌, ◌≤◌, Bool, true, false, List, [], ◌++◌, length, Some, sym, ap, ◌∙◌, arith, append-nil}
+-- The lines of a component: its account's, its reserve's where that is told, and those of its sessions.
+use Rattle.std.proofs.Common.{◌≡◌, ℕ, ◌<◌, ◌≤◌, Bool, true, false, List, [], ◌++◌, length, Option, Some, None, refl, sym, ap, ◌∙◌, arith, append-nil}
 use Rattle.std.proofs.lemmas.Bool.Decides.{nat_tests}
-use Rattle.std.proofs.lemmas.Option.{slice_get-get_or}
+use Rattle.std.proofs.lemmas.Option.{none-some, slice_get-get_or}
+use Rattle.std.specs.FinMap.{get}
 use Rattle.std.specs.List.{slice_get}
-use Rattle.std.specs.Option.{option_map}
+use Rattle.std.specs.Option.{option_map, option_map_or}
 use Rattle.std.specs.Prelude.{◌||◌, ◌⊎◌, is_some, nat_lt, if◌then◌else◌}
 use Rattle.own_model.specs.Account.{Account}
-use Rattle.own_model.specs.AccountList.{is_told, reserve_line}
+use Rattle.own_model.specs.AccountList.{account_line, component_lines, is_told, object_line, reserve_line, session_line}
 use Rattle.own_model.specs.Amounts.{Amounts}
 use Rattle.own_model.specs.Listed.{Listed, ListedEntry}
-use Rattle.run_lines.specs.Accounts.{account_line_with, component_lines_with, listed_at, unlisted}
+use Rattle.own_model.specs.OwnState.{Object, OwnState, session_named}
+use Rattle.own_model.specs.OwnState.Object.{Dataspace, RpcObject, OpenSession, Buffer}
+use Rattle.own_model.specs.Session.{Session}
+use Rattle.run_lines.specs.Accounts.{listed_at, selected_line, unlisted}
 
 -- the entry at a place of a list has the path that is told of it, and is given a reserve where that is told
 module _ (list : Listed) (place : ℕ) (within : place < length list.entries) where
@@ -40,27 +44,54 @@ printed_if_any given reserve some = grind (arith, nat_tests)
 pub unprinted_if_none : (given : Bool) (reserve : Amounts) → IsUnprinted given reserve → (given || nat_lt 0 reserve.ram || nat_lt 0 reserve.caps) ≡ false
 unprinted_if_none given reserve none = grind (arith, nat_tests)
 
-module _ (entry : ListedEntry) (own : Account) (kept : Amounts) (beside : List ℕ) where
+module _ (entry : ListedEntry) (own : Account) (kept : Amounts) where
   -- first the account's line
   pub account_first : {name : List ℕ} {account : Account} → name ≡ entry.path → account ≡ own →
-      component_lines_with entry own kept beside ≡ account_line_with name account beside ++ (if is_told entry.reserve kept then reserve_line entry.path kept else [])
-  account_first name_is account_is = λ j. account_line_with (sym name_is j) (sym account_is j) beside ++ (if is_told entry.reserve kept then reserve_line entry.path kept else [])
+      component_lines entry own kept ≡ account_line name account ++ (if is_told entry.reserve kept then reserve_line entry.path kept else [])
+  account_first name_is account_is = λ j. account_line (sym name_is j) (sym account_is j) ++ (if is_told entry.reserve kept then reserve_line entry.path kept else [])
 
   told_is : {given : Bool} {reserve : Amounts} → given ≡ is_some entry.reserve → reserve ≡ kept → is_told entry.reserve kept ≡ (given || nat_lt 0 reserve.ram || nat_lt 0 reserve.caps)
   told_is given_is reserve_is = λ j. sym given_is j || nat_lt 0 (sym reserve_is j).ram || nat_lt 0 (sym reserve_is j).caps
 
   -- then the reserve's
   pub reserve_then : {name : List ℕ} {account : Account} {given : Bool} (reserve : Amounts) → name ≡ entry.path → account ≡ own → given ≡ is_some entry.reserve → reserve ≡ kept →
-      IsPrinted given reserve → component_lines_with entry own kept beside ≡ account_line_with name account beside ++ reserve_line name reserve
+      IsPrinted given reserve → component_lines entry own kept ≡ account_line name account ++ reserve_line name reserve
   reserve_then {name} {account} {given} reserve name_is account_is given_is reserve_is some =
       account_first name_is account_is
-      ∙ ap (λ b. account_line_with name account beside ++ (if b then reserve_line entry.path kept else [])) (told_is given_is reserve_is ∙ printed_if_any given reserve some)
-      ∙ (λ j. account_line_with name account beside ++ reserve_line (sym name_is j) (sym reserve_is j))
+      ∙ ap (λ b. account_line name account ++ (if b then reserve_line entry.path kept else [])) (told_is given_is reserve_is ∙ printed_if_any given reserve some)
+      ∙ (λ j. account_line name account ++ reserve_line (sym name_is j) (sym reserve_is j))
 
   -- or nothing
   pub reserve_untold : {name : List ℕ} {account : Account} {given : Bool} (reserve : Amounts) → name ≡ entry.path → account ≡ own → given ≡ is_some entry.reserve → reserve ≡ kept →
-      IsUnprinted given reserve → component_lines_with entry own kept beside ≡ account_line_with name account beside
+      IsUnprinted given reserve → component_lines entry own kept ≡ account_line name account
   reserve_untold {name} {account} {given} reserve name_is account_is given_is reserve_is none =
       account_first name_is account_is
-      ∙ ap (λ b. account_line_with name account beside ++ (if b then reserve_line entry.path kept else [])) (told_is given_is reserve_is ∙ unprinted_if_none given reserve none)
-      ∙ append-nil (account_line_with name account beside)
+      ∙ ap (λ b. account_line name account ++ (if b then reserve_line entry.path kept else [])) (told_is given_is reserve_is ∙ unprinted_if_none given reserve none)
+      ∙ append-nil (account_line name account)
+
+-- ---- what a selector names
+
+module _ (name : List ℕ) (selector : ℕ) where
+  named_line : (account : Account) (o : Option Object) → Some account ≡ option_map (λ (x : Session). x.account) (session_named o) →
+      option_map_or (λ object. object_line name selector object) o [] ≡ session_line name selector account
+  named_line account (Some (OpenSession session)) is = let same : session.account ≡ account = cc in ap (session_line name selector) same
+  named_line account (Some (Dataspace bytes)) is = absurd (none-some account (sym is))
+  named_line account (Some RpcObject) is = absurd (none-some account (sym is))
+  named_line account (Some (Buffer session bytes)) is = absurd (none-some account (sym is))
+  named_line account None is = absurd (none-some account (sym is))
+
+  no_line : (o : Option Object) → None ≡ option_map (λ (x : Session). x.account) (session_named o) → option_map_or (λ object. object_line name selector object) o [] ≡ []
+  no_line (Some (OpenSession session)) is = absurd (none-some session.account is)
+  no_line (Some (Dataspace bytes)) is = refl
+  no_line (Some RpcObject) is = refl
+  no_line (Some (Buffer session bytes)) is = refl
+  no_line None is = refl
+
+  -- is told where it is a session
+  pub selected_some : (s : OwnState) {own : List ℕ} {account : Account} → own ≡ name → Some account ≡ option_map (λ (x : Session). x.account) (session_named (get s.selectors selector)) →
+      selected_line name s selector ≡ session_line own selector account
+  selected_some s {own} {account} same is = named_line account (get s.selectors selector) is ∙ ap (λ n. session_line n selector account) (sym same)
+
+  -- and nothing where it is none
+  pub selected_none : (s : OwnState) → None ≡ option_map (λ (x : Session). x.account) (session_named (get s.selectors selector)) → selected_line name s selector ≡ []
+  selected_none s is = no_line (get s.selectors selector) is

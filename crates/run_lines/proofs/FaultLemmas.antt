@@ -3,14 +3,14 @@ use Rattle.std.proofs.Common.{◌≡◌, ◌||◌, ◌++◌, ℕ, Bool, true, fa
 use Rattle.std.proofs.lemmas.Bool.{or_parts}
 use Rattle.std.specs.Result.{result_err}
 use Rattle.run_lines.specs.Faults.{Fails, is_write_fault, line_fault}
-use Rattle.run_lines.specs.RunOutput.{Tells}
+use Rattle.run_devices.specs.RunOutput.{Tells}
 use Rattle.run_lines.specs.Next.{AllWork, OutputsAt, OutputsOrStops, is_write_fault as is_unwritten}
 use Rattle.run_lines.specs.LineRuns.{more_unless_stopped}
 use Rattle.run_lines.specs.declared.lines.LineFault.{LineFault}
 use Rattle.run_lines.specs.declared.lines.LineFault.TheVariants.{Read, Write, Endless}
 use Rattle.run_lines.specs.declared.line_run_fault.LineRunFault.{LineRunFault}
 use Rattle.run_lines.specs.declared.line_run_fault.LineRunFault.TheVariants.{ReadFault, WriteFault, TooManyLines, NoMemory}
-use Rattle.run_lines.proofs.GatheredLemmas.{Tells-more}
+use Rattle.run_devices.proofs.GatheredLemmas.{Tells-more}
 
 -- a text is told, and then one up to a fault
 pub told_at : {w w' : Option (List ℕ)} {g g' xs : List ℕ} (w'' : Option (List ℕ)) (ys : List ℕ) (fault : LineFault) →

@@ -1,9 +1,5 @@
 pub mod AccountLemmas
-pub mod BlockLemmas
 pub mod ComponentLines
-pub mod BesideLemmas
-pub mod LineLemmas
-pub mod GatheredLemmas
 pub mod FaultLemmas
 pub mod ToCome
 pub mod PassedLines

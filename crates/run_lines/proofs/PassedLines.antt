@@ -6,8 +6,8 @@ use Rattle.std.proofs.lemmas.Bool.Decides.{nat_tests}
 use Rattle.std.proofs.lemmas.List.{drop_all, take-append-drop}
 use Rattle.std.proofs.lemmas.List.Sums.{sum_by-cons, sum_by-append, count_by_more_yes, passes_at_first}
 use Rattle.own_model.specs.Text.{lines_of}
-use Rattle.run_lines.specs.Lines.{is_newline, line_length, line_of, after_line, HasRead, PassesSome, PassesLines, IsReadTo, to_come}
-use Rattle.run_lines.proofs.LineLemmas.{lines_of-cons}
+use Rattle.run_devices.specs.Lines.{is_newline, line_length, line_of, after_line, HasRead, PassesSome, PassesLines, IsReadTo, to_come}
+use Rattle.run_devices.proofs.LineLemmas.{lines_of-cons}
 
 -- no newline stands within a line
 no_newlines : (n : ℕ) (xs : List ℕ) → n ≤ line_length xs → count_by is_newline (take n xs) ≡ 0

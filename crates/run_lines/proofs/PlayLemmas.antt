@@ -7,18 +7,17 @@ use Rattle.std.specs.Io.KnownBytes.{Appends}
 use Rattle.own_model.specs.Text.{lines_of}
 use Rattle.own_model.specs.Transcript.{longest_line}
 use Rattle.run_lines.specs.Faults.{Fails, line_fault}
-use Rattle.run_lines.specs.RunOutput.{Tells, OutputsPart}
-use Rattle.run_lines.specs.Lines.{line_of, longest_read, to_come, AreReadable, HasRead, PassesLines}
+use Rattle.run_devices.specs.RunOutput.{AppendsPart, Tells, OutputsPart}
+use Rattle.run_devices.specs.Lines.{line_of, longest_read, to_come, AreReadable, HasRead, PassesLines}
 use Rattle.run_lines.specs.Next.{BeginsWithLine, PassesLongLine, StopsBefore, OutputsAt, is_read_fault}
 use Rattle.run_lines.specs.LineRuns.{AreWhole, Breaks, BreaksFor, Ended, EndsFor, PlaysAll, HandlesLine, HandlesNext, HandlesOn, Point, ReadsOn, StopsAs, StopsAt, OutputsTo, WritesOutput, more_unless_stopped}
 use Rattle.run_lines.specs.Reach.{KeepsUp, ReadsBehind, longest_gathered, reach}
-use Rattle.run_lines.specs.Causes.{AppendsPart}
 use Rattle.run_lines.specs.declared.lines.LineFault.{LineFault}
 use Rattle.run_lines.specs.declared.lines.LineFault.TheVariants.{Read, Write, Endless}
 use Rattle.run_lines.specs.declared.line_run_fault.LineRunFault.{LineRunFault}
 use Rattle.run_lines.specs.declared.line_run_fault.LineRunFault.TheVariants.{ReadFault, WriteFault, TooManyLines, NoMemory}
-use Rattle.run_lines.proofs.GatheredLemmas.{Appends-none, Tells-more, Tells-none}
-use Rattle.run_lines.proofs.LineLemmas.{length-line_of, line_length-le, lines_of-cons}
+use Rattle.run_devices.proofs.GatheredLemmas.{Appends-none, Tells-more, Tells-none}
+use Rattle.run_devices.proofs.LineLemmas.{length-line_of, line_length-le, lines_of-cons}
 use Rattle.run_lines.proofs.PassedLines.{has_passed, has_read_more, passes_line, passes_more, passes_none, read_to}
 use Rattle.run_lines.proofs.ReachLemmas.{Writes, close_all, close_behind, keeps_up_more, keeps_up_none}
 

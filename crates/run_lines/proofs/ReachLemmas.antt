@@ -2,13 +2,13 @@
 use Rattle.std.proofs.Common.{◌≡◌, ℕ, ◌+◌, ◌<◌, ◌≤◌, List, [], ◌++◌, length, take, drop, Option, Some, None, IfSome, Result, Ok, Err, inl, inr, arith, refl, sym, ◌∙◌, ap, subst, append_assoc, append-nil, length-append}
 use Rattle.std.proofs.lemmas.List.{length-take, take-append-drop}
 use Rattle.std.specs.Io.KnownBytes.{Appends, Keeps}
-use Rattle.run_lines.specs.RunOutput.{Tells, OutputsUnless}
-use Rattle.run_lines.specs.Lines.{PassesLines, line_length, to_come}
+use Rattle.run_devices.specs.RunOutput.{Tells, OutputsUnless}
+use Rattle.run_devices.specs.Lines.{PassesLines, line_length, to_come}
 use Rattle.run_lines.specs.Next.{OutputsAt, OutputsOrStops}
 use Rattle.run_lines.specs.Reach.{IsFlushed, IsReadUpTo, KeepsUp, ReadsBehind, WritesClose, longest_ahead, longest_gathered, reach}
 use Rattle.run_lines.specs.declared.lines.LineFault.{LineFault}
 use Rattle.run_lines.specs.declared.lines.LineFault.TheVariants.{Read, Write, Endless}
-use Rattle.run_lines.proofs.GatheredLemmas.{Appends-more, Appends-none}
+use Rattle.run_devices.proofs.GatheredLemmas.{Appends-more, Appends-none}
 use Rattle.run_lines.proofs.PassedLines.{passes_none}
 use Rattle.run_lines.proofs.ToCome.{Passes}
 use Rattle.std.proofs.lemmas.Bool.Decides.{nat_tests}

@@ -2,11 +2,11 @@
 use Rattle.std.proofs.Common.{◌≡◌, ℕ, ◌+◌, ◌<◌, ◌≤◌, List, [], ◌∷◌, ◌++◌, length, take, drop, Option, Some, None, IfSome, Err, inl, arith, refl, sym, ◌∙◌, ap, subst, append_assoc, length-append}
 use Rattle.std.proofs.lemmas.List.{drop-drop, drop_all, drop_at, drop-append-le, take-append-drop, take-append-le}
 use Rattle.std.specs.Io.KnownBytes.{Keeps, IsAtEnd}
-use Rattle.run_lines.specs.Lines.{line_length, after_line, longest_read, to_come, HasRead, PassesSome}
+use Rattle.run_devices.specs.Lines.{line_length, after_line, longest_read, to_come, HasRead, PassesSome}
 use Rattle.run_lines.specs.Next.{BeginsWithLine, PassesLongLine, StopsBefore, GrowsOrStops}
 use Rattle.run_lines.specs.declared.lines.LineFault.{LineFault}
 use Rattle.run_lines.specs.declared.lines.LineFault.TheVariants.{Read, Write, Endless}
-use Rattle.run_lines.proofs.LineLemmas.{line_length-le, line_length-append_in, line_length-append-le, line_length-drop}
+use Rattle.run_devices.proofs.LineLemmas.{line_length-le, line_length-append_in, line_length-append-le, line_length-drop}
 use Rattle.std.proofs.lemmas.Bool.Decides.{nat_tests}
 
 -- the same where the bytes to come are known

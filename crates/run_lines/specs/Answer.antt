@@ -11,7 +11,7 @@ use Rattle.own_model.specs.LinesOfName.{said_by}
 use Rattle.own_model.specs.Transcript.{Heard, entry_at, heard}
 use Rattle.own_model.specs.Transcript.Heard.{NoCall, Stranger, Caller}
 use Rattle.own_model.specs.World.{World}
-use Rattle.run_lines.specs.RunOutput.{line_with}
+use Rattle.run_devices.specs.RunOutput.{line_with}
 use Rattle.run_lines.specs.declared.line_answer.LineAnswer.{LineAnswer}
 
 -- the name under which a classified line is answered

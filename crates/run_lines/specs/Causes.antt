@@ -2,16 +2,9 @@
 use Rattle.std.specs.Prelude.{◌≡◌, ℕ, ◌<◌, ◌≤◌, ◌⊎◌, Bool, true, false, List, [], ◌++◌, length, slice_index_or, Option, Result, Ok, Err}
 use Rattle.std.specs.Io.KnownBytes.{Appends}
 use Rattle.own_model.specs.Text.{lines_of}
-use Rattle.run_lines.specs.Lines.{longest_read, AreReadable, HasRead, IsReadTo}
+use Rattle.run_devices.specs.Lines.{longest_read, AreReadable, HasRead, IsReadTo}
 use Rattle.run_lines.specs.declared.run_fault.RunFault.{RunFault}
 use Rattle.run_lines.specs.declared.run_fault.RunFault.TheVariants.{ReadFault, WriteFault, TooManyLines}
-
--- known bytes grow by a part of these, from the front
-pub record AppendsPart (old new : Option (List ℕ)) (bytes : List ℕ) : Type 0 where
-  pub part : List ℕ
-  pub left : List ℕ
-  pub parts : bytes ≡ part ++ left
-  pub grows : Appends old new part
 
 -- why these lines of an input were answered or skipped and those left were not:
 -- the reader failed when just these had ended, or the next one is too long to be read to its end;

@@ -1,7 +1,4 @@
 pub mod Accounts
-pub mod Device
-pub mod RunOutput
-pub mod Lines
 pub mod Reach
 pub mod Next
 pub mod Causes

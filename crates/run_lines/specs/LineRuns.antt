@@ -2,10 +2,10 @@
 use Rattle.std.specs.Prelude.{◌≡◌, ◌⊎◌, ℕ, ◌<◌, ◌≤◌, Bool, true, false, List, [], ◌∷◌, ◌++◌, length, Option, Some, None, IfSome, IfNone, Result, Ok, Err}
 use Rattle.std.specs.Io.KnownBytes.{Appends}
 use Rattle.own_model.specs.Text.{lines_of}
-use Rattle.run_lines.specs.RunOutput.{Tells, OutputsPart, OutputsUnless}
-use Rattle.run_lines.specs.Lines.{line_length, longest_read, to_come, AreReadable, HasRead, PassesLines, PassesSome}
+use Rattle.run_devices.specs.RunOutput.{AppendsPart, Tells, OutputsPart, OutputsUnless}
+use Rattle.run_devices.specs.Lines.{line_length, longest_read, to_come, AreReadable, HasRead, PassesLines, PassesSome}
 use Rattle.run_lines.specs.Reach.{KeepsUp, ReadsBehind, WritesClose, reach}
-use Rattle.run_lines.specs.Causes.{AppendsPart, StopsFor}
+use Rattle.run_lines.specs.Causes.{StopsFor}
 use Rattle.run_lines.specs.declared.lines.Buffers.{Buffers}
 use Rattle.run_lines.specs.declared.line_run_fault.LineRunFault.{LineRunFault}
 use Rattle.run_lines.specs.declared.line_run_fault.LineRunFault.TheVariants.{ReadFault, WriteFault, TooManyLines, NoMemory}

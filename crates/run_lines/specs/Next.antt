@@ -7,9 +7,9 @@ use Rattle.run_lines.specs.declared.lines.NextLine.{NextLine}
 use Rattle.run_lines.specs.declared.lines.NextLine.TheVariants.{Line, TooLong, End}
 use Rattle.run_lines.specs.declared.lines.LineFault.{LineFault}
 use Rattle.run_lines.specs.declared.lines.LineFault.TheVariants.{Read, Write, Endless}
-use Rattle.run_lines.specs.RunOutput.{Tells, OutputsPart}
+use Rattle.run_devices.specs.RunOutput.{Tells, OutputsPart}
 use Rattle.run_lines.specs.Reach.{ReadsBehind, reach}
-use Rattle.run_lines.specs.Lines.{line_length, line_of, after_line, longest_read, to_come, Grows, HasRead, PassesSome}
+use Rattle.run_devices.specs.Lines.{line_length, line_of, after_line, longest_read, to_come, Grows, HasRead, PassesSome}
 
 -- the bytes ahead begin with the next line, of n bytes, and the bytes after it remain
 pub record BeginsWithLine (before ahead : List ℕ) (rest : Option (List ℕ)) (n : ℕ) : Type 0 where

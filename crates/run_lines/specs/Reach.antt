@@ -2,7 +2,7 @@
 use Rattle.std.specs.Prelude.{◌≡◌, ℕ, ◌+◌, ◌≤◌, ◌⊎◌, List, ◌++◌, length, nat_lt, if◌then◌else◌, Option, Some, IfSome}
 use Rattle.std.specs.Io.KnownBytes.{Appends}
 use Rattle.own_model.specs.Transcript.{longest_line}
-use Rattle.run_lines.specs.Lines.{line_length, PassesLines}
+use Rattle.run_devices.specs.Lines.{line_length, PassesLines}
 
 -- how many bytes are ahead at most
 abbrev pub longest_ahead : ℕ

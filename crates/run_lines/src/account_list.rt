@@ -1,30 +1,27 @@
-//! The account list: use and limits of every account, its additional columns, and the sums of all limits.
-ghost use Rattle.std.specs.Prelude.{◌≡◌, ◌<◌, ◌++◌, ◌∷◌, [], false, true, length, codes, Err, IfErr, OnErr, OnOk, is_err};
+//! The account list: use and limits of every account, and the sums of all limits.
+ghost use Rattle.std.specs.Prelude.{◌≡◌, ◌<◌, ◌++◌, false, true, length, Err, IfErr, OnErr, OnOk, is_err};
 ghost use Rattle.std.specs.List.{enumerate_from, flat_map};
 ghost use Rattle.std.specs.Io.KnownBytes.{Appends};
-ghost use Rattle.own_model.specs.AccountList.{account_list_text, reserve_line, total_line};
+ghost use Rattle.own_model.specs.AccountList.{account_line, account_list_text, component_lines, reserve_line, session_line, session_lines, total_line};
 ghost use Rattle.own_model.specs.Listed.{start_list_of};
 ghost use Rattle.own_model.specs.StartList.{entries_of};
 ghost use Rattle.own_model.specs.Transcript.{state_at};
-ghost use Rattle.own_model.specs.World.{account_at, all_ram, all_caps, machine_init};
-ghost use Rattle.pd_core.specs.Answer.{quotas_account};
+ghost use Rattle.own_model.specs.World.{account_at, all_ram, all_caps};
+ghost use Rattle.core_calls.specs.Quotas.{quotas_account};
 ghost use Rattle.core_calls.specs.Quotas.{reserve_amounts};
-ghost use Rattle.run_lines.specs.Accounts.{account_front, account_line_with, component_lines_with, list_with, listed_at, selected_line, session_front, session_lines_with};
-ghost use Rattle.run_lines.specs.RunOutput.{OutputsUnless};
-ghost use Rattle.run_lines.specs.Causes.{AppendsPart, is_write_fault};
-ghost use Rattle.run_lines.specs.declared.columns.AccountOwner.TheVariants.{Init as OfInit, Component as OfComponent, Session as OfSession};
+ghost use Rattle.run_lines.specs.Accounts.{listed_at, selected_line};
+ghost use Rattle.run_devices.specs.RunOutput.{AppendsPart, OutputsUnless};
+ghost use Rattle.run_lines.specs.Causes.{is_write_fault};
 ghost use Rattle.run_lines.specs.declared.run_fault.RunFault.TheVariants.{WriteFault};
 
 use crate::account_sums::sum_all;
 use crate::account_text::{add_amounts, add_quotas};
-use crate::columns::{AccountOwner, Columns, NoColumns};
-use crate::device::{DeviceFault, Sink};
 use crate::run_fault::RunFault;
-use crate::write_buffer::WriteBuffer;
 use arrayvec::ArrayVec;
 use core_calls::{Quotas, Reserve};
 use list_parser::StartList;
 use pd_core::{Core, Router};
+use run_devices::{DeviceFault, Sink, WriteBuffer};
 use text_codec::{add, add_number};
 
 /// Room for the part of a line after the name.
@@ -51,61 +48,38 @@ pub fn write_accounts<R: Router + Drop, K: Sink>(
     ensures before { K.has_failed writer.old ≡ true →
         (result ≡ Err WriteFault) × (writer.new ≡ writer.old) }
 {
-    write_columns(core, list, &NoColumns, writer)
-}
-
-/// Writes the account list with columns in addition to use and limits. All else, including the fault, is as in
-/// `write_accounts`.
-pub fn write_columns<R: Router + Drop, C: Columns, K: Sink>(
-    core: &Core<R>,
-    list: &StartList,
-    columns: &C,
-    writer: &mut K,
-) -> Result<(), RunFault>
-    requires listed { core.now.entries ≡ entries_of (start_list_of list.now) }
-    ensures told { OnOk result (Appends (K.contents writer.old) (K.contents writer.new)
-        (list_with list.now core.now (C.beside columns.now list.now))) }
-    ensures fault { IfErr result (λ fault. fault ≡ WriteFault) }
-    ensures part { OnErr result (AppendsPart (K.contents writer.old) (K.contents writer.new)
-        (list_with list.now core.now (C.beside columns.now list.now))) }
-    ensures writing { K.has_failed writer.new ≡ is_write_fault result }
-    ensures before { K.has_failed writer.old ≡ true →
-        (result ≡ Err WriteFault) × (writer.new ≡ writer.old) }
-{
     if writer.failed() {
         return Err(RunFault::WriteFault);
     }
-    match write_list(core, list, columns, writer) {
+    match write_list(core, list, writer) {
         Ok(()) => Ok(()),
         Err(DeviceFault) => Err(RunFault::WriteFault),
     }
 }
 
 // Gathers the account list and writes it out.
-fn write_list<R: Router + Drop, C: Columns, K: Sink>(
+fn write_list<R: Router + Drop, K: Sink>(
     core: &Core<R>,
     list: &StartList,
-    columns: &C,
     sink: &mut K,
 ) -> Result<(), DeviceFault>
     requires listed { core.now.entries ≡ entries_of (start_list_of list.now) }
     requires writes { K.has_failed sink.old ≡ false }
     ensures told { OnOk result (Appends (K.contents sink.old) (K.contents sink.new)
-        (list_with list.now core.now (C.beside columns.now list.now))) }
+        (account_list_text list.now core.now)) }
     ensures part { OnErr result (AppendsPart (K.contents sink.old) (K.contents sink.new)
-        (list_with list.now core.now (C.beside columns.now list.now))) }
+        (account_list_text list.now core.now)) }
     ensures failing { K.has_failed sink.new ≡ is_err result }
 {
     let mut gathered = WriteBuffer::new();
-    put_list(core, list, columns, &mut gathered, sink)?;
+    put_list(core, list, &mut gathered, sink)?;
     gathered.flush(sink)
 }
 
 // Gathers the account list.
-fn put_list<R: Router + Drop, C: Columns, K: Sink>(
+fn put_list<R: Router + Drop, K: Sink>(
     core: &Core<R>,
     list: &StartList,
-    columns: &C,
     gathered: &mut WriteBuffer,
     sink: &mut K,
 ) -> Result<(), DeviceFault>
@@ -113,38 +87,19 @@ fn put_list<R: Router + Drop, C: Columns, K: Sink>(
     requires writes { K.has_failed sink.old ≡ false }
     ensures told { OutputsUnless result (K.contents sink.old) gathered.old
         (K.contents sink.new) gathered.new
-        (list_with list.now core.now (C.beside columns.now list.now)) }
-    ensures failing { K.has_failed sink.new ≡ is_err result }
-{
-    put_init(core, list, columns, gathered, sink)?;
-    put_components(core, list, columns, gathered, sink)?;
-    put_sessions(core, list, columns, gathered, sink)?;
-    put_total(core, list, gathered, sink)
-}
-
-// Gathers the line of the machine's init.
-fn put_init<R: Router + Drop, C: Columns, K: Sink>(
-    core: &Core<R>,
-    list: &StartList,
-    columns: &C,
-    gathered: &mut WriteBuffer,
-    sink: &mut K,
-) -> Result<(), DeviceFault>
-    requires { K.has_failed sink.old ≡ false }
-    ensures told { OutputsUnless result (K.contents sink.old) gathered.old
-        (K.contents sink.new) gathered.new
-        (account_line_with (codes "init") (machine_init core.now) (C.beside columns.now list.now OfInit)) }
+        (account_list_text list.now core.now) }
     ensures failing { K.has_failed sink.new ≡ is_err result }
 {
     put_account(b"init", core.init_account(), gathered, sink)?;
-    put_beside(list, columns, AccountOwner::Init, gathered, sink)
+    put_components(core, list, gathered, sink)?;
+    put_sessions(core, list, gathered, sink)?;
+    put_total(core, list, gathered, sink)
 }
 
 // Gathers the lines of each component.
-fn put_components<R: Router + Drop, C: Columns, K: Sink>(
+fn put_components<R: Router + Drop, K: Sink>(
     core: &Core<R>,
     list: &StartList,
-    columns: &C,
     gathered: &mut WriteBuffer,
     sink: &mut K,
 ) -> Result<(), DeviceFault>
@@ -153,21 +108,20 @@ fn put_components<R: Router + Drop, C: Columns, K: Sink>(
     ensures told { OutputsUnless result (K.contents sink.old) gathered.old
         (K.contents sink.new) gathered.new
         (flat_map (λ e.
-        component_lines_with e.1 (account_at core.now e.0) (state_at core.now.states e.0).reserve
-        (C.beside columns.now list.now (OfComponent e.0))) (enumerate_from 0 list.now.entries)) }
+        component_lines e.1 (account_at core.now e.0) (state_at core.now.states e.0).reserve)
+        (enumerate_from 0 list.now.entries)) }
     ensures failing { K.has_failed sink.new ≡ is_err result }
 {
     for component in 0..core.count() {
-        put_component(core, list, columns, component, gathered, sink)?;
+        put_component(core, list, component, gathered, sink)?;
     }
     Ok(())
 }
 
 // Gathers the line of a component's account, and that of its reserve if it is printed.
-fn put_component<R: Router + Drop, C: Columns, K: Sink>(
+fn put_component<R: Router + Drop, K: Sink>(
     core: &Core<R>,
     list: &StartList,
-    columns: &C,
     component: usize,
     gathered: &mut WriteBuffer,
     sink: &mut K,
@@ -177,20 +131,12 @@ fn put_component<R: Router + Drop, C: Columns, K: Sink>(
     requires writes { K.has_failed sink.old ≡ false }
     ensures told { OutputsUnless result (K.contents sink.old) gathered.old
         (K.contents sink.new) gathered.new
-        (component_lines_with (listed_at list.now component) (account_at core.now component)
-        (state_at core.now.states component).reserve
-        (C.beside columns.now list.now (OfComponent component))) }
+        (component_lines (listed_at list.now component) (account_at core.now component)
+        (state_at core.now.states component).reserve) }
     ensures failing { K.has_failed sink.new ≡ is_err result }
 {
     let name = list.name(component);
     put_account(name, core.account(component), gathered, sink)?;
-    put_beside(
-        list,
-        columns,
-        AccountOwner::Component(component),
-        gathered,
-        sink,
-    )?;
     let reserve = core.reserve(component);
     if list.gives_reserve(component) || reserve.ram.0 > 0 || reserve.caps.0 > 0 {
         put_reserve(name, reserve, gathered, sink)
@@ -200,10 +146,9 @@ fn put_component<R: Router + Drop, C: Columns, K: Sink>(
 }
 
 // Gathers the lines of each component's open sessions.
-fn put_sessions<R: Router + Drop, C: Columns, K: Sink>(
+fn put_sessions<R: Router + Drop, K: Sink>(
     core: &Core<R>,
     list: &StartList,
-    columns: &C,
     gathered: &mut WriteBuffer,
     sink: &mut K,
 ) -> Result<(), DeviceFault>
@@ -211,22 +156,20 @@ fn put_sessions<R: Router + Drop, C: Columns, K: Sink>(
     requires writes { K.has_failed sink.old ≡ false }
     ensures told { OutputsUnless result (K.contents sink.old) gathered.old
         (K.contents sink.new) gathered.new
-        (flat_map (λ e. session_lines_with e.1.path
-        (λ q. C.beside columns.now list.now (OfSession e.0 q)) (state_at core.now.states e.0))
+        (flat_map (λ e. session_lines e.1.path (state_at core.now.states e.0))
         (enumerate_from 0 list.now.entries)) }
     ensures failing { K.has_failed sink.new ≡ is_err result }
 {
     for component in 0..core.count() {
-        put_sessions_of(core, list, columns, component, gathered, sink)?;
+        put_sessions_of(core, list, component, gathered, sink)?;
     }
     Ok(())
 }
 
 // Gathers the lines of a component's open sessions in ascending order of selectors.
-fn put_sessions_of<R: Router + Drop, C: Columns, K: Sink>(
+fn put_sessions_of<R: Router + Drop, K: Sink>(
     core: &Core<R>,
     list: &StartList,
-    columns: &C,
     component: usize,
     gathered: &mut WriteBuffer,
     sink: &mut K,
@@ -236,62 +179,39 @@ fn put_sessions_of<R: Router + Drop, C: Columns, K: Sink>(
     requires writes { K.has_failed sink.old ≡ false }
     ensures told { OutputsUnless result (K.contents sink.old) gathered.old
         (K.contents sink.new) gathered.new
-        (session_lines_with (listed_at list.now component).path
-        (λ q. C.beside columns.now list.now (OfSession component q)) (state_at core.now.states component)) }
+        (session_lines (listed_at list.now component).path (state_at core.now.states component)) }
     ensures failing { K.has_failed sink.new ≡ is_err result }
 {
     for selector in 0..=core.last_selector(component) {
-        let named = ComponentSelector {
-            component,
-            selector,
-        };
-        put_selected(core, list, columns, named, gathered, sink)?;
+        put_selected(core, list, component, selector, gathered, sink)?;
     }
     Ok(())
 }
 
-// A selector of the component at a place of the list.
-#[derive(Clone, Copy)]
-struct ComponentSelector {
-    component: usize,
-    selector: u64,
-}
-
 // Gathers the line of the object that a selector names, if it is a session.
-fn put_selected<R: Router + Drop, C: Columns, K: Sink>(
+fn put_selected<R: Router + Drop, K: Sink>(
     core: &Core<R>,
     list: &StartList,
-    columns: &C,
-    named: ComponentSelector,
+    component: usize,
+    selector: u64,
     gathered: &mut WriteBuffer,
     sink: &mut K,
 ) -> Result<(), DeviceFault>
     requires listed { core.now.entries ≡ entries_of (start_list_of list.now) }
-    requires component { named.component < length core.now.entries }
+    requires component { component < length core.now.entries }
     requires writes { K.has_failed sink.old ≡ false }
     ensures told { OutputsUnless result (K.contents sink.old) gathered.old
         (K.contents sink.new) gathered.new
-        (selected_line (listed_at list.now named.component).path
-        (λ q. C.beside columns.now list.now (OfSession named.component q))
-        (state_at core.now.states named.component) named.selector) }
+        (selected_line (listed_at list.now component).path (state_at core.now.states component) selector) }
     ensures failing { K.has_failed sink.new ≡ is_err result }
 {
-    let ComponentSelector {
-        component,
-        selector,
-    } = named;
     let Some(account) = core.session_account(component, selector) else {
         return Ok(());
     };
-    put_session(list.name(component), selector, account, gathered, sink)?;
-    let owner = AccountOwner::Session {
-        component,
-        selector,
-    };
-    put_beside(list, columns, owner, gathered, sink)
+    put_session(list.name(component), selector, account, gathered, sink)
 }
 
-// Gathers the front of the line of a component's account by its name.
+// Gathers the line of an account by the name of what has it.
 fn put_account<K: Sink>(
     name: &[u8],
     account: Quotas,
@@ -301,12 +221,13 @@ fn put_account<K: Sink>(
     requires { K.has_failed sink.old ≡ false }
     ensures told { OutputsUnless result (K.contents sink.old) gathered.old
         (K.contents sink.new) gathered.new
-        (account_front name.now (quotas_account account)) }
+        (account_line name.now (quotas_account account)) }
     ensures failing { K.has_failed sink.new ≡ is_err result }
 {
     let mut rest: ArrayVec<u8, LONGEST_REST> = ArrayVec::new();
     add(&mut rest, b" ");
     add_quotas(&mut rest, account);
+    add(&mut rest, b"\n");
     put_named(b"account ", name, rest.as_slice(), gathered, sink)
 }
 
@@ -330,7 +251,7 @@ fn put_reserve<K: Sink>(
     put_named(b"reserve ", name, rest.as_slice(), gathered, sink)
 }
 
-// Gathers the front of the line of a session's account by its client's name and its selector.
+// Gathers the line of a session's account by its client's name and its selector.
 fn put_session<K: Sink>(
     name: &[u8],
     selector: u64,
@@ -341,7 +262,7 @@ fn put_session<K: Sink>(
     requires { K.has_failed sink.old ≡ false }
     ensures told { OutputsUnless result (K.contents sink.old) gathered.old
         (K.contents sink.new) gathered.new
-        (session_front name.now selector (quotas_account account)) }
+        (session_line name.now selector (quotas_account account)) }
     ensures failing { K.has_failed sink.new ≡ is_err result }
 {
     let mut rest: ArrayVec<u8, LONGEST_REST> = ArrayVec::new();
@@ -349,25 +270,8 @@ fn put_session<K: Sink>(
     add_number(&mut rest, selector);
     add(&mut rest, b" ");
     add_quotas(&mut rest, account);
+    add(&mut rest, b"\n");
     put_named(b"session ", name, rest.as_slice(), gathered, sink)
-}
-
-// Gathers the end of an account's line: the columns in addition to use and limits.
-fn put_beside<C: Columns, K: Sink>(
-    list: &StartList,
-    columns: &C,
-    owner: AccountOwner,
-    gathered: &mut WriteBuffer,
-    sink: &mut K,
-) -> Result<(), DeviceFault>
-    requires { K.has_failed sink.old ≡ false }
-    ensures told { OutputsUnless result (K.contents sink.old) gathered.old
-        (K.contents sink.new) gathered.new
-        (C.beside columns.now list.now owner ++ 10 ∷ []) }
-    ensures failing { K.has_failed sink.new ≡ is_err result }
-{
-    columns.put(list, owner, gathered, sink)?;
-    gathered.put(sink, b"\n")
 }
 
 // Gathers a text in its three parts.

@@ -4,7 +4,7 @@ ghost use Rattle.own_model.specs.Limits.{ram_limits, caps_limits};
 ghost use Rattle.own_model.specs.Transcript.{state_at};
 ghost use Rattle.own_model.specs.StartList.{init_at};
 ghost use Rattle.own_model.specs.World.{all_ram, all_caps};
-ghost use Rattle.pd_core.specs.Answer.{quotas_account};
+ghost use Rattle.core_calls.specs.Quotas.{quotas_account};
 ghost use Rattle.core_calls.specs.Quotas.{reserve_amounts};
 
 use core_calls::{Quotas, Reserve};
@@ -20,7 +20,7 @@ pub struct Sums {
 
 impl Sums {
     ghost use Rattle.std.specs.Prelude.{◌≡◌, ◌+◌, ◌*◌, ◌^◌, ◌<◌, ◌≤◌};
-    ghost use Rattle.pd_core.specs.Answer.{quotas_account};
+    ghost use Rattle.core_calls.specs.Quotas.{quotas_account};
     ghost use Rattle.core_calls.specs.Quotas.{reserve_amounts};
 
     // The limits of one account.

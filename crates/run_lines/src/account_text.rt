@@ -2,7 +2,7 @@
 ghost use Rattle.std.specs.Prelude.{◌≡◌, ◌+◌, ◌≤◌, ◌++◌};
 ghost use Rattle.arrayvec.specs.ArrayVec.{array_vec_len};
 ghost use Rattle.own_model.specs.Reply.{amounts_text, quota_text, share_text};
-ghost use Rattle.pd_core.specs.Answer.{quotas_account};
+ghost use Rattle.core_calls.specs.Quotas.{quotas_account};
 
 use arrayvec::ArrayVec;
 use core_calls::Quotas;
@@ -10,7 +10,7 @@ use text_codec::{add, add_number};
 use trade_base::{Caps, Ram};
 
 /// Appends use and limit of RAM in bytes and of capabilities.
-pub fn add_quotas<const N: usize>(text: &mut ArrayVec<u8, N>, quotas: Quotas)
+pub(crate) fn add_quotas<const N: usize>(text: &mut ArrayVec<u8, N>, quotas: Quotas)
     requires { array_vec_len text.old + 100 ≤ N }
     ensures items { text.new.items ≡ text.old.items ++ quota_text (quotas_account quotas) }
     ensures len { array_vec_len text.new ≤ array_vec_len text.old + 100 }
@@ -26,7 +26,7 @@ pub fn add_quotas<const N: usize>(text: &mut ArrayVec<u8, N>, quotas: Quotas)
 }
 
 /// Appends an amount of RAM in bytes and a number of capabilities.
-pub fn add_amounts<const N: usize>(text: &mut ArrayVec<u8, N>, ram: Ram, caps: Caps)
+pub(crate) fn add_amounts<const N: usize>(text: &mut ArrayVec<u8, N>, ram: Ram, caps: Caps)
     requires { array_vec_len text.old + 50 ≤ N }
     ensures items { text.new.items ≡ text.old.items ++ amounts_text
         (record { ram = ram.0; caps = caps.0 }) }

@@ -6,11 +6,10 @@ ghost use Rattle.run_lines.specs.Next.{OutputsWork};
 ghost use Rattle.run_lines.specs.LineRuns.{HandlesLine};
 ghost use Rattle.run_lines.specs.declared.line_run_fault.LineRunFault.{LineRunFault as Fault};
 
-use crate::device::Sink;
 use crate::line_run_fault::LineRunFault;
-use crate::write_buffer::WriteBuffer;
 use line_grammar::LONGEST_LINE;
 use pd_core::{Core, Router};
+use run_devices::{Sink, WriteBuffer};
 
 /// A handler of a scenario's lines on a machine: it parses each line, carries its call out, and gathers its output.
 pub trait LineHandler {

@@ -6,12 +6,12 @@ ghost use Rattle.run_lines.specs.Faults.{Fails, is_write_fault};
 ghost use Rattle.run_lines.specs.Next.{AllWork, OutputsWork};
 ghost use Rattle.run_lines.specs.LineRuns.{PlaysAll, HandlesLine, HandlesNext, ReadsOn, more_unless_stopped, point};
 
-use crate::device::{Sink, Source};
 use crate::line_handler::LineHandler;
 use crate::line_run_fault::LineRunFault;
 use crate::lines::{Buffers, NextLine};
 use line_grammar::LONGEST_LINE;
 use pd_core::{Core, Router};
+use run_devices::{Sink, Source};
 
 /// The most lines that a scenario may have.
 pub const MAX_LINES: u64 = 1_000_000;

@@ -3,9 +3,9 @@ ghost use Rattle.std.specs.Prelude.{◌≡◌};
 ghost use Rattle.run_lines.specs.Faults.{line_fault, play_fault};
 ghost use Rattle.run_lines.specs.declared.line_run_fault.LineRunFault.TheVariants.{NoMemory as NoRoom, WriteFault as Unwritten};
 
-use crate::device::DeviceFault;
 use crate::lines::LineFault;
 use crate::run_fault::RunFault;
+use run_devices::DeviceFault;
 use std::alloc::{AllocError, AllocFailed};
 use thiserror::Error;
 

@@ -1,13 +1,12 @@
 //! The lines of a source, one after another.
 ghost use Rattle.std.specs.Prelude.{◌≡◌, ◌<◌, ◌≤◌, [], length, OnOk};
-ghost use Rattle.run_lines.specs.Lines.{line_length, to_come};
+ghost use Rattle.run_devices.specs.Lines.{line_length, to_come};
 ghost use Rattle.run_lines.specs.Next.{BeginsIn, BothWork, FailsAs, FindsLine, GrowsOrStops, OutputsOrStops};
 ghost use Rattle.run_lines.specs.Reach.{ReadsBehind, longest_ahead, reach};
 
-use crate::device::{DeviceFault, Sink, Source};
 use crate::read_buffer::ReadBuffer;
-use crate::write_buffer::WriteBuffer;
 use line_grammar::LONGEST_LINE;
+use run_devices::{DeviceFault, Sink, Source, WriteBuffer};
 
 /// The longest line that is read to its end, in bytes and without its newline.
 const LONGEST_READ: usize = 1_048_576;

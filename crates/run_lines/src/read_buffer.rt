@@ -1,10 +1,9 @@
 //! The buffer of bytes that were read ahead.
 ghost use Rattle.std.specs.Prelude.{◌≡◌, ℕ, ◌+◌, ◌-◌, ◌<◌, ◌≤◌, List, [], false, length, drop, slice_range, is_err};
-ghost use Rattle.run_lines.specs.Lines.{is_newline, line_length, GrowsUnless};
+ghost use Rattle.run_devices.specs.Lines.{is_newline, line_length, GrowsUnless};
 
-use crate::device::{DeviceFault, Source};
-use crate::write_buffer::WriteBuffer;
 use line_grammar::LONGEST_LINE;
+use run_devices::{DeviceFault, Source, WriteBuffer};
 use std::marker::Model;
 use text_codec::find_byte;
 
@@ -59,7 +58,7 @@ impl ReadBuffer {
 
     /// Returns the number of bytes before the first newline, or of all bytes if there is none. The first `seen` bytes are
     /// known to have no newline.
-    #[tactic(auto, using(crate::proofs::LineLemmas::line_lengths))]
+    #[tactic(auto, using(run_devices::proofs::LineLemmas::line_lengths))]
     pub fn line_length(&self, seen: usize) -> usize
         requires { seen ≤ line_length self.now }
         ensures value { result ≡ line_length self.now }
@@ -69,7 +68,7 @@ impl ReadBuffer {
     }
 
     /// Removes the first `count` bytes, or all if there are fewer.
-    #[tactic(auto, using(crate::proofs::BlockLemmas::front_passed))]
+    #[tactic(auto, using(run_devices::proofs::BlockLemmas::front_passed))]
     pub fn pass(&mut self, count: usize)
         ensures { self.new ≡ drop count self.old }
     {
@@ -123,7 +122,7 @@ fn move_to_front(bytes: &mut [u8; CAPACITY], start: usize, end: usize) -> (usize
 }
 
 // The number of bytes before the first newline, or of all bytes if there is none.
-#[tactic(auto, using(crate::proofs::LineLemmas::line_lengths))]
+#[tactic(auto, using(run_devices::proofs::LineLemmas::line_lengths))]
 fn line_length_of(bytes: &[u8]) -> usize
     ensures value { result ≡ line_length bytes.now }
     ensures fits { result ≤ length bytes.now }

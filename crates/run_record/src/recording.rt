@@ -13,7 +13,7 @@ use crate::recording_run::RecordingRun;
 use init_core::boot;
 use line_steps::{RunPosition, UnreadLine};
 use list_parser::{BootFault, StartList};
-use pd_core::{Core, Router};
+use run_lines::{Core, Router};
 use run_scenario::CallBuffers;
 use std::alloc::Global;
 

@@ -23,8 +23,7 @@ use crate::recording::Recording;
 use line_names::NameTable;
 use line_steps::{ResolvedLine, RunPosition, ScenarioCall, UnreadLine, UnreadReason};
 use list_parser::StartList;
-use pd_core::{Core, Router};
-use run_lines::{LineAnswer, LineDispatcher};
+use run_lines::{Core, LineAnswer, LineDispatcher, Router};
 use run_scenario::{CallBuffers, LineStep, answer_in, move_past, take_step};
 use std::alloc::{AllocError, Global};
 

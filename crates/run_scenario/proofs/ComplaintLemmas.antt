@@ -4,13 +4,12 @@ use Rattle.std.proofs.lemmas.Grind.{flat_map-append}
 use Rattle.std.proofs.lemmas.List.{drop_all}
 use Rattle.std.specs.Io.KnownBytes.{Appends}
 use Rattle.std.specs.List.{flat_map}
-use Rattle.run_lines.specs.RunOutput.{OutputsPart, OutputsUnless, Tells}
-use Rattle.run_lines.proofs.GatheredLemmas.{Tells-front, Tells-more, told_err, told_more}
+use Rattle.run_devices.specs.RunOutput.{AppendsPart, OutputsPart, OutputsUnless, Tells}
+use Rattle.run_devices.proofs.GatheredLemmas.{Tells-front, Tells-more, told_err, told_more}
 use Rattle.view_diagnostics.specs.Diagnostics.{DiagnosticsAt, SubjectAt, back, diagnostic, front, shown}
 use Rattle.view_diagnostics.specs.declared.diagnostics.DiagnosticForm.{DiagnosticForm}
 use Rattle.view_diagnostics.specs.declared.diagnostics.Severity.{Severity}
 use Rattle.view_diagnostics.specs.declared.place.FilePlace.{FilePlace}
-use Rattle.run_lines.specs.Causes.{AppendsPart}
 use Rattle.run_scenario.specs.Complaints.{WritesUnless, message_character}
 
 -- a text of which a write failed

@@ -8,9 +8,9 @@ use Rattle.own_model.specs.World.{World, world_running}
 use Rattle.run_lines.specs.Answer.{IsAnswer}
 use Rattle.run_lines.specs.Answered.{after_all}
 use Rattle.run_lines.specs.Faults.{Fails}
-use Rattle.run_lines.specs.RunOutput.{Tells, OutputsUnless}
+use Rattle.run_devices.specs.RunOutput.{Tells, OutputsUnless}
 use Rattle.run_lines.specs.declared.line_run_fault.LineRunFault.{LineRunFault}
-use Rattle.run_lines.proofs.GatheredLemmas.{Tells-none}
+use Rattle.run_devices.proofs.GatheredLemmas.{Tells-none}
 use Rattle.run_lines.proofs.ToldLemmas.{said_none, world_running-append}
 use Rattle.run_scenario.specs.Faults.{takes_memory}
 use Rattle.run_scenario.specs.CallAnswers.{AnswersIn, ReportsCalls, IsAnsweredCall, IsAnsweredAs, answer_of}

@@ -9,7 +9,7 @@ use Rattle.own_model.specs.StartList.{Entry}
 use Rattle.own_model.specs.World.{World}
 use Rattle.run_lines.specs.Answered.{after_all}
 use Rattle.run_lines.specs.Faults.{Fails, is_write_fault}
-use Rattle.run_lines.specs.RunOutput.{OutputsUnless}
+use Rattle.run_devices.specs.RunOutput.{OutputsUnless}
 use Rattle.run_lines.specs.LineRuns.{EndsAs, EndsFor, Continues, PlaysAll as PlaysLines, HandlesLine}
 use Rattle.run_lines.specs.declared.line_run_fault.LineRunFault.{LineRunFault}
 use Rattle.run_lines.specs.declared.line_run_fault.LineRunFault.TheVariants.{ReadFault, WriteFault, TooManyLines, NoMemory}

@@ -5,7 +5,7 @@ use Rattle.own_model.specs.World.{World}
 use Rattle.line_steps.specs.ResolvedLines.{ResolvedLine}
 use Rattle.line_steps.specs.RunPosition.{RunPosition}
 use Rattle.run_lines.specs.Answered.{after_all}
-use Rattle.run_lines.proofs.GatheredLemmas.{Appends-more}
+use Rattle.run_devices.proofs.GatheredLemmas.{Appends-more}
 use Rattle.run_lines.proofs.ToldLemmas.{left_by_both, left_none}
 use Rattle.run_scenario.specs.Judging.{Awaited, awaited_after, awaited_behind}
 use Rattle.run_scenario.specs.LineSteps.{call_of, left_behind, next_position, resolved_at, position_behind, steps_of}

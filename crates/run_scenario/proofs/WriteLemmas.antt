@@ -6,11 +6,11 @@ use Rattle.own_model.specs.Listed.{Listed}
 use Rattle.own_model.specs.LinesOfName.{said_by}
 use Rattle.own_model.specs.Text.{lines_of}
 use Rattle.own_model.specs.World.{World}
-use Rattle.run_lines.specs.RunOutput.{Tells, OutputsPart}
+use Rattle.run_devices.specs.RunOutput.{AppendsPart, Tells, OutputsPart}
 use Rattle.run_lines.specs.Machine.{world_of}
-use Rattle.run_lines.specs.Causes.{HasCause, AppendsPart}
+use Rattle.run_lines.specs.Causes.{HasCause}
 use Rattle.run_lines.proofs.CauseLemmas.{cause_unread, cause_unwritten, within_bounds}
-use Rattle.run_lines.proofs.GatheredLemmas.{Appends-more, Tells-gathered}
+use Rattle.run_devices.proofs.GatheredLemmas.{Appends-more, Tells-gathered}
 use Rattle.run_lines.proofs.ToldLemmas.{left_none}
 use Rattle.run_lines.proofs.PlayLemmas.{none_readable}
 use Rattle.run_scenario.proofs.PlayLemmas.{cut_behind}

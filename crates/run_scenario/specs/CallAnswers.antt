@@ -7,7 +7,7 @@ use Rattle.own_model.specs.World.{World}
 use Rattle.line_grammar.specs.Read.{IsReadAs}
 use Rattle.run_lines.specs.Answer.{IsAnswer}
 use Rattle.run_lines.specs.Answered.{after_all}
-use Rattle.run_lines.specs.RunOutput.{OutputsUnless}
+use Rattle.run_devices.specs.RunOutput.{OutputsUnless}
 use Rattle.run_lines.specs.declared.line_answer.LineAnswer.{LineAnswer}
 use Rattle.run_lines.specs.declared.line_run_fault.LineRunFault.{LineRunFault}
 use Rattle.line_steps.specs.ResolvedLines.{ResolvedLine}

@@ -6,7 +6,7 @@ use Rattle.std.specs.Option.{option_map}
 use Rattle.own_model.specs.Text.{hex_bytes}
 use Rattle.core_calls.specs.declared.outcome.Outcome.{Outcome}
 use Rattle.core_calls.specs.declared.outcome.Outcome.TheVariants.{Bytes}
-use Rattle.run_lines.specs.Causes.{AppendsPart}
+use Rattle.run_devices.specs.RunOutput.{AppendsPart}
 use Rattle.run_scenario.specs.Texts.{shown_text}
 
 -- all of a text is written, or a part of it, from the front, if there was a fault

@@ -6,7 +6,7 @@ use Rattle.line_steps.specs.RunPosition.{RunPosition, arrived, crosses, passed}
 use Rattle.own_model.specs.World.{World}
 use Rattle.run_lines.specs.Answered.{after_all}
 use Rattle.run_lines.specs.Faults.{Fails}
-use Rattle.run_lines.specs.Lines.{AreReadable}
+use Rattle.run_devices.specs.Lines.{AreReadable}
 use Rattle.run_lines.specs.LineRuns.{EndsFor, WritesOutput}
 use Rattle.run_lines.specs.declared.line_run_fault.LineRunFault.{LineRunFault}
 use Rattle.run_lines.specs.declared.line_run_fault.LineRunFault.TheVariants.{ReadFault, WriteFault, TooManyLines, NoMemory}

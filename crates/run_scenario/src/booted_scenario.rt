@@ -2,8 +2,7 @@
 
 use crate::line_step::CallBuffers;
 use crate::scenario_state::ScenarioState;
-use pd_core::{Core, Router};
-use run_lines::LineDispatcher;
+use run_lines::{Core, LineDispatcher, Router};
 
 /// A machine that has booted, the run on it, and the state of the run.
 #[derive(Drop)]

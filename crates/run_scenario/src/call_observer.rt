@@ -3,14 +3,13 @@ ghost use Rattle.std.specs.Prelude.{◌≡◌, ◌∷◌, ◌++◌, ℕ, Bool, L
 ghost use Rattle.own_model.specs.Listed.{Listed, start_list_of};
 ghost use Rattle.own_model.specs.StartList.{entries_of};
 ghost use Rattle.own_model.specs.World.{World};
-ghost use Rattle.run_lines.specs.RunOutput.{OutputsUnless};
+ghost use Rattle.run_devices.specs.RunOutput.{OutputsUnless};
 ghost use Rattle.line_grammar.specs.Read.{IsReadAs};
 ghost use Rattle.run_lines.specs.Faults.{Fails};
 ghost use Rattle.run_scenario.specs.Observation.{IsAnsweredAfter};
 
 use list_parser::StartList;
-use pd_core::{Core, Router};
-use run_lines::{LineAnswer, LineRunFault, NamedCall, Sink, WriteBuffer};
+use run_lines::{Core, LineAnswer, LineRunFault, NamedCall, Router, Sink, WriteBuffer};
 
 /// A call that was answered.
 #[derive(Clone, Copy)]

@@ -3,7 +3,7 @@ ghost use Rattle.std.specs.Prelude.{◌≡◌, ◌≤◌, ◌∷◌, false, if�
 ghost use Rattle.std.specs.List.{flat_map};
 ghost use Rattle.std.specs.Option.{option_copied, option_map};
 ghost use Rattle.own_model.specs.Text.{hex_bytes};
-ghost use Rattle.run_lines.specs.RunOutput.{OutputsUnless};
+ghost use Rattle.run_devices.specs.RunOutput.{OutputsUnless};
 ghost use Rattle.view_diagnostics.specs.Diagnostics.{diagnostic, shown, subject_at};
 ghost use Rattle.view_diagnostics.specs.declared.diagnostics.Severity.TheVariants.{Error as AnError};
 ghost use Rattle.run_scenario.specs.Complaints.{WritesUnless, are_bytes, bracket_pieces, common, difference, difference_pieces, has_byte, has_bytes, is_data, last_token, log_lines_pieces, reply_pieces, shown_bytes, text_pieces, unknown_pieces};

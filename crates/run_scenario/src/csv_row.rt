@@ -2,8 +2,8 @@
 ghost use Rattle.std.specs.Prelude.{◌≡◌, ◌+◌, ◌≤◌, ◌∷◌, ◌++◌, [], decimal, false, is_err};
 ghost use Rattle.arrayvec.specs.ArrayVec.{array_vec_len};
 ghost use Rattle.csv.specs.Writing.{default_writer, escaped, field_text, fields_text, needs_byte, needs_quotes, quoted};
-ghost use Rattle.pd_core.specs.Answer.{quotas_account};
-ghost use Rattle.run_lines.specs.RunOutput.{OutputsUnless};
+ghost use Rattle.core_calls.specs.Quotas.{quotas_account};
+ghost use Rattle.run_devices.specs.RunOutput.{OutputsUnless};
 ghost use Rattle.run_scenario.specs.Cells.{account_cells, cell_text};
 
 use arrayvec::ArrayVec;

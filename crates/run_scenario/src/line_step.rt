@@ -16,8 +16,9 @@ use crate::call_observer::{CallObserver, ObservedCall};
 use core_calls::Reply;
 use line_steps::{LineBuffers, ResolvedLine, RunPosition, resolve};
 use list_parser::StartList;
-use pd_core::{Core, Router};
-use run_lines::{LineAnswer, LineDispatcher, LineRunFault, NamedCall, Sink, WriteBuffer};
+use run_lines::{
+    Core, LineAnswer, LineDispatcher, LineRunFault, NamedCall, Router, Sink, WriteBuffer,
+};
 use std::alloc::Global;
 use trade_base::NoMemory;
 

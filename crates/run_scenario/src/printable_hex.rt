@@ -4,7 +4,7 @@ ghost use Rattle.std.specs.List.{flat_map, list_all};
 ghost use Rattle.std.specs.Option.{option_map};
 ghost use Rattle.csv.specs.Writing.{default_writer, needs_quotes, quoted};
 ghost use Rattle.own_model.specs.Text.{bytes_of_hex, hex_bytes};
-ghost use Rattle.run_lines.specs.RunOutput.{OutputsUnless};
+ghost use Rattle.run_devices.specs.RunOutput.{OutputsUnless};
 ghost use Rattle.view_diagnostics.specs.Diagnostics.{shown};
 ghost use Rattle.run_scenario.specs.Complaints.{last_token, message_character, shown_bytes};
 ghost use Rattle.run_scenario.specs.Texts.{in_brackets, is_shown, shown_text, character_text, characters_text, written_in};

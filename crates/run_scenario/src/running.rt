@@ -16,8 +16,7 @@ use crate::call_observer::CallObserver;
 use crate::reply_checker::ReplyChecker;
 use crate::scenario_end::ScenarioEnd;
 use crate::scenario_runner::{ScenarioRunner, count};
-use pd_core::{Core, Router};
-use run_lines::{Buffers, DeviceFault, LineRunFault, MAX_LINES, Sink, Source};
+use run_lines::{Buffers, Core, DeviceFault, LineRunFault, MAX_LINES, Router, Sink, Source};
 
 /// Runs each line of a scenario, at most `MAX_LINES`, after writing `front`: answers its call, reports it to the observer, and
 /// compares it with its expectation. All output is written before each read, and at the end. A device that has failed isn't used

@@ -19,9 +19,9 @@ use crate::line_step::{CallBuffers, LineStep, answer_plain, report_call, take_st
 use crate::scenario_state::ScenarioState;
 use line_friendly::plain_call;
 use line_steps::{ResolvedLine, is_skipped};
-use pd_core::{Core, Router};
 use run_lines::{
-    LONGEST_LINE, LineDispatcher, LineHandler, LineRunFault, NamedCall, Sink, WriteBuffer,
+    Core, LONGEST_LINE, LineDispatcher, LineHandler, LineRunFault, NamedCall, Router, Sink,
+    WriteBuffer,
 };
 
 /// Runs lines of the friendly form: answers each call, reports it to an observer, and compares it with its expectation.

@@ -5,7 +5,7 @@ ghost use Rattle.own_model.specs.Listed.{start_list_of};
 ghost use Rattle.own_model.specs.StartList.{entries_of};
 ghost use Rattle.own_model.specs.Transcript.{heard_spoken};
 ghost use Rattle.core_calls.specs.Call.{model_call};
-ghost use Rattle.run_lines.specs.RunOutput.{OutputsUnless};
+ghost use Rattle.run_devices.specs.RunOutput.{OutputsUnless};
 ghost use Rattle.line_grammar.specs.Read.{IsReadAs};
 ghost use Rattle.run_scenario.specs.Said.{caller_by, said_in};
 

@@ -2,11 +2,11 @@
 ghost use Rattle.std.specs.Prelude.{◌≡◌, ◌++◌, ◌∷◌, ◌||◌, [], false, is_err, length, take, IfOk, IfSome, OnOk};
 ghost use Rattle.std.specs.Io.{WritesAtMost};
 ghost use Rattle.std.specs.Io.KnownBytes.{Appends, WriteAppends};
-ghost use Rattle.run_lines.specs.Device.{is_write_failure};
+ghost use Rattle.run_devices.specs.Device.{is_write_failure};
 ghost use Rattle.view_colors.specs.ColorSink.{contents_of, left_of, painted, painted_lines, shade_of, Shows};
 
 use crate::shade::{Lines, Shade};
-use run_lines::{DeviceFault, Sink, write_out};
+use run_devices::{DeviceFault, Sink, write_out};
 use std::alloc::{AllocError, Global};
 
 /// A sink that colours each complete line, and writes the line to another sink; or one that passes bytes on unchanged.

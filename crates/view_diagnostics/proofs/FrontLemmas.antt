@@ -1,7 +1,7 @@
 -- A text that is output piece by piece: what of it is output already, and what is left.
 use Rattle.std.proofs.Common.{◌≡◌, ℕ, List, [], ◌++◌, Option, Result, subst, sym, ◌∙◌, ap, append_assoc, append-nil}
-use Rattle.run_lines.specs.RunOutput.{Tells, OutputsPart, OutputsUnless}
-use Rattle.run_lines.proofs.GatheredLemmas.{Tells-more, Tells-front}
+use Rattle.run_devices.specs.RunOutput.{Tells, OutputsPart, OutputsUnless}
+use Rattle.run_devices.proofs.GatheredLemmas.{Tells-more, Tells-front}
 
 -- a front of a text is output, and this is left of it
 pub record OutputsFront (whole left : List ℕ) (written : Option (List ℕ)) (gathered : List ℕ)

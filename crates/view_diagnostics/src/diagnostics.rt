@@ -1,12 +1,12 @@
 //! The writer of diagnostics.
 ghost use Rattle.std.specs.Prelude.{◌≡◌, [], false, is_err, OnOk};
-ghost use Rattle.run_lines.specs.RunOutput.{OutputsUnless};
+ghost use Rattle.run_devices.specs.RunOutput.{OutputsUnless};
 ghost use Rattle.view_diagnostics.specs.Diagnostics.{back, front, severity_name, shown, subject_at};
 
 use crate::escape::put_text;
 use crate::front::{put_document_front, put_line_front};
 use crate::place::FilePlace;
-use run_lines::{DeviceFault, Sink, WriteBuffer};
+use run_devices::{DeviceFault, Sink, WriteBuffer};
 use std::marker::Model;
 
 /// The severity of a diagnostic.

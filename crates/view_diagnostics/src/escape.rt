@@ -1,11 +1,11 @@
 //! Texts within a diagnostic: one line, without control characters.
 ghost use Rattle.std.specs.Prelude.{◌≡◌, ◌<◌, false, is_err};
 ghost use Rattle.std.specs.Char.{digit_char};
-ghost use Rattle.run_lines.specs.RunOutput.{OutputsUnless};
+ghost use Rattle.run_devices.specs.RunOutput.{OutputsUnless};
 ghost use Rattle.view_diagnostics.specs.Diagnostics.{numbered, shown, shown_character, shown_characters};
 
 use crate::diagnostics::DiagnosticForm;
-use run_lines::{DeviceFault, Sink, WriteBuffer};
+use run_devices::{DeviceFault, Sink, WriteBuffer};
 
 /// Gathers a text on one line. Bytes that are not UTF-8 become U+FFFD. Control characters, and characters that some readers take
 /// as the end of a line, become escapes. In JSON `"` and `\` become escapes too. The error is a failed write.

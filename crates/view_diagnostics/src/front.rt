@@ -1,13 +1,13 @@
 //! What precedes the message of a diagnostic.
 ghost use Rattle.std.specs.Prelude.{◌≡◌, ◌++◌, decimal, false, is_err};
-ghost use Rattle.run_lines.specs.RunOutput.{OutputsUnless};
+ghost use Rattle.run_devices.specs.RunOutput.{OutputsUnless};
 ghost use Rattle.view_diagnostics.specs.Diagnostics.{after_colon, document_front, file_value, line_front, number_value, place_text};
 
 use crate::diagnostics::{DiagnosticForm, Severity};
 use crate::escape::put_text;
 use crate::place::FilePlace;
 use itoa::Buffer;
-use run_lines::{DeviceFault, Sink, WriteBuffer};
+use run_devices::{DeviceFault, Sink, WriteBuffer};
 
 /// Gathers `FILE:LINE:COLUMN: SEVERITY: `. The error is a failed write.
 pub(crate) fn put_line_front<K: Sink>(

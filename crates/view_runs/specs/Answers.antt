@@ -5,7 +5,7 @@ use Rattle.own_model.specs.Transcript.{heard}
 use Rattle.own_model.specs.World.{World, world_running}
 use Rattle.run_exchanges.specs.Exchange.{Exchange}
 use Rattle.run_lines.specs.Answer.{answered_name, answered_reply}
-use Rattle.run_lines.specs.Lines.{AreReadable}
+use Rattle.run_devices.specs.Lines.{AreReadable}
 use Rattle.run_lines.specs.LineRuns.{EndsFor}
 use Rattle.run_scenario.specs.RunCalls.{calls_answered}
 use Rattle.run_scenario.specs.ScenarioRuns.{most_lines}

@@ -7,9 +7,9 @@ use Rattle.own_model.specs.Text.{lines_of}
 use Rattle.own_model.specs.Transcript.{transcript_after}
 use Rattle.own_model.specs.World.{World}
 use Rattle.run_lines.specs.Answered.{after_all}
-use Rattle.run_lines.specs.Lines.{AreReadable}
+use Rattle.run_devices.specs.Lines.{AreReadable}
 use Rattle.run_lines.specs.Machine.{accounts_for, world_of}
-use Rattle.run_lines.specs.Causes.{AppendsPart}
+use Rattle.run_devices.specs.RunOutput.{AppendsPart}
 use Rattle.run_scenario.specs.RunCalls.{calls_of_steps, engine_text, text_of_steps}
 use Rattle.run_scenario.specs.Writes.{transcript_of}
 use Rattle.run_lines.specs.LineRuns.{EndsFor}

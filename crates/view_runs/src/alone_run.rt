@@ -8,7 +8,7 @@ ghost use Rattle.own_model.specs.StartList.{Boots, entries_of};
 ghost use Rattle.list_parser.specs.Quota.{quota_fault};
 ghost use Rattle.list_parser.specs.declared.fault.BootFault.TheVariants.{NoMemory};
 ghost use Rattle.run_lines.specs.Answer.{answer_text};
-ghost use Rattle.run_lines.specs.RunOutput.{OutputsUnless};
+ghost use Rattle.run_devices.specs.RunOutput.{OutputsUnless};
 ghost use Rattle.line_grammar.specs.Read.{IsReadAs};
 ghost use Rattle.run_lines.specs.Causes.{HasCause};
 ghost use Rattle.run_scenario.specs.Faults.{fault_before, unplayed};
@@ -28,9 +28,9 @@ use arrayvec::ArrayVec;
 use core_calls::Reply;
 use init_core::boot;
 use list_parser::{BootFault, StartList};
-use pd_core::{Core, Router};
 use run_lines::{
-    DeviceFault, LineAnswer, LineDispatcher, LineRunFault, MAX_LINES, Sink, Source, WriteBuffer,
+    Core, DeviceFault, LineAnswer, LineDispatcher, LineRunFault, MAX_LINES, Router, Sink, Source,
+    WriteBuffer,
 };
 use run_scenario::{
     CallBuffers, CallObserver, ObservedCall, ScenarioEnd, ScenarioInput, ScenarioRunner,
@@ -74,7 +74,7 @@ impl AloneComparison {
     ghost use Rattle.run_scenario.specs.Writes.{IsWrittenBy};
 
     /// Writes how many lines a component of this name has, and whether their answers are the same. An error is a failed write.
-    #[tactic(auto, using(run_lines::proofs::GatheredLemmas::told_in_part))]
+    #[tactic(auto, using(run_devices::proofs::GatheredLemmas::told_in_part))]
     pub fn write_sum<K: Sink>(self, name: &[u8], writer: &mut K) -> Result<(), LineRunFault>
         ensures written { self.difference ≡ None →
             IsWrittenBy result (K.contents writer.old) (K.contents writer.new)

@@ -20,9 +20,10 @@ ghost use Rattle.view_diagnostics.specs.Diagnostics.{subject_at};
 use core_calls::Answer;
 use init_core::boot;
 use list_parser::{BootFault, StartList};
-use pd_core::{Core, Router};
 use run_exchanges::Exchange;
-use run_lines::{LineDispatcher, LineRunFault, MAX_LINES, NamedCall, Sink, Source, WriteBuffer};
+use run_lines::{
+    Core, LineDispatcher, LineRunFault, MAX_LINES, NamedCall, Router, Sink, Source, WriteBuffer,
+};
 use run_scenario::{
     BootedScenario, CallBuffers, CallObserver, ObservedCall, ScenarioEnd, ScenarioInput,
     ScenarioRunner, ScenarioState, play as play_lines, said_in,

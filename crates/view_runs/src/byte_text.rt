@@ -3,7 +3,7 @@ ghost use Rattle.std.specs.Prelude.{◌≡◌, [], false, is_err};
 ghost use Rattle.std.specs.Option.{option_map_or, unwrap_or};
 ghost use Rattle.own_model.specs.Text.{hex_bytes};
 ghost use Rattle.core_calls.specs.Call.{model_call};
-ghost use Rattle.run_lines.specs.RunOutput.{OutputsUnless};
+ghost use Rattle.run_devices.specs.RunOutput.{OutputsUnless};
 ghost use Rattle.line_grammar.specs.Read.{IsReadAs};
 ghost use Rattle.run_scenario.specs.Texts.{bytes_in_call, bytes_written, in_brackets, line_text};
 ghost use Rattle.run_scenario.specs.Cells.{cell_text};

@@ -4,7 +4,7 @@ ghost use Rattle.std.specs.Option.{option_map, unwrap_or};
 ghost use Rattle.arrayvec.specs.ArrayVec.{array_vec_len};
 ghost use Rattle.core_calls.specs.Quotas.{quotas_account};
 ghost use Rattle.csv.specs.Writing.{default_writer, fields_text};
-ghost use Rattle.run_lines.specs.RunOutput.{OutputsUnless};
+ghost use Rattle.run_devices.specs.RunOutput.{OutputsUnless};
 ghost use Rattle.run_scenario.specs.Cells.{cell_text};
 ghost use Rattle.view_runs.specs.CsvRows.{cells_of, figures, session_cells};
 ghost use Rattle.view_runs.specs.Rows.{printed_text, session_view};

@@ -1,7 +1,7 @@
 //! Bytes as the log prints them.
 ghost use Rattle.std.specs.Prelude.{◌≡◌, ◌∷◌, [], false, is_err, map};
 ghost use Rattle.own_model.specs.Reply.{printed};
-ghost use Rattle.run_lines.specs.RunOutput.{OutputsUnless};
+ghost use Rattle.run_devices.specs.RunOutput.{OutputsUnless};
 
 use run_lines::{DeviceFault, Sink, WriteBuffer};
 

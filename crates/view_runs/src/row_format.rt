@@ -1,7 +1,7 @@
 //! The formats of a trace.
 ghost use Rattle.std.specs.Prelude.{◌≡◌, Bool, List, ℕ, false};
 ghost use Rattle.run_lines.specs.Faults.{Fails};
-ghost use Rattle.run_lines.specs.RunOutput.{OutputsUnless};
+ghost use Rattle.run_devices.specs.RunOutput.{OutputsUnless};
 ghost use Rattle.view_runs.specs.Rows.{row_view};
 ghost use Rattle.view_runs.specs.Tracing.{TraceRow};
 

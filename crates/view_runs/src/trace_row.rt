@@ -15,8 +15,7 @@ ghost use Rattle.view_runs.specs.Tracing.{account_in, call_text, session_at, ses
 use crate::byte_text::shown_in;
 use core_calls::{Call, Quotas};
 use list_parser::StartList;
-use pd_core::{Core, Router};
-use run_lines::NamedCall;
+use run_lines::{Core, NamedCall, Router};
 use run_scenario::{ObservedCall, PrintableHex, caller_of, said_in};
 
 /// The row of an answered call.

@@ -19,8 +19,7 @@ use crate::row_format::RowFormat;
 use crate::trace_row::row_of;
 use init_core::boot;
 use list_parser::{BootFault, StartList};
-use pd_core::{Core, Router};
-use run_lines::{LineDispatcher, LineRunFault, MAX_LINES, Sink, Source, WriteBuffer};
+use run_lines::{Core, LineDispatcher, LineRunFault, MAX_LINES, Router, Sink, Source, WriteBuffer};
 use run_scenario::{
     BootedScenario, CallBuffers, CallObserver, ObservedCall, ScenarioEnd, ScenarioInput,
     ScenarioRunner, ScenarioState, play as play_lines,

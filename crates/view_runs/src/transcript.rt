@@ -7,7 +7,7 @@ ghost use Rattle.own_model.specs.StartList.{Boots, entries_of};
 ghost use Rattle.list_parser.specs.Quota.{quota_fault};
 ghost use Rattle.list_parser.specs.declared.fault.BootFault.TheVariants.{NoMemory};
 ghost use Rattle.run_lines.specs.Answer.{answer_text};
-ghost use Rattle.run_lines.specs.RunOutput.{OutputsUnless};
+ghost use Rattle.run_devices.specs.RunOutput.{OutputsUnless};
 ghost use Rattle.run_lines.specs.Causes.{HasCause};
 ghost use Rattle.run_scenario.specs.Faults.{fault_before, unplayed};
 ghost use Rattle.run_lines.specs.Faults.{is_write_fault};
@@ -20,9 +20,9 @@ ghost use Rattle.view_diagnostics.specs.Diagnostics.{subject_at};
 
 use init_core::boot;
 use list_parser::{BootFault, StartList};
-use pd_core::{Core, Router};
 use run_lines::{
-    DeviceFault, LineDispatcher, LineRunFault, MAX_LINES, Sink, Source, WriteBuffer, write_accounts,
+    Core, DeviceFault, LineDispatcher, LineRunFault, MAX_LINES, Router, Sink, Source, WriteBuffer,
+    write_accounts,
 };
 use run_scenario::{
     BootedScenario, CallBuffers, CallObserver, ObservedCall, ScenarioEnd, ScenarioInput,

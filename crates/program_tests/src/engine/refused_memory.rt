@@ -3,8 +3,7 @@
 
 use crate::engine::tries::one_is_as_usual;
 use init_core::{BootFault, MACHINE_A, StartList, boot, route};
-use pd_core::Reply;
-use server_kinds::AnyServer;
+use pd_core::{AnyServer, Reply};
 use std::alloc::Global;
 use std::process::Abort;
 use trade_base::Service;

@@ -1,5 +1,5 @@
 use Rattle.std.proofs.Common.{sym}
-use Rattle.run_lines.proofs.LineLemmas.{line_length-none}
+use Rattle.run_devices.proofs.LineLemmas.{line_length-none}
 use Rattle.line_rounds.proofs.lines.line_length.Goals as goal
 
 pub returns-in-None-clause-count : goal.returns-in-None-clause-count

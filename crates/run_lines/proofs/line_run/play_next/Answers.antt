@@ -2,7 +2,7 @@
 use Rattle.std.proofs.Common.{Ok, arith, refl, subst, take, true}
 use Rattle.std.proofs.lemmas.Bool.{or_from}
 use Rattle.std.proofs.lemmas.List.{length-take}
-use Rattle.run_lines.specs.Lines.{to_come}
+use Rattle.run_devices.specs.Lines.{to_come}
 use Rattle.run_lines.specs.Next.{FindsNextIn, IsReady}
 use Rattle.run_lines.specs.LineRuns.{point}
 use Rattle.run_lines.specs.Reach.{reach}

@@ -1,6 +1,6 @@
 -- One piece more is output, or a write fails there.
 use Rattle.std.proofs.Common.{[], refl, ◌∙◌}
-use Rattle.run_lines.proofs.GatheredLemmas.{Tells-none, told_err}
+use Rattle.run_devices.proofs.GatheredLemmas.{Tells-none, told_err}
 use Rattle.view_diagnostics.proofs.FrontLemmas.{front_all, front_failed, front_more}
 use Rattle.run_scenario.proofs.ComplaintLemmas.{piece_next, pieces_over}
 use Rattle.run_scenario.proofs.complaint.put_all.Goals as goal

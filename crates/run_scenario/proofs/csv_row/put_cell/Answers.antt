@@ -1,7 +1,7 @@
 -- A comma, and then the text as it is or in quotes.
 use Rattle.std.proofs.Common.{subst, sym, ◌∙◌}
-use Rattle.run_lines.specs.RunOutput.{OutputsUnless}
-use Rattle.run_lines.proofs.GatheredLemmas.{Tells-front, told_err, told_more}
+use Rattle.run_devices.specs.RunOutput.{OutputsUnless}
+use Rattle.run_devices.proofs.GatheredLemmas.{Tells-front, told_err, told_more}
 use Rattle.run_scenario.proofs.CellLemmas.{quoted_cell, unquoted_cell}
 use Rattle.run_scenario.proofs.csv_row.put_cell.Goals as goal
 

@@ -1,8 +1,8 @@
 -- One byte more is told, or a write fails there.
 use Rattle.std.proofs.Common.{rules, subst}
-use Rattle.run_lines.specs.RunOutput.{Tells}
+use Rattle.run_devices.specs.RunOutput.{Tells}
 use Rattle.run_lines.proofs.AccountLemmas.{told_on, told_cut}
-use Rattle.run_lines.proofs.GatheredLemmas.{Tells-none, told_err}
+use Rattle.run_devices.proofs.GatheredLemmas.{Tells-none, told_err}
 use Rattle.run_scenario.proofs.CellLemmas.{escaped_cut, escaped_more, escaped_nothing}
 use Rattle.run_scenario.proofs.csv_row.put_escaped.Goals as goal
 

@@ -1,7 +1,7 @@
 -- So many bytes are told, and no write failed yet.
 use Rattle.std.proofs.Common.{◌≡◌, false, take}
 use Rattle.csv.specs.Writing.{default_writer, escaped}
-use Rattle.run_lines.specs.RunOutput.{Tells}
+use Rattle.run_devices.specs.RunOutput.{Tells}
 use Rattle.run_scenario.proofs.csv_row.put_escaped.Given as goal
 
 abbrev pub invariant-loop-place : goal.invariant-loop-place

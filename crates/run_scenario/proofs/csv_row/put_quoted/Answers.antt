@@ -1,5 +1,5 @@
 -- A write that fails in one part loses the parts after it.
-use Rattle.run_lines.proofs.GatheredLemmas.{Tells-more, Tells-front, told_err, told_more}
+use Rattle.run_devices.proofs.GatheredLemmas.{Tells-more, Tells-front, told_err, told_more}
 use Rattle.run_scenario.proofs.csv_row.put_quoted.Goals as goal
 
 pub returns-in_err-put-clause-told : goal.returns-in_err-put-clause-told

@@ -1,7 +1,7 @@
 -- One byte more is output, or a write fails there.
 use Rattle.std.proofs.Common.{◌<◌, ◌≤◌, [], length, arith, refl, ◌∙◌}
 use Rattle.own_model.specs.Text.{hex_bytes}
-use Rattle.run_lines.proofs.GatheredLemmas.{Tells-none, told_err}
+use Rattle.run_devices.proofs.GatheredLemmas.{Tells-none, told_err}
 use Rattle.view_diagnostics.proofs.FrontLemmas.{front_all, front_failed, front_more}
 use Rattle.run_scenario.proofs.ComplaintLemmas.{sign_next, signs_over}
 use Rattle.run_scenario.proofs.ShownLemmas.{bytes_counted}

@@ -2,9 +2,9 @@
 use Rattle.std.proofs.Common.{◌<◌, length, arith, subst}
 use Rattle.std.proofs.lemmas.List.{take_all}
 use Rattle.own_model.specs.Text.{hex_bytes}
-use Rattle.run_lines.specs.RunOutput.{Tells}
+use Rattle.run_devices.specs.RunOutput.{Tells}
 use Rattle.run_lines.proofs.AccountLemmas.{told_on, told_cut}
-use Rattle.run_lines.proofs.GatheredLemmas.{Tells-none, told_err}
+use Rattle.run_devices.proofs.GatheredLemmas.{Tells-none, told_err}
 use Rattle.run_scenario.specs.Texts.{characters_text, written_in}
 use Rattle.run_scenario.proofs.ShownLemmas.{bytes_counted, signs_cut, signs_more, written_nothing}
 use Rattle.run_scenario.proofs.printable_hex.put_signs.Goals as goal

@@ -1,7 +1,7 @@
 -- The text of so many bytes is told, and no write failed yet.
 use Rattle.std.proofs.Common.{◌≡◌, false, take}
 use Rattle.own_model.specs.Text.{hex_bytes}
-use Rattle.run_lines.specs.RunOutput.{Tells}
+use Rattle.run_devices.specs.RunOutput.{Tells}
 use Rattle.run_scenario.specs.Texts.{characters_text, written_in}
 use Rattle.run_scenario.proofs.printable_hex.put_signs.Given as goal
 

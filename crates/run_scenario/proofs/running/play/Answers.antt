@@ -2,7 +2,7 @@
 use Rattle.std.proofs.Common.{ℕ, List, IfNone, refl, subst, ap}
 use Rattle.std.specs.Io.KnownBytes.{Appends}
 use Rattle.std.specs.Option.{option_copied}
-use Rattle.run_lines.specs.RunOutput.{Tells}
+use Rattle.run_devices.specs.RunOutput.{Tells}
 use Rattle.run_scenario.proofs.PlayLemmas.{closed_counts, closed_on, closed_reports, closed_writing, complaints_work, leads_none, plays_closed, remains, steps_run, world_left}
 use Rattle.run_scenario.proofs.WriteLemmas.{front_cut, plays_behind}
 use Rattle.run_scenario.proofs.RunReportLemmas.{reports_none}

@@ -1,7 +1,7 @@
 -- One more character is output.
 use Rattle.std.proofs.Common.{[], refl}
 use Rattle.std.proofs.lemmas.Str.{IsUtf8-past_char}
-use Rattle.run_lines.proofs.GatheredLemmas.{Tells-none, told_err}
+use Rattle.run_devices.proofs.GatheredLemmas.{Tells-none, told_err}
 use Rattle.view_diagnostics.proofs.FrontLemmas.{front_more, front_failed, front_all}
 use Rattle.view_diagnostics.proofs.ShownLemmas.{characters_step, characters_none}
 use Rattle.view_diagnostics.proofs.escape.put_characters.Goals as goal

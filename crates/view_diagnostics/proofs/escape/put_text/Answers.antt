@@ -1,7 +1,7 @@
 -- One more chunk is output.
 use Rattle.std.proofs.Common.{◌≡◌, ◌<◌, length, refl, rules, subst}
 use Rattle.std.specs.Str.{IsUtf8}
-use Rattle.run_lines.proofs.GatheredLemmas.{told_err}
+use Rattle.run_devices.proofs.GatheredLemmas.{told_err}
 use Rattle.view_diagnostics.proofs.FrontLemmas.{front_more, front_failed, front_all}
 use Rattle.view_diagnostics.proofs.ShownLemmas.{shown_chunk, shown_last_chunk, shown_front, shown_none}
 use Rattle.view_diagnostics.proofs.escape.put_text.Goals as goal

@@ -1,5 +1,5 @@
 -- A colon, and then the number.
-use Rattle.run_lines.proofs.GatheredLemmas.{Tells-front, Tells-none, told_err, told_more}
+use Rattle.run_devices.proofs.GatheredLemmas.{Tells-front, Tells-none, told_err, told_more}
 use Rattle.view_diagnostics.proofs.ShownLemmas.{no_number, some_number}
 use Rattle.view_diagnostics.proofs.front.put_after_colon.Goals as goal
 

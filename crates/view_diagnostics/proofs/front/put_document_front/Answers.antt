@@ -1,7 +1,7 @@
 -- A write that fails in one part loses the parts after it.
 use Rattle.std.proofs.Common.{◌++◌}
 use Rattle.std.specs.Prelude.{codes}
-use Rattle.run_lines.proofs.GatheredLemmas.{Tells-more, Tells-front, told_err, told_more}
+use Rattle.run_devices.proofs.GatheredLemmas.{Tells-more, Tells-front, told_err, told_more}
 use Rattle.view_diagnostics.specs.Diagnostics.{column_of, file_value, line_of, number_value, severity_name}
 use Rattle.view_diagnostics.proofs.front.put_document_front.Goals as goal
 

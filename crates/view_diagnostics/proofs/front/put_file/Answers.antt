@@ -1,6 +1,6 @@
 -- The path between its quotes.
 use Rattle.std.proofs.Common.{sym, ◌∙◌}
-use Rattle.run_lines.proofs.GatheredLemmas.{Tells-more, Tells-front, told_err, told_more}
+use Rattle.run_devices.proofs.GatheredLemmas.{Tells-more, Tells-front, told_err, told_more}
 use Rattle.std.specs.Prelude.{codes}
 use Rattle.view_diagnostics.specs.Diagnostics.{shown}
 use Rattle.view_diagnostics.specs.declared.diagnostics.DiagnosticForm.TheVariants.{Json}

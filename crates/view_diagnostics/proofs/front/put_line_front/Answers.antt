@@ -1,5 +1,5 @@
 -- A write that fails in one part loses the parts after it.
-use Rattle.run_lines.proofs.GatheredLemmas.{Tells-more, Tells-front, told_err, told_more}
+use Rattle.run_devices.proofs.GatheredLemmas.{Tells-more, Tells-front, told_err, told_more}
 use Rattle.view_diagnostics.proofs.front.put_line_front.Goals as goal
 
 pub returns-in_err-put_place-clause-output : goal.returns-in_err-put_place-clause-output

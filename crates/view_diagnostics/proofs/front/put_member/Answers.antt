@@ -1,5 +1,5 @@
 -- The name, and then the value.
-use Rattle.run_lines.proofs.GatheredLemmas.{Tells-front, told_err, told_more}
+use Rattle.run_devices.proofs.GatheredLemmas.{Tells-front, told_err, told_more}
 use Rattle.view_diagnostics.proofs.ShownLemmas.{null_value, digits_value}
 use Rattle.view_diagnostics.proofs.front.put_member.Goals as goal
 

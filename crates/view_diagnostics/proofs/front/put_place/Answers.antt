@@ -1,6 +1,6 @@
 -- A write that fails in one part loses the parts after it.
 use Rattle.std.proofs.Common.{sym, ◌∙◌}
-use Rattle.run_lines.proofs.GatheredLemmas.{Tells-more, Tells-front, Tells-none, told_err, told_more}
+use Rattle.run_devices.proofs.GatheredLemmas.{Tells-more, Tells-front, Tells-none, told_err, told_more}
 use Rattle.view_diagnostics.proofs.ShownLemmas.{no_place, some_place}
 use Rattle.view_diagnostics.proofs.front.put_place.Goals as goal
 

@@ -3,8 +3,8 @@ use Rattle.std.proofs.Common.{◌∷◌, ◌++◌, [], codes, map, subst}
 use Rattle.std.specs.Prelude.{decimal}
 use Rattle.std.specs.Option.{option_map_or}
 use Rattle.own_model.specs.Reply.{printed}
-use Rattle.run_lines.specs.RunOutput.{OutputsUnless}
-use Rattle.run_lines.proofs.GatheredLemmas.{Tells-more, Tells-front, told_err, told_more}
+use Rattle.run_devices.specs.RunOutput.{OutputsUnless}
+use Rattle.run_devices.proofs.GatheredLemmas.{Tells-more, Tells-front, told_err, told_more}
 use Rattle.run_scenario.specs.Texts.{in_brackets}
 use Rattle.view_runs.proofs.alone_run.put_heard.Goals as goal
 

@@ -1,5 +1,5 @@
 -- A write that fails in the name of the side loses the answer.
-use Rattle.run_lines.proofs.GatheredLemmas.{Tells-front, told_err, told_more}
+use Rattle.run_devices.proofs.GatheredLemmas.{Tells-front, told_err, told_more}
 use Rattle.view_runs.proofs.alone_run.put_side.Goals as goal
 
 pub returns-in_err-put-clause-told : goal.returns-in_err-put-clause-told

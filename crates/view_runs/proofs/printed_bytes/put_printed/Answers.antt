@@ -2,9 +2,9 @@
 use Rattle.std.proofs.Common.{map, arith, subst}
 use Rattle.std.proofs.lemmas.List.{take_all}
 use Rattle.own_model.specs.Reply.{printed}
-use Rattle.run_lines.specs.RunOutput.{Tells}
+use Rattle.run_devices.specs.RunOutput.{Tells}
 use Rattle.run_lines.proofs.AccountLemmas.{told_on, told_cut}
-use Rattle.run_lines.proofs.GatheredLemmas.{Tells-none, told_err}
+use Rattle.run_devices.proofs.GatheredLemmas.{Tells-none, told_err}
 use Rattle.view_runs.proofs.PrintedLemmas.{printed_cut, printed_more}
 use Rattle.view_runs.proofs.printed_bytes.put_printed.Goals as goal
 

@@ -1,7 +1,7 @@
 -- So many bytes are gathered, and no write has failed yet.
 use Rattle.std.proofs.Common.{◌≡◌, false, map, take}
 use Rattle.own_model.specs.Reply.{printed}
-use Rattle.run_lines.specs.RunOutput.{Tells}
+use Rattle.run_devices.specs.RunOutput.{Tells}
 use Rattle.view_runs.proofs.printed_bytes.put_printed.Given as goal
 
 abbrev pub invariant-loop-byte : goal.invariant-loop-byte

@@ -1,7 +1,7 @@
 -- A write that fails in one part loses the parts after it.
 use Rattle.std.proofs.Common.{append-nil, subst}
-use Rattle.run_lines.specs.RunOutput.{OutputsUnless}
-use Rattle.run_lines.proofs.GatheredLemmas.{Tells-more, Tells-front, told_err, told_more}
+use Rattle.run_devices.specs.RunOutput.{OutputsUnless}
+use Rattle.run_devices.proofs.GatheredLemmas.{Tells-more, Tells-front, told_err, told_more}
 use Rattle.view_runs.proofs.transcript.write_numbered.Goals as goal
 
 pub returns-in_err-put_number-clause-told : goal.returns-in_err-put_number-clause-told

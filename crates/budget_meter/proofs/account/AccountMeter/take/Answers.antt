@@ -1,6 +1,6 @@
 -- What a heap tells of its growth, and what no other call changes.
 use Rattle.std.proofs.Common.{refl, sym, ◌∙◌}
-use Rattle.pd_core.specs.Answer.{quotas_account}
+use Rattle.core_calls.specs.Quotas.{quotas_account}
 use Rattle.core_calls.specs.Call.{model_call}
 use Rattle.budget_meter.specs.Needs.{amounts_of, shown_in}
 use Rattle.budget_meter.proofs.HeardLemmas.{grown_pages, grown_shown, number_left, quiet_pages, quiet_shown}

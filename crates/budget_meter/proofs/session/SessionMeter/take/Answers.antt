@@ -1,6 +1,6 @@
 -- One test, or none.
 use Rattle.std.proofs.Common.{sym, ap, ◌∙◌}
-use Rattle.pd_core.specs.Answer.{quotas_account}
+use Rattle.core_calls.specs.Quotas.{quotas_account}
 use Rattle.budget_meter.specs.NeededAmounts.{amount_tests}
 use Rattle.budget_meter.specs.Needs.{amounts_of, shown_in, shown_of, together}
 use Rattle.budget_meter.proofs.ShownLemmas.{together_nothing}

@@ -4,7 +4,7 @@ use Rattle.std.specs.Prelude.{Some}
 use Rattle.std.specs.Option.{option_map}
 use Rattle.own_model.specs.Call.Call.{CallSession}
 use Rattle.budget_meter.specs.SessionRuns.Sent.{Asks}
-use Rattle.pd_core.specs.Answer.{quotas_account}
+use Rattle.core_calls.specs.Quotas.{quotas_account}
 use Rattle.budget_meter.specs.Needs.{amounts_of}
 use Rattle.budget_search.specs.OpenedSessions.{HasEnded, HasLeft, sends, HasDue}
 use Rattle.budget_search.specs.SessionLines.{HasSessionLeft, lines_asking, lines_without, session_shortage}

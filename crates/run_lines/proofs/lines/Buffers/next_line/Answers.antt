@@ -3,8 +3,8 @@ use Rattle.std.proofs.Common.{[], arith, rules}
 use Rattle.std.proofs.lemmas.Grind.{common_steps}
 use Rattle.std.proofs.lemmas.Result.{err_from_is_err_and}
 use Rattle.run_lines.proofs.FaultLemmas.{told_at, told_then}
-use Rattle.run_lines.proofs.GatheredLemmas.{Tells-more}
-use Rattle.run_lines.proofs.LineLemmas.{line_length-kept}
+use Rattle.run_devices.proofs.GatheredLemmas.{Tells-more}
+use Rattle.run_devices.proofs.LineLemmas.{line_length-kept}
 use Rattle.run_lines.proofs.ReachLemmas.{behind_long, behind_passed, behind_wider, block_within, writes_at, writes_or_stops}
 use Rattle.run_lines.specs.Reach.{longest_ahead, reach}
 use Rattle.run_lines.proofs.ToCome.{Passes-kept, begins_with_line, no_line}

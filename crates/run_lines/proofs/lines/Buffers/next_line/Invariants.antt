@@ -1,7 +1,7 @@
 -- Bytes without a newline are ahead, and nothing was passed.
 use Rattle.std.proofs.Common.{◌≡◌, ◌-◌, ◌≤◌, [], false, length}
-use Rattle.run_lines.specs.RunOutput.{Tells}
-use Rattle.run_lines.specs.Lines.{line_length, to_come}
+use Rattle.run_devices.specs.RunOutput.{Tells}
+use Rattle.run_devices.specs.Lines.{line_length, to_come}
 use Rattle.run_lines.specs.Reach.{ReadsBehind, longest_ahead}
 use Rattle.run_lines.proofs.ToCome.{Passes}
 use Rattle.run_lines.proofs.lines.Buffers.next_line.Given as goal

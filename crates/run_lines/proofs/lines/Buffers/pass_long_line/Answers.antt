@@ -2,9 +2,9 @@
 use Rattle.std.proofs.Common.{◌≡◌, [], ℕ, ◌≤◌, length, arith, rules, ap, length-drop}
 use Rattle.std.proofs.lemmas.Grind.{common_steps}
 use Rattle.std.proofs.lemmas.Result.{err_from_is_err_and}
-use Rattle.run_lines.specs.Lines.{line_length}
+use Rattle.run_devices.specs.Lines.{line_length}
 use Rattle.run_lines.proofs.FaultLemmas.{told_at}
-use Rattle.run_lines.proofs.GatheredLemmas.{Tells-more}
+use Rattle.run_devices.proofs.GatheredLemmas.{Tells-more}
 use Rattle.run_lines.proofs.ReachLemmas.{behind_passed, behind_wider, passed_within, writes_at}
 use Rattle.run_lines.specs.Reach.{reach}
 use Rattle.run_lines.proofs.ToCome.{Passes-kept, IsLong-ahead, passed_on, long_line-within, long_line-end, is_endless, no_line}

@@ -1,7 +1,7 @@
 -- So many bytes of the line are passed, and bytes are ahead; once some are passed, a read has flushed what was gathered.
 use Rattle.std.proofs.Common.{◌≡◌, ◌+◌, ◌-◌, ◌<◌, ◌≤◌, [], false, length}
-use Rattle.run_lines.specs.RunOutput.{Tells}
-use Rattle.run_lines.specs.Lines.{longest_read, to_come}
+use Rattle.run_devices.specs.RunOutput.{Tells}
+use Rattle.run_devices.specs.Lines.{longest_read, to_come}
 use Rattle.run_lines.specs.Reach.{ReadsBehind, longest_ahead}
 use Rattle.run_lines.proofs.ToCome.{Passes}
 use Rattle.run_lines.proofs.lines.Buffers.pass_long_line.Given as goal

@@ -2,7 +2,7 @@
 use Rattle.std.proofs.Common.{◌≡◌, ◌+◌, ◌-◌, ◌++◌, ◌∙◌, refl, ap, take, length, slice_range, arith, length-append, sym}
 use Rattle.std.proofs.lemmas.List.{take_at}
 use Rattle.std.proofs.lemmas.Result.{err_from_is_err_and}
-use Rattle.run_lines.proofs.BlockLemmas.{slice_range-grown, slice_range-kept, Keeps-grown}
+use Rattle.run_devices.proofs.BlockLemmas.{slice_range-grown, slice_range-kept, Keeps-grown}
 use Rattle.run_lines.proofs.read_buffer.ReadBuffer.fill.Goals as goal
 use borrow.Rule.Slice.PartMut.{put_mid, post_of}
 

@@ -1,7 +1,7 @@
 -- A write that fails in one part loses the parts after it.
 use Rattle.std.proofs.Common.{codes}
 use Rattle.own_model.specs.Text.{hex_bytes}
-use Rattle.run_lines.proofs.GatheredLemmas.{Tells-more, Tells-front, told_err, told_more}
+use Rattle.run_devices.proofs.GatheredLemmas.{Tells-more, Tells-front, told_err, told_more}
 use Rattle.run_scenario.specs.Texts.{characters_text}
 use Rattle.run_scenario.proofs.printable_hex.PrintableHex.put.Goals as goal
 

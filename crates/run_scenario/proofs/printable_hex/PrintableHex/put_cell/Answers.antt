@@ -1,8 +1,8 @@
 -- A comma, and then the text as it is or in quotes.
 use Rattle.std.proofs.Common.{subst, sym, ◌∙◌}
 use Rattle.own_model.specs.Text.{hex_bytes}
-use Rattle.run_lines.specs.RunOutput.{OutputsUnless}
-use Rattle.run_lines.proofs.GatheredLemmas.{Tells-front, told_err, told_more}
+use Rattle.run_devices.specs.RunOutput.{OutputsUnless}
+use Rattle.run_devices.proofs.GatheredLemmas.{Tells-front, told_err, told_more}
 use Rattle.run_scenario.specs.Texts.{characters_text}
 use Rattle.run_scenario.proofs.CellLemmas.{quoted_cell, unquoted_cell}
 use Rattle.run_scenario.proofs.printable_hex.PrintableHex.put_cell.Goals as goal

@@ -2,7 +2,7 @@
 use Rattle.std.proofs.Common.{◌≡◌, true, false, rules}
 use Rattle.std.specs.Str.{bytes_eq}
 use Rattle.line_friendly.specs.Expected.{meets}
-use Rattle.run_lines.proofs.GatheredLemmas.{Appends-none}
+use Rattle.run_devices.proofs.GatheredLemmas.{Appends-none}
 use Rattle.view_diagnostics.specs.Diagnostics.{subject_at}
 use Rattle.run_scenario.proofs.ComplaintLemmas.{still_failed}
 use Rattle.run_scenario.proofs.ReportLemmas.{no_other, other_lines, other_reply}

@@ -2,7 +2,7 @@
 use Rattle.std.proofs.Common.{◌≡◌, true, false, is_some, rules}
 use Rattle.line_friendly.specs.Friendly.{is_passed}
 use Rattle.view_diagnostics.specs.Diagnostics.{subject_at}
-use Rattle.run_lines.proofs.GatheredLemmas.{Appends-none}
+use Rattle.run_devices.proofs.GatheredLemmas.{Appends-none}
 use Rattle.run_scenario.specs.Judging.{is_unknown_call}
 use Rattle.run_scenario.specs.Reports.{checked}
 use Rattle.run_scenario.proofs.ComplaintLemmas.{still_failed}

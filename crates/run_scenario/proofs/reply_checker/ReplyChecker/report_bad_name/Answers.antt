@@ -1,5 +1,5 @@
 -- If the host is out of memory, nothing is written.
-use Rattle.run_lines.proofs.GatheredLemmas.{told_none}
+use Rattle.run_devices.proofs.GatheredLemmas.{told_none}
 use Rattle.run_scenario.proofs.ComplaintLemmas.{still_failed}
 use Rattle.run_scenario.proofs.reply_checker.ReplyChecker.report_bad_name.Goals as goal
 

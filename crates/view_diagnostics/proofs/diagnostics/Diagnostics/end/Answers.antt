@@ -1,6 +1,6 @@
 -- The end, and then all is written.
 use Rattle.std.proofs.Common.{append-nil, ◌∙◌}
-use Rattle.run_lines.proofs.GatheredLemmas.{told_more}
+use Rattle.run_devices.proofs.GatheredLemmas.{told_more}
 use Rattle.view_diagnostics.proofs.FrontLemmas.{output_as}
 use Rattle.view_diagnostics.proofs.diagnostics.Diagnostics.end.Goals as goal
 

@@ -1,7 +1,7 @@
 -- A line of the name is answered alone as in the whole run, and another's is skipped.
 use Rattle.std.proofs.Common.{arith, length, refl, ap, subst}
-use Rattle.run_lines.specs.RunOutput.{Tells}
-use Rattle.run_lines.proofs.GatheredLemmas.{Tells-none, told_err}
+use Rattle.run_devices.specs.RunOutput.{Tells}
+use Rattle.run_devices.proofs.GatheredLemmas.{Tells-none, told_err}
 use Rattle.view_runs.proofs.AloneLemmas.{answered_alike, sees_more, told_both_of, told_none_of}
 use Rattle.run_scenario.proofs.FailLemmas.{unwritten}
 use Rattle.view_runs.proofs.alone_run.SecondMachineCallObserver.tell.Goals as goal

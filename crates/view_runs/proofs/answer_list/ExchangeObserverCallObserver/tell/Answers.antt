@@ -1,6 +1,6 @@
 -- The call is kept behind those before it.
 use Rattle.std.proofs.Common.{refl}
-use Rattle.run_lines.proofs.GatheredLemmas.{Tells-none, told_err}
+use Rattle.run_devices.proofs.GatheredLemmas.{Tells-none, told_err}
 use Rattle.view_runs.proofs.AnswerLemmas.{sees_more}
 use Rattle.run_scenario.proofs.FailLemmas.{roomless}
 use Rattle.view_runs.proofs.answer_list.ExchangeObserverCallObserver.tell.Goals as goal

@@ -1,7 +1,7 @@
 -- The row is written as it is defined.
 use Rattle.std.proofs.Common.{subst, ◌∙◌}
-use Rattle.run_lines.specs.RunOutput.{Tells}
-use Rattle.run_lines.proofs.GatheredLemmas.{told_err}
+use Rattle.run_devices.specs.RunOutput.{Tells}
+use Rattle.run_devices.proofs.GatheredLemmas.{told_err}
 use Rattle.run_scenario.proofs.FailLemmas.{unwritten}
 use Rattle.view_runs.specs.Rows.{row_view}
 use Rattle.view_runs.proofs.RowLemmas.{row_written}

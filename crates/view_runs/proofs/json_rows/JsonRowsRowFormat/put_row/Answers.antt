@@ -1,7 +1,7 @@
 -- The line is written as it is defined, unless there is no memory for it.
 use Rattle.std.proofs.Common.{refl, subst, ◌∙◌}
-use Rattle.run_lines.specs.RunOutput.{Tells}
-use Rattle.run_lines.proofs.GatheredLemmas.{Tells-front, Tells-none, told_err}
+use Rattle.run_devices.specs.RunOutput.{Tells}
+use Rattle.run_devices.proofs.GatheredLemmas.{Tells-front, Tells-none, told_err}
 use Rattle.run_scenario.proofs.FailLemmas.{roomless, unwritten}
 use Rattle.view_runs.proofs.json_rows.JsonRowsRowFormat.put_row.Goals as goal
 

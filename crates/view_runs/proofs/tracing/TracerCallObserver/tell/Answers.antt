@@ -1,6 +1,6 @@
 -- The row that is written is the row of the call.
 use Rattle.std.proofs.Common.{ap, subst}
-use Rattle.run_lines.specs.RunOutput.{OutputsUnless}
+use Rattle.run_devices.specs.RunOutput.{OutputsUnless}
 use Rattle.view_runs.proofs.tracing.TracerCallObserver.tell.Goals as goal
 
 pub returns-clause-told : goal.returns-clause-told

@@ -1,9 +1,9 @@
 -- What is told is the answer, behind its number where that is asked for.
 use Rattle.std.proofs.Common.{Some, None, ◌++◌, ap, refl, subst}
 use Rattle.own_model.specs.World.{world_running}
-use Rattle.run_lines.specs.RunOutput.{Tells}
+use Rattle.run_devices.specs.RunOutput.{Tells}
 use Rattle.run_lines.proofs.AnsweringLemmas.{told_answer}
-use Rattle.run_lines.proofs.GatheredLemmas.{told_err}
+use Rattle.run_devices.proofs.GatheredLemmas.{told_err}
 use Rattle.view_runs.specs.Transcripts.{number_before}
 use Rattle.run_scenario.proofs.FailLemmas.{unwritten}
 use Rattle.view_runs.proofs.transcript.TranscriptCallObserver.tell.Goals as goal
