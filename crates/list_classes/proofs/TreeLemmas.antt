@@ -5,7 +5,7 @@ use Rattle.std.specs.Global.{Vec}
 use Rattle.std.specs.List.{list_any}
 use Rattle.std.specs.Str.{bytes_eq}
 use Rattle.std.proofs.Math.ListN.{get_or-append}
-use Rattle.std.proofs.lemmas.Bool.{and_from, or_cases, or_left, or_right, cases_lt, both_ways, eq-eqb, eqb-true, ne_eqb, not_from_false}
+use Rattle.std.proofs.lemmas.Bool.{and_from, and_parts, or_cases, or_left, or_right, cases_lt, both_ways, eq-eqb, eqb-true, ne_eqb, not_from_false}
 use Rattle.std.proofs.lemmas.List.{append-nil, get_or_push, length-append}
 use Rattle.std.proofs.lemmas.List.Folds.{list_any-append, list_any_at}
 use Rattle.std.proofs.lemmas.Slice.Eq.{bytes_eq-Decides}
@@ -181,6 +181,30 @@ longest_from side texts rows label place tree there has none =
         | inr short ↦ short
       ];
     }
+
+-- a label with a part that goes below one of its texts has a longer one
+pub below_longer : (side : LabelSide) (texts : List (List ℕ)) (rows : List (Vec ℕ)) (place : ℕ) (part label : List ℕ) → IsTree side texts rows
+    → list_any (λ other. not (nat_eq other place) && has_at side part (text_at texts other)) (row_at rows place) ≡ true
+    → has_at side label part ≡ true → IsLongest side texts label place → ⊥
+below_longer side texts rows place part label tree below has longest =
+    let one = one_of (λ other. not (nat_eq other place) && has_at side part (text_at texts other)) (row_at rows place) below in
+    let both = and_parts (not (nat_eq one.0 place)) (has_at side part (text_at texts one.0)) one.2 in
+    let there = tree.below.within place one.0 one.1 in
+    let has_one = has_then side label part (text_at texts one.0) has both.1 in
+    let short = longest.longest one.0 there has_one in
+    let back = has_order side label (text_at texts place) (text_at texts one.0) longest.has has_one short in
+    let over = sym (tree.below.below place one.0 longest.there there) ∙ one.1 in
+    let same = tree.each.once one.0 place there longest.there (has_both side (text_at texts one.0) (text_at texts place) over back) in
+    both_ways _ (ap not (eq-eqb one.0 place same)) both.0
+
+pub longest_just : (side : LabelSide) (texts : List (List ℕ)) (rows : List (Vec ℕ)) (label : List ℕ) (place : ℕ) (below : Bool) → IsTree side texts rows
+    → place < length texts → has_at side label (text_at texts place) ≡ true
+    → below ≡ list_any (λ other. not (nat_eq other place) && has_at side label (text_at texts other)) (row_at rows place)
+    → (not below ≡ true → IsLongest side texts label place) × (IsLongest side texts label place → not below ≡ true)
+longest_just side texts rows label place true tree there has is =
+    ((λ no. absurd (both_ways false refl no)), λ longest. absurd (below_longer side texts rows place label label tree (sym is) (has_itself side label) longest))
+longest_just side texts rows label place false tree there has is =
+    ((λ no. longest_from side texts rows label place tree there has (sym is)), λ longest. refl)
 
 -- ---- texts, each once
 

@@ -1,10 +1,9 @@
 -- The search for a shortest label with a longest beginning and a longest ending, byte by byte between them.
-use Rattle.std.proofs.Common.{◌≡◌, ◌≢◌, ℕ, ◌+◌, ◌-◌, ◌<◌, ◌≤◌, Bool, true, false, ◌&&◌, ◌||◌, List, [], ◌∷◌, ◌++◌, length, nat_eq, nat_le, get_or, take, drop, Option, Some, None, MatchOption, refl, sym, subst, ap, ◌∙◌, arith, inl, inr}
+use Rattle.std.proofs.Common.{◌≡◌, ℕ, ◌+◌, ◌-◌, ◌<◌, ◌≤◌, Bool, true, false, ◌&&◌, ◌||◌, List, [], ◌∷◌, ◌++◌, length, nat_eq, nat_le, get_or, take, drop, Option, Some, None, MatchOption, refl, sym, subst, ap, ◌∙◌, arith, inl, inr}
 use Rattle.std.specs.Prelude.{not}
-use Rattle.std.specs.Global.{Vec}
 use Rattle.std.specs.List.{list_all, list_any, starts_with, ends_with}
 use Rattle.std.proofs.Math.Seq.{drop-append_seam, take-append_seam}
-use Rattle.std.proofs.lemmas.Bool.{agree_below_at, and_parts, both_ways, cases_lt, eq-eqb, eqb-true}
+use Rattle.std.proofs.lemmas.Bool.{agree_below_at, and_parts, cases_lt, eqb-true}
 use Rattle.std.proofs.lemmas.Bool.Decides.{nat_tests}
 use Rattle.std.proofs.lemmas.List.{append_assoc, get_or_default, length-append, length-drop, length-take, take-append-drop}
 use Rattle.std.proofs.lemmas.List.Folds.{Any-from_list_any, list_all-append}
@@ -13,9 +12,8 @@ use Rattle.list_labels.proofs.AskedLemmas.{begins_by, ends_by}
 use Rattle.list_labels.proofs.KeyLemmas.{begins_from, ends_from}
 use Rattle.list_labels.specs.Asked.{is_given}
 use Rattle.list_labels.specs.GivenLabels.{IsGiven}
-use Rattle.list_classes.proofs.TreeLemmas.{has_both, has_order, has_short, has_then, one_of}
-use Rattle.list_classes.specs.Classes.{IsLongestIn}
-use Rattle.list_classes.specs.Trees.{IsLongest, IsTree, has_at, row_at, text_at}
+use Rattle.list_classes.proofs.TreeLemmas.{below_longer, has_short}
+use Rattle.list_classes.specs.Trees.{has_at, row_at, text_at}
 use Rattle.list_classes.specs.Witnesses.{AreLonger, AreShorter, HasNone, HasNoWitness, IsFilling, IsFound, IsLeastWitness, IsWitness, Shows, head_with, tail_with}
 use Rattle.list_classes.specs.declared.witness.GapSearch.{GapSearch}
 use Rattle.list_classes.specs.declared.witness.GapSearch.TheVariants.{Missing, Closed}
@@ -196,21 +194,6 @@ shorter_with side pair head tail between some each label fills =
 
 -- ---- longer texts
 
--- a text below that a part has is longer than the text of the pair
-below_longer : (side : LabelSide) (texts : List (List ℕ)) (rows : List (Vec ℕ)) (place : ℕ) (part label : List ℕ) → IsTree side texts rows
-    → list_any (λ other. not (nat_eq other place) && has_at side part (text_at texts other)) (row_at rows place) ≡ true
-    → has_at side label part ≡ true → IsLongest side texts label place → ⊥
-below_longer side texts rows place part label tree below has longest =
-    let one = one_of (λ other. not (nat_eq other place) && has_at side part (text_at texts other)) (row_at rows place) below in
-    let both = and_parts (not (nat_eq one.0 place)) (has_at side part (text_at texts one.0)) one.2 in
-    let there = tree.below.within place one.0 one.1 in
-    let has_one = has_then side label part (text_at texts one.0) has both.1 in
-    let short = longest.longest one.0 there has_one in
-    let back = has_order side label (text_at texts place) (text_at texts one.0) longest.has has_one short in
-    let over = sym (tree.below.below place one.0 longest.there there) ∙ one.1 in
-    let same = tree.each.once one.0 place there longest.there (has_both side (text_at texts one.0) (text_at texts place) over back) in
-    both_ways _ (ap not (eq-eqb one.0 place same)) both.0
-
 pub closed_after : (pair : TextPair) (head tail : List ℕ) (size byte : ℕ) (longer : List ℕ) → longer ≡ head ++ byte ∷ []
     → list_any (λ other. not (nat_eq other pair.front) && has_at pair.parts.fronts.now.side longer (text_at pair.parts.fronts.now.texts.items other))
     (row_at pair.parts.fronts.now.below.items pair.front) ≡ true
@@ -243,29 +226,6 @@ long_before pair head tail size byte long label fills =
     let short = has_short End label (byte ∷ tail) fills.closes in
     let given = fills.given.short in
     absurd (omega (arith, long, short, given))
-
--- ---- the same texts
-
--- a label has one longest text
-longest_once : (side : LabelSide) (texts : List (List ℕ)) (rows : List (Vec ℕ)) (label : List ℕ) (place other : ℕ) → IsTree side texts rows
-    → IsLongest side texts label place → IsLongest side texts label other → place ≡ other
-longest_once side texts rows label place other tree one two =
-    let up = two.longest place one.there one.has in
-    let down = one.longest other two.there two.has in
-    tree.each.once place other one.there two.there
-    (has_both side (text_at texts place) (text_at texts other)
-    (has_order side label (text_at texts place) (text_at texts other) one.has two.has down)
-    (has_order side label (text_at texts other) (text_at texts place) two.has one.has up))
-
-pub not_front : (pair : TextPair) (label : List ℕ) (front : ℕ) → IsLongestIn pair.parts.fronts.now label front → front ≢ pair.front → IsWitness pair label → ⊥
-not_front pair label front longest other is =
-    other (longest_once pair.parts.fronts.now.side pair.parts.fronts.now.texts.items pair.parts.fronts.now.below.items label front pair.front
-    pair.parts.fronts.now.formed longest is.front)
-
-pub not_end : (pair : TextPair) (label : List ℕ) (end : ℕ) → IsLongestIn pair.parts.ends.now label end → end ≢ pair.end → IsWitness pair label → ⊥
-not_end pair label end longest other is =
-    other (longest_once pair.parts.ends.now.side pair.parts.ends.now.texts.items pair.parts.ends.now.below.items label end pair.end
-    pair.parts.ends.now.formed longest is.end)
 
 -- ---- the search
 

@@ -1,5 +1,5 @@
 //! Beginnings or endings of labels, each with those that contain it.
-ghost use Rattle.std.specs.Prelude.{◌≡◌, ℕ, ◌<◌, ◌≤◌, ◌&&◌, List, [], true, false, not, length, nat_eq, slice_index_or, IfOk, OnOk};
+ghost use Rattle.std.specs.Prelude.{◌≡◌, ◌↔◌, ℕ, ◌<◌, ◌≤◌, ◌&&◌, List, [], true, false, not, length, nat_eq, slice_index_or, IfOk, OnOk};
 ghost use Rattle.std.specs.List.{list_any};
 ghost use Rattle.std.specs.Str.{bytes_eq};
 ghost use Rattle.list_labels.specs.KnownLabels.{is_among};
@@ -101,6 +101,16 @@ impl TextTree {
     {
         self.below(place).iter().any(|other| *other != place
             && self.side.has(label, self.text(*other)))
+    }
+
+    /// Returns whether the text at a place is the longest one that a label has at this side.
+    pub(crate) fn is_longest(&self, place: usize, label: &[u8]) -> bool
+        ensures { (result ≡ true) ↔ IsLongest self.now.side self.now.texts.items label.now place }
+    {
+        if self.texts.len() <= place {
+            return false;
+        }
+        self.side.has(label, self.text(place)) && !self.goes_below(place, label)
     }
 
     /// Returns the place of the longest text that a label has at this side.

@@ -118,15 +118,9 @@ impl TextPair<'_> {
     fn has(&self, label: &[u8]) -> bool
         ensures { (result ≡ true) ↔ IsWitness self.now label.now }
     {
-        let front = self.parts.fronts.place_of(label);
-        let end = self.parts.ends.place_of(label);
-        if front != self.front {
-            return false;
-        }
-        if end != self.end {
-            return false;
-        }
-        !has_text(self.parts.known, label)
+        self.parts.fronts.is_longest(self.front, label)
+            && self.parts.ends.is_longest(self.end, label)
+            && !has_text(self.parts.known, label)
     }
 
     // The search for a label with so many bytes between two parts. If their number is odd, the first of them follows the first

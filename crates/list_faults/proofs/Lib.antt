@@ -4,6 +4,5 @@ pub mod RuleLemmas
 pub mod KindLemmas
 pub mod StartsLemmas
 pub mod ValueLemmas
-pub mod JsonAdviceLemmas
 pub mod MessageLemmas
 pub mod FoundLemmas

@@ -1,5 +1,5 @@
 -- The texts of faults.
-use Rattle.std.specs.Prelude.{ℕ, List, [], ◌∷◌, ◌++◌, codes, decimal, if◌then◌else◌, Option, Some, None, nat_eq}
+use Rattle.std.specs.Prelude.{ℕ, ◌==◌, List, [], ◌∷◌, ◌++◌, codes, decimal, length, if◌then◌else◌, Option, Some, None, nat_eq}
 use Rattle.std.specs.Fmt.{option_append}
 use Rattle.std.specs.List.{starts_with}
 use Rattle.std.specs.Option.{option_copied}
@@ -8,8 +8,6 @@ use Rattle.list_parts.specs.PartTexts.{part_text, shortfall_text}
 use Rattle.list_faults.specs.FoundValues.{Found, Missing, Text, found_at, found_text}
 use Rattle.list_faults.specs.declared.expected_value.ExpectedValue.{ExpectedValue}
 use Rattle.list_faults.specs.declared.expected_value.ExpectedValue.TheVariants as expect
-use Rattle.list_faults.specs.declared.json_advice.JsonAdvice.{JsonAdvice}
-use Rattle.list_faults.specs.declared.json_advice.JsonAdvice.TheVariants as advice
 use Rattle.list_faults.specs.declared.list_fault.FaultPlace.{FaultPlace}
 use Rattle.list_faults.specs.declared.list_fault.FaultPlace.TheVariants as whereabouts
 use Rattle.list_faults.specs.declared.list_fault.JsonReason.{JsonReason}
@@ -27,8 +25,7 @@ expected_text expect.InnerEntries = codes "a list of entries, at most 32 with th
 expected_text expect.NoInit = codes "no init, since inits nest at most 3 deep"
 expected_text expect.Name = codes "a name as text: 1 to 32 letters, digits, `_`, `-` and `.`"
 expected_text expect.NewName = codes "a name that no earlier entry has"
-expected_text expect.Binary = codes "`script`, `log`, `files` or `init`"
-expected_text expect.BinaryWithKinds = codes "`script`, `log`, `files`, `server` or `init`"
+expected_text expect.Binary = codes "`script`, `log`, `files`, `server` or `init`"
 expected_text expect.Amount = codes "an amount as text"
 expected_text expect.Caps = codes "a whole number from 0 to 4294967295"
 expected_text expect.NoReserve = codes "no reserve, since only a script has one"
@@ -73,18 +70,12 @@ abbrev pub text_before : List ℕ → List ℕ → List ℕ
 text_before mark [] = []
 text_before mark (b ∷ bs) = if starts_with nat_eq (b ∷ bs) mark then [] else b ∷ text_before mark bs
 
-abbrev pub advice_text : JsonAdvice → List ℕ
-advice_text advice.ByteOrderMark = codes "JSON has no byte order mark"
-advice_text advice.Comment = codes "JSON has no comments"
-advice_text advice.TrailingComma = codes "JSON has no comma after the last element"
-
-abbrev pub advice_after : Option JsonAdvice → List ℕ
-advice_after None = []
-advice_after (Some advice) = codes "; " ++ advice_text advice
+abbrev pub advice_after : List ℕ → List ℕ
+advice_after advice = if length advice == 0 then [] else codes "; " ++ advice
 
 -- the parser's message without the line and the column, and advice
 abbrev pub reason_text : JsonReason → List ℕ
-reason_text reason = text_before (codes " at line ") reason.told.bytes ++ advice_after reason.advice
+reason_text reason = text_before (codes " at line ") reason.told.bytes ++ advice_after reason.advice.now
 
 -- ---- of a list
 

@@ -2,6 +2,5 @@ pub mod Places
 pub mod RuleFaults
 pub mod KindFaults
 pub mod Values
-pub mod JsonAdvice
 pub mod FoundValues
 pub mod FaultTexts

@@ -76,10 +76,6 @@ member_of field.ReserveCaps = codes "reserve-caps"
 member_of field.Config = codes "config"
 member_of field.Kinds = codes "kinds"
 
--- an entry that has kinds may be meant to declare its service
-abbrev pub binary_expected : Data → ExpectedValue
-binary_expected entry = if is_some (get (codes "kinds") entry) then expect.BinaryWithKinds else expect.Binary
-
 abbrev pub provides_expected : Data → ExpectedValue
 provides_expected entry = if runs (codes "server") entry then expect.DeclaredService else expect.Provides
 
@@ -94,7 +90,7 @@ config_expected entry = if is_some (option_and_then as_object (get (codes "confi
 -- the value that is expected of an entry's member; of a name, another one if an earlier entry has it
 abbrev pub expected_of : Bool → Data → ConfigField → ExpectedValue
 expected_of taken entry field.Name = if taken then expect.NewName else expect.Name
-expected_of taken entry field.Binary = binary_expected entry
+expected_of taken entry field.Binary = expect.Binary
 expected_of taken entry field.Quantum = expect.Amount
 expected_of taken entry field.Caps = expect.Caps
 expected_of taken entry field.Provides = provides_expected entry

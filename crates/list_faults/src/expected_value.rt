@@ -25,8 +25,6 @@ pub enum ExpectedValue {
     NewName,
     /// A binary.
     Binary,
-    /// A binary of an entry that has kinds.
-    BinaryWithKinds,
     /// An amount.
     Amount,
     /// A number of capabilities.
@@ -70,8 +68,7 @@ impl ExpectedValue {
             ExpectedValue::NoInit => "no init, since inits nest at most 3 deep",
             ExpectedValue::Name => "a name as text: 1 to 32 letters, digits, `_`, `-` and `.`",
             ExpectedValue::NewName => "a name that no earlier entry has",
-            ExpectedValue::Binary => "`script`, `log`, `files` or `init`",
-            ExpectedValue::BinaryWithKinds => "`script`, `log`, `files`, `server` or `init`",
+            ExpectedValue::Binary => "`script`, `log`, `files`, `server` or `init`",
             ExpectedValue::Amount => "an amount as text",
             ExpectedValue::Caps => "a whole number from 0 to 4294967295",
             ExpectedValue::NoReserve => "no reserve, since only a script has one",

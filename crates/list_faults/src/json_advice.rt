@@ -1,99 +1,112 @@
-//! What a text that is no JSON has and other formats allow.
-ghost use Rattle.std.specs.Prelude.{◌≡◌, ◌≤◌, Some, length};
-ghost use Rattle.list_faults.specs.FaultTexts.{advice_text};
-ghost use Rattle.list_faults.specs.JsonAdvice.{ends_in_comma, is_space, line_start};
+//! What is expected at the place where a text is no JSON.
+use text_codec::skip_bytes;
 
-use std::fmt;
-
-/// The bytes of a byte order mark in UTF-8.
-const BYTE_ORDER_MARK: &[u8] = b"\xef\xbb\xbf";
-
-/// A part of a text that JSON forbids and other formats allow.
-#[derive(Clone, Copy, PartialEq, Eq)]
-pub(crate) enum JsonAdvice {
-    /// A byte order mark before the first value.
-    ByteOrderMark,
-    /// A comment.
-    Comment,
-    /// A comma after the last element or member.
-    TrailingComma,
-}
-
-impl JsonAdvice {
-    ghost use Rattle.std.specs.Prelude.{◌≡◌};
-    ghost use Rattle.list_faults.specs.JsonAdvice.{advice_at, advice_in};
-
-    /// Returns the forbidden part at the column of a line of a text, both from 1 on, if it is one of these.
-    pub(crate) fn find(text: &[u8], line: usize, column: usize) -> Option<JsonAdvice>
-        ensures { result ≡ advice_in text.now line column }
+/// Returns what JSON expects at the column of a line of a text, both from 1 on, or which part the text has there that other formats
+/// allow.
+pub(crate) fn json_advice(text: &[u8], line: usize, column: usize) -> &'static str {
+    let mut place = column.saturating_sub(1);
+    for line in text
+        .split(|byte| *byte == b'\n')
+        .take(line.saturating_sub(1))
     {
-        let start = line_start(text, line);
-        let place = start + column.saturating_sub(1).min(text.len() - start);
-        JsonAdvice::between(&text[..place], &text[place..])
+        place = place.saturating_add(line.len()).saturating_add(1);
     }
-
-    // Returns the forbidden part at the front of the second of two texts.
-    fn between(before: &[u8], rest: &[u8]) -> Option<JsonAdvice>
-        ensures { result ≡ advice_at before.now rest.now }
-    {
-        if before.is_empty() && rest.starts_with(BYTE_ORDER_MARK) {
-            return Some(JsonAdvice::ByteOrderMark);
+    let rest = skip_bytes(text, place);
+    if place == 0 && rest.starts_with(b"\xef\xbb\xbf") {
+        return "JSON has no byte order mark";
+    }
+    if rest.starts_with(b"//") || rest.starts_with(b"/*") {
+        return "JSON has no comments";
+    }
+    let mut scan = JsonScan {
+        objects: 1,
+        next: NextToken::Value,
+    };
+    for byte in text.iter().take(place) {
+        scan.pass(*byte);
+    }
+    let is_end = rest.starts_with(b"}") || rest.starts_with(b"]");
+    match (scan.next, scan.container()) {
+        (NextToken::Value | NextToken::Name, Some(_)) if is_end && scan.objects > 1 => {
+            "JSON has no comma after the last element"
         }
-        if rest.starts_with(b"//") || rest.starts_with(b"/*") {
-            return Some(JsonAdvice::Comment);
-        }
-        if (rest.starts_with(b"}") || rest.starts_with(b"]")) && ends_in_comma(before) {
-            return Some(JsonAdvice::TrailingComma);
-        }
-        None
+        (NextToken::Value | NextToken::Scalar, _) => "expected a value",
+        (NextToken::FirstValue, _) => "expected a value or `]`",
+        (NextToken::Name, _) => "expected a name in quotes",
+        (NextToken::FirstName, _) => "expected a name in quotes or `}`",
+        (NextToken::Colon, _) => "expected `:`",
+        (NextToken::Quoted(_, _), _) => "expected the rest of a text and its second quote",
+        (NextToken::Behind, Some(true)) => "expected `,` or `}`",
+        (NextToken::Behind, Some(false)) => "expected `,` or `]`",
+        (NextToken::Behind, None) => "expected the end of the text",
     }
 }
 
-impl fmt::Display for JsonAdvice {
-    ghost output = { λ advice. Some (advice_text advice) };
-
-    fn fmt<W: fmt::Write>(&self, f: &mut fmt::Formatter<W>) -> fmt::Result {
-        f.write_str(match self {
-            JsonAdvice::ByteOrderMark => "JSON has no byte order mark",
-            JsonAdvice::Comment => "JSON has no comments",
-            JsonAdvice::TrailingComma => "JSON has no comma after the last element",
-        })
-    }
+// What comes next in a JSON text.
+#[derive(Clone, Copy)]
+enum NextToken {
+    Value,
+    // A value, or the end of a list.
+    FirstValue,
+    // The name of a member.
+    Name,
+    // The name of a member, or the end of an object.
+    FirstName,
+    Colon,
+    // The rest of a number or a word.
+    Scalar,
+    // The rest of a text: whether it is a name, and whether its next character is escaped.
+    Quoted(bool, bool),
+    // What follows a value.
+    Behind,
 }
 
-// Returns the number of bytes before the line of a number, from 1 on, or the length of a text with fewer lines.
-#[tactic(auto, using(crate::proofs::JsonAdviceLemmas::begins_at_once))]
-fn line_start(text: &[u8], line: usize) -> usize
-    ensures value { result ≡ line_start line text.now }
-    ensures within { result ≤ length text.now }
-{
-    let mut left = line;
-    for (place, byte) in text.iter().enumerate() {
-        if left <= 1 {
-            return place;
+// The front of a JSON text. `objects` has a bit for each list and each object that is open, set for an object, after a first bit.
+#[derive(Drop)]
+struct JsonScan {
+    objects: u128,
+    next: NextToken,
+}
+
+impl JsonScan {
+    // Whether the innermost part that is open is an object and no list, if one is open.
+    fn container(&self) -> Option<bool> {
+        if self.objects > 1 {
+            Some(self.objects % 2 == 1)
+        } else {
+            None
         }
-        if *byte == b'\n' {
-            left -= 1;
-        }
     }
-    text.len()
-}
 
-// Returns whether the last byte of a text is a comma, except for white space.
-fn ends_in_comma(mut text: &[u8]) -> bool
-    ensures { result ≡ ends_in_comma text.now }
-{
-    while let [rest @ .., last] = text
-        && is_space(*last)
-    {
-        text = rest;
+    // Passes the next byte.
+    fn pass(&mut self, byte: u8) {
+        let is_object = self.container() == Some(true);
+        self.next = match (self.next, byte) {
+            (NextToken::Quoted(name, true), _) => NextToken::Quoted(name, false),
+            (NextToken::Quoted(name, false), b'\\') => NextToken::Quoted(name, true),
+            (NextToken::Quoted(true, false), b'"') => NextToken::Colon,
+            (NextToken::Quoted(false, false), b'"') => NextToken::Behind,
+            (NextToken::Quoted(name, false), _) => NextToken::Quoted(name, false),
+            (NextToken::Scalar, b' ' | b'\t' | b'\n' | b'\r') => NextToken::Behind,
+            (next, b' ' | b'\t' | b'\n' | b'\r') => next,
+            (NextToken::Name | NextToken::FirstName, b'"') => NextToken::Quoted(true, false),
+            (_, b'"') => NextToken::Quoted(false, false),
+            (_, b'{') => {
+                self.objects = self.objects.wrapping_mul(2) | 1;
+                NextToken::FirstName
+            }
+            (_, b'[') => {
+                self.objects = self.objects.wrapping_mul(2);
+                NextToken::FirstValue
+            }
+            (_, b'}' | b']') => {
+                self.objects /= 2;
+                NextToken::Behind
+            }
+            (_, b':') => NextToken::Value,
+            (_, b',') if is_object => NextToken::Name,
+            (_, b',') => NextToken::Value,
+            (_, _) => NextToken::Scalar,
+        };
     }
-    text.ends_with(b",")
-}
-
-// Returns whether a byte is white space of JSON.
-fn is_space(byte: u8) -> bool
-    ensures { result ≡ is_space byte }
-{
-    matches!(byte, b' ' | b'\t' | b'\n' | b'\r')
 }

@@ -3,7 +3,7 @@ ghost use Rattle.std.specs.Prelude.{◌≡◌, Some, codes};
 ghost use Rattle.list_parser.specs.declared.fault.BootFault.TheVariants.{NoMemory};
 ghost use Rattle.list_faults.specs.FaultTexts.{fault_text, place_text, reason_text, text_before};
 
-use crate::json_advice::JsonAdvice;
+use crate::json_advice::json_advice;
 use crate::value_flaw::ValueFlaw;
 use arrayvec::ArrayString;
 use list_parser::BootFault;
@@ -16,11 +16,12 @@ use std::fmt::{Display, Write};
 /// The maximum number of bytes of the JSON parser's message: its reason, the line and the column.
 const MOST_TOLD: usize = 80;
 
-/// The reason why a text is no JSON, as its parser reports it, and what the text has that other formats allow.
+/// The reason why a text is no JSON, as its parser reports it, and what is expected there or what the text has that other formats
+/// allow.
 #[derive(Clone, Copy)]
 pub struct JsonReason {
     told: ArrayString<MOST_TOLD>,
-    advice: Option<JsonAdvice>,
+    advice: &'static str,
 }
 
 impl JsonReason {
@@ -28,10 +29,12 @@ impl JsonReason {
     pub fn of(error: &Error, text: &[u8]) -> JsonReason {
         let mut told = ArrayString::new();
         let _ = write!(told, "{error}");
-        JsonReason {
-            told,
-            advice: JsonAdvice::find(text, error.line(), error.column()),
-        }
+        let advice = if told.as_str().starts_with("number") {
+            ""
+        } else {
+            json_advice(text, error.line(), error.column())
+        };
+        JsonReason { told, advice }
     }
 }
 
@@ -41,10 +44,10 @@ impl Display for JsonReason {
 
     fn fmt<W: fmt::Write>(&self, f: &mut fmt::Formatter<W>) -> fmt::Result {
         f.write_str(reason_in(self.told.as_str()))?;
-        match self.advice {
-            Some(advice) => write!(f, "; {advice}"),
-            None => Ok(()),
+        if self.advice.is_empty() {
+            return Ok(());
         }
+        write!(f, "; {}", self.advice)
     }
 }
 

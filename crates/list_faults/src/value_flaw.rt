@@ -8,7 +8,7 @@ ghost use Rattle.list_parser.specs.FaultPlace.{entry_at_fault};
 ghost use Rattle.list_parser.specs.declared.fault.BootFault.TheVariants.{NoMemory};
 ghost use Rattle.list_faults.specs.FaultTexts.{contrast_text, flaw_text, member_text};
 ghost use Rattle.list_faults.specs.FoundValues.{found_at};
-ghost use Rattle.list_faults.specs.Places.{FaultsHavePlaces, binary_expected, config_expected, expected_of, field_of, if_script, inner_rules_spot, is_taken, kinds_spot, member_in, member_of, own_rules_spot, provides_expected, rule_spot, rules_spot, spot_at, spot_before, spot_in, spot_of, spot_of_flaw, start_spot, whole};
+ghost use Rattle.list_faults.specs.Places.{FaultsHavePlaces, config_expected, expected_of, field_of, if_script, inner_rules_spot, is_taken, kinds_spot, member_in, member_of, own_rules_spot, provides_expected, rule_spot, rules_spot, spot_at, spot_before, spot_in, spot_of, spot_of_flaw, start_spot, whole};
 ghost use Rattle.list_faults.specs.Values.{seen};
 ghost use Rattle.list_faults.specs.declared.expected_value.ExpectedValue.TheVariants.{MachineSize};
 
@@ -268,7 +268,7 @@ fn expected_of(entry: &Value, field: ConfigField, taken: bool) -> ExpectedValue
     match field {
         ConfigField::Name if taken => ExpectedValue::NewName,
         ConfigField::Name => ExpectedValue::Name,
-        ConfigField::Binary => binary_expected(entry),
+        ConfigField::Binary => ExpectedValue::Binary,
         ConfigField::Quantum => ExpectedValue::Amount,
         ConfigField::Caps => ExpectedValue::Caps,
         ConfigField::Provides => provides_expected(entry),
@@ -367,17 +367,6 @@ fn in_kinds(
             at(part, Some(value), "kinds", ExpectedValue::Kinds)
         }
     })
-}
-
-// The value that is expected of `binary`. An entry that has kinds may be meant to declare its service.
-fn binary_expected(entry: &Value) -> ExpectedValue
-    ensures { result ≡ binary_expected (view entry.now) }
-{
-    if entry.get("kinds").is_some() {
-        ExpectedValue::BinaryWithKinds
-    } else {
-        ExpectedValue::Binary
-    }
 }
 
 // The value that is expected of `provides`: a server that declares its service names it.

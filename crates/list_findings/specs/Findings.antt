@@ -1,5 +1,5 @@
 -- Findings: parts of a start list that are probably not intended.
-use Rattle.std.specs.Prelude.{ℕ, ◌+◌, ◌%◌, ◌==◌, ◌&&◌, Bool, not, List, [], ◌∷◌, ◌++◌, flat_map, is_some, nat_lt, position, find, take, if◌then◌else◌, Option, Some, None}
+use Rattle.std.specs.Prelude.{ℕ, ◌+◌, ◌%◌, ◌==◌, ◌&&◌, Bool, not, List, [], ◌∷◌, ◌++◌, codes, flat_map, is_some, nat_lt, position, find, take, if◌then◌else◌, Option, Some, None}
 use Rattle.std.specs.List.{enumerate_from, list_any}
 use Rattle.std.specs.Option.{option_map}
 use Rattle.std.specs.Str.{bytes_eq, str_eq_ignore_ascii_case}
@@ -17,7 +17,7 @@ use Rattle.list_parts.specs.Steps.{part_of}
 use Rattle.list_findings.specs.RuleTargets.{child_at, is_provided}
 use Rattle.list_findings.specs.declared.finding.Finding.{Finding}
 use Rattle.list_findings.specs.declared.finding.Remark.{Remark}
-use Rattle.list_findings.specs.declared.finding.Remark.TheVariants.{NoChild, NotProvided, NoProvider, SeveralProviders, Hidden, NotProviding, OtherCase, Unreached, LowRam, LowCaps, PartPages, PartReserve}
+use Rattle.list_findings.specs.declared.finding.Remark.TheVariants.{NoChild, NotProvided, NoProvider, SeveralProviders, Hidden, NotProviding, OtherCase, Unreached, LowRam, LowCaps, MachinesName, PartPages, PartReserve}
 use Rattle.list_parts.specs.declared.list_part.RuleOwner.{RuleOwner}
 use Rattle.list_parts.specs.declared.list_part.RuleOwner.TheVariants as owner
 use Rattle.list_parts.specs.declared.list_part.ListPart.{ListPart}
@@ -123,6 +123,11 @@ rules_findings list init owner rules = flat_map (findings_at list init owner rul
 
 -- ---- of an entry
 
+-- an entry of the outermost list has the name of the machine's own account
+abbrev pub machines_name : ListedEntry → Option Remark
+machines_name entry = if entry.home == 0 && bytes_eq entry.name (codes "init") then Some MachinesName else None
+
+-- its RAM isn't whole pages
 abbrev pub part_pages : ListedEntry → Option Remark
 part_pages entry = if entry.ram % 4096 == 0 then None else Some (PartPages entry.ram)
 
@@ -173,7 +178,7 @@ inner_findings list entry = rules_findings list (entry.0 + 1) (owner.Inner entry
 abbrev pub entry_findings : Listed → ℕ × ListedEntry → List Finding
 entry_findings list entry =
     let part = part_of list.entries (about.Entry entry.0) in
-    pages_findings part entry.1 ++ use_findings list part entry entry.1.binary
+    finding_on part (machines_name entry.1) ++ pages_findings part entry.1 ++ use_findings list part entry entry.1.binary
     ++ route_findings list entry entry.1.route ++ inner_findings list entry
 
 -- ---- of all lists

@@ -62,6 +62,7 @@ phrase_of (remark.NotProviding service) = said (codes "provides: missing `") (Na
 phrase_of remark.Unreached = said (codes "unused server: no script's session request is routed to it") Nothing [] None
 phrase_of (remark.LowRam own kept) = said [] (Ram own kept) (codes " bytes are insufficient for a session; expected at least 4096") None
 phrase_of (remark.LowCaps own kept) = said [] (Caps own kept) (codes " capabilities are insufficient for a session; expected at least 2") None
+phrase_of remark.MachinesName = said (codes "name: `init` is the machine's own account in account lists") Nothing [] None
 phrase_of (remark.PartPages ram) = said (codes "quantum: expected whole pages of 4096 bytes, found ") (Number ram) (codes " bytes") None
 phrase_of (remark.PartReserve ram) = said (codes "reserve: expected whole pages of 4096 bytes, found ") (Number ram) (codes " bytes") None
 

@@ -118,6 +118,8 @@ pub enum Remark {
     /// A request is routed to a server, but the capabilities of the account and the reserve together are insufficient for a
     /// session.
     LowCaps(u32, u32),
+    /// An entry of the outermost list has the name of the machine's own account.
+    MachinesName,
     /// The RAM isn't whole pages.
     PartPages(u64),
     /// The RAM of the reserve isn't whole pages.
@@ -163,6 +165,7 @@ impl Remark {
             Remark::NotProviding(_) => "provides: missing `",
             Remark::Unreached => "unused server: no script's session request is routed to it",
             Remark::LowRam(_, _) | Remark::LowCaps(_, _) => "",
+            Remark::MachinesName => "name: `init` is the machine's own account in account lists",
             Remark::PartPages(_) => "quantum: expected whole pages of 4096 bytes, found ",
             Remark::PartReserve(_) => "reserve: expected whole pages of 4096 bytes, found ",
         }
@@ -190,9 +193,11 @@ impl Remark {
             Remark::LowRam(own, kept) => RemarkValue::Ram(*own, *kept),
             Remark::LowCaps(own, kept) => RemarkValue::Caps(*own, *kept),
             Remark::PartPages(ram) | Remark::PartReserve(ram) => RemarkValue::Number(*ram),
-            Remark::Idle | Remark::Arrow | Remark::ChosenEnd | Remark::Unreached => {
-                RemarkValue::Nothing
-            }
+            Remark::Idle
+            | Remark::Arrow
+            | Remark::ChosenEnd
+            | Remark::Unreached
+            | Remark::MachinesName => RemarkValue::Nothing,
         }
     }
 
@@ -220,7 +225,8 @@ impl Remark {
             | Remark::Arrow
             | Remark::LetsIn(_, _)
             | Remark::ChosenEnd
-            | Remark::Unreached => "",
+            | Remark::Unreached
+            | Remark::MachinesName => "",
         }
     }
 

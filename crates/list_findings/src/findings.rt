@@ -2,7 +2,7 @@
 //! entry follows with its own route and the default route of what it starts.
 ghost use Rattle.std.specs.Prelude.{◌≡◌, ◌<◌, ◌++◌, is_some, OnOk};
 ghost use Rattle.std.specs.Option.{option_copied};
-ghost use Rattle.list_findings.specs.Findings.{entry_findings, finding_on, findings_of, hidden, label_findings, low_caps, low_ram, missed, pages_findings, part_pages, part_reserve, route_findings, rule_findings, rules_findings, unreached, use_findings, useless};
+ghost use Rattle.list_findings.specs.Findings.{entry_findings, finding_on, findings_of, hidden, label_findings, low_caps, low_ram, machines_name, missed, pages_findings, part_pages, part_reserve, route_findings, rule_findings, rules_findings, unreached, use_findings, useless};
 ghost use Rattle.list_findings.specs.Outer.{chosen_end, outer_init, wide_front};
 ghost use Rattle.list_parts.specs.Steps.{part_of};
 ghost use Rattle.list_findings.specs.Views.{ShowAll};
@@ -66,6 +66,8 @@ fn add_entry_findings(
     ensures { OnOk result
         (found.new.items ≡ found.old.items ++ entry_findings decided.entry.list.now (number, entry.now)) }
 {
+    let name = machines_name(entry);
+    add_remark(found, alloc, decided.list, PartId::Entry(number), name)?;
     add_pages_findings(found, alloc, decided.list, number, entry)?;
     add_use_findings(found, alloc, decided, number, entry)?;
     add_route_findings(found, alloc, decided, number, entry)?;
@@ -166,6 +168,17 @@ fn add_missed(
 {
     let remark = missed(decided, service, number, entry);
     add_remark(found, alloc, decided.list, PartId::Entry(number), remark)
+}
+
+// Whether an entry of the outermost list has the name of the machine's own account.
+fn machines_name(entry: &ListEntry) -> Option<Remark>
+    ensures { result ≡ machines_name entry.now }
+{
+    if entry.home() == 0 && entry.name() == b"init".as_slice() {
+        Some(Remark::MachinesName)
+    } else {
+        None
+    }
 }
 
 // Whether an entry's RAM isn't whole pages.

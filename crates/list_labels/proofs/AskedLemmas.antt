@@ -8,13 +8,13 @@ use Rattle.std.proofs.lemmas.Bool.Decides.{Decides-eqb, nat_tests}
 use Rattle.std.proofs.lemmas.Slice.Eq.{bytes_eq-Decides, starts_is, ends_is}
 use Rattle.std.proofs.lemmas.List.{append_assoc, append-nil, length-append, drop_all}
 use Rattle.std.proofs.lemmas.List.Folds.{list_all-append}
-use Rattle.std.proofs.lemmas.Bool.{and_parts, and_from, or_parts, both_ways, or_cases}
+use Rattle.std.proofs.lemmas.Bool.{and_parts, and_from, or_left, or_parts, or_right, both_ways, or_cases}
 use Rattle.std.proofs.Math.Seq.{drop-append_seam}
 use Rattle.own_model.specs.SessionArgs.{is_quotable}
 use Rattle.own_model.specs.Routes.{as_asked, label_with}
 use Rattle.own_model.specs.Listed.{Listed, ListedEntry, ListedRule, asks_for, end_of, init_entry, most_lists, route_within, rules_for, way_by, way_to}
 use Rattle.list_labels.specs.GivenLabels.{IsGiven, leads_to}
-use Rattle.list_labels.specs.Asked.{agrees, agrees_within, asked_by, asked_of, asked_of_rule, asked_within, asks_nothing, behind, is_given, is_known, is_open, is_tail, is_whole, known, known_within, rule_agrees, same_as, text_of}
+use Rattle.list_labels.specs.Asked.{agrees, agrees_within, asked_by, asked_of, asked_of_rule, asked_texts, asked_within, asks_nothing, behind, can_begin, is_given, is_known, is_open, is_tail, is_whole, known, known_within, rule_agrees, same_as, text_of}
 use Rattle.list_labels.specs.LabelRanges.{AskedLabel, IsInRange, fits}
 use Rattle.list_labels.proofs.KeyLemmas.{begins_from, ends_from, same_tests}
 
@@ -121,6 +121,16 @@ front_behind before text None holds =
     (begins_from text (drop (length before) []) text (ap (λ d. d ++ text) (sym (drop_all (length before) [] (omega arith)))), λ other begins. refl)
 front_behind before text (Some asked) holds =
     behind_case before text asked (drop (length asked) (before ++ text)) (begins_by (before ++ text) asked holds)
+
+-- if the names before a label and a beginning that is asked differ, no label is as asked
+begins_after : (before text : List ℕ) (asked : Option (List ℕ)) → as_asked (starts_with nat_eq (before ++ text)) asked ≡ true
+    → can_begin before (text_of asked) ≡ true
+begins_after before text None holds = or_left (starts_with nat_eq before []) (starts_with nat_eq [] before) (begins_from before [] before refl)
+begins_after before text (Some asked) holds =
+    elim (parted before text asked (drop (length asked) (before ++ text)) (begins_by (before ++ text) asked holds)) [
+      | inl way ↦ or_left (starts_with nat_eq before asked) _ (begins_from before asked way.0 way.1)
+      | inr way ↦ or_right (starts_with nat_eq before asked) _ (begins_from asked before (way.0 ∷ way.1) way.2)
+    ]
 
 -- longer bytes begin so too
 front_more : (before front rest : List ℕ) (asked : Option (List ℕ)) → as_asked (starts_with nat_eq (before ++ front)) asked ≡ true
@@ -234,20 +244,20 @@ nothing_holds : (seen : List ℕ) (asked : Option (List ℕ)) → asks_nothing a
 nothing_holds seen None is = refl
 nothing_holds seen (Some asked) is = cc
 
-asked_when : (service : List ℕ) (before : ℕ) (rule : ListedRule) (asks nothing one two : Bool)
-    → as_asked (bytes_eq service) rule.service ≡ asks → asks_nothing rule.label ≡ nothing
-    → is_given (drop before (text_of rule.label_prefix)) ≡ one → is_given (text_of rule.label_suffix) ≡ two
-    → asks ≡ true → nothing ≡ true → one ≡ true → two ≡ true
-    → asked_of_rule service before rule ≡ record { front = drop before (text_of rule.label_prefix); end = text_of rule.label_suffix } ∷ []
-asked_when service before rule true true true true asking whole front end _ _ _ _ = cc
-asked_when service before rule false nothing one two asking whole front end a b c d = cc
-asked_when service before rule true false one two asking whole front end a b c d = cc
-asked_when service before rule true true false two asking whole front end a b c d = cc
-asked_when service before rule true true true false asking whole front end a b c d = cc
+asked_when : (service before : List ℕ) (rule : ListedRule) → as_asked (bytes_eq service) rule.service ≡ true → asks_nothing rule.label ≡ true
+    → can_begin before (text_of rule.label_prefix) ≡ true
+    → is_given (drop (length before) (text_of rule.label_prefix)) ≡ true → is_given (text_of rule.label_suffix) ≡ true
+    → asked_of_rule service before rule
+    ≡ record { front = drop (length before) (text_of rule.label_prefix); end = text_of rule.label_suffix } ∷ []
+asked_when service before rule asks nothing begins front end =
+    ap (λ b. if b then asked_texts (drop (length before) (text_of rule.label_prefix)) (text_of rule.label_suffix) else [])
+    (and_from _ _ asks (and_from _ _ nothing begins))
+    ∙ ap (λ b. if b then record { front = drop (length before) (text_of rule.label_prefix); end = text_of rule.label_suffix } ∷ [] else [])
+    (and_from _ _ front end)
 
 open_then : (service before label front end rest head : List ℕ) (rule : ListedRule) → IsGiven label → is_known service before label rule ≡ false
     → label ≡ front ++ rest → label ≡ head ++ end
-    → Within label (length front) (length end) (asked_of_rule service (length before) rule)
+    → Within label (length front) (length end) (asked_of_rule service before rule)
     → asks_for rule service (before ++ label) ≡ true → is_open rule service (before ++ front) end ≡ true
 open_then service before label front end rest head rule given lost begins ends within holds =
     let parts = open_parts _ _ _ _ holds in
@@ -260,7 +270,7 @@ open_then service before label front end rest head rule given lost begins ends w
     let last = text_of rule.label_suffix in
     let front_given = (given_parts first (drop (length first) label) (subst IsGiven (begins_by label first opened.0) given)).0 in
     let end_given = (given_parts (take (length label - length last) label) last (subst IsGiven (ends_by label last ended) given)).1 in
-    let asked = asked_when service (length before) rule _ _ _ _ refl refl refl refl parts.0 nothing front_given end_given in
+    let asked = asked_when service before rule parts.0 nothing (begins_after before label rule.label_prefix parts.2) front_given end_given in
     let bounds = subst (λ a. Within label (length front) (length end) a) asked within in
     let short = bounds.0 (and_from _ _ opened.0 ended) in
     open_by _ _ _ _ parts.0 nothing
@@ -279,7 +289,7 @@ then_open service before label front end rest head rule begins ends holds =
 
 rule_agreeing : (service before label front end rest head : List ℕ) (rule : ListedRule) → IsGiven label → is_known service before label rule ≡ false
     → label ≡ front ++ rest → label ≡ head ++ end
-    → Within label (length front) (length end) (asked_of_rule service (length before) rule)
+    → Within label (length front) (length end) (asked_of_rule service before rule)
     → rule_agrees service (before ++ front) (before ++ label) end rule ≡ true
 rule_agreeing service before label front end rest head rule given lost begins ends within =
     is_as _ _ (same_tests _ _
@@ -288,13 +298,13 @@ rule_agreeing service before label front end rest head rule given lost begins en
 
 rules_agreeing : (service before label front end rest head : List ℕ) (rules : List ListedRule) → IsGiven label
     → list_any (is_known service before label) rules ≡ false → label ≡ front ++ rest → label ≡ head ++ end
-    → Within label (length front) (length end) (asked_by service (length before) rules)
+    → Within label (length front) (length end) (asked_by service before rules)
     → list_all (rule_agrees service (before ++ front) (before ++ label) end) rules ≡ true
 rules_agreeing service before label front end rest head [] given lost begins ends within = refl
 rules_agreeing service before label front end rest head (rule ∷ rules) given lost begins ends within =
     let unknown = or_parts (is_known service before label rule) (list_any (is_known service before label) rules) lost in
-    let bounds = within_split label (length front) (length end) (asked_of_rule service (length before) rule)
-    (asked_by service (length before) rules) within in
+    let bounds = within_split label (length front) (length end) (asked_of_rule service before rule)
+    (asked_by service before rules) within in
     and_from _ _ (rule_agreeing service before label front end rest head rule given unknown.0 begins ends bounds.0)
     (rules_agreeing service before label front end rest head rules given unknown.1 begins ends bounds.1)
 
@@ -326,7 +336,7 @@ lists_agreeing : (lists : ℕ) (list : Listed) (entry : ListedEntry) (service be
 lists_agreeing zero list entry service before label front end rest head given lost begins ends within = refl
 lists_agreeing (suc lists) list entry service before label front end rest head given lost begins ends within =
     let unknown = or_parts (list_any (is_known service before label) (rules_for list entry)) _ lost in
-    let bounds = within_split label (length front) (length end) (asked_by service (length before) (rules_for list entry)) _ within in
+    let bounds = within_split label (length front) (length end) (asked_by service before (rules_for list entry)) _ within in
     and_from _ _ (rules_agreeing service before label front end rest head (rules_for list entry) given unknown.0 begins ends bounds.0)
     (outer_agreeing lists list entry.name service before label front end rest head (init_entry list entry.home) given
     (λ init unknown_there bounds_there.
@@ -557,28 +567,28 @@ between range list client service label asked is given lost =
 
 pub asked_goes_on : (lists less : ℕ) (list : Listed) (entry init : ListedEntry) (service before outer : List ℕ) (old middle new : List AskedLabel)
     → lists ≡ suc less → init_entry list entry.home ≡ Some init → outer ≡ behind entry.name before
-    → middle ≡ old ++ asked_by service (length before) (rules_for list entry) → new ≡ middle ++ asked_within less list init service outer
+    → middle ≡ old ++ asked_by service before (rules_for list entry) → new ≡ middle ++ asked_within less list init service outer
     → new ≡ old ++ asked_within lists list entry service before
 asked_goes_on zero less list entry init service before outer old middle new more found sees asked goes = absurd (omega arith)
 asked_goes_on (suc lists) less list entry init service before outer old middle new more found sees asked goes =
     let same : less ≡ lists = omega arith in
     goes
     ∙ (ap (λ b. b ++ asked_within less list init service outer) asked
-    ∙ (append_assoc old (asked_by service (length before) (rules_for list entry)) (asked_within less list init service outer)
-    ∙ ap (λ k. old ++ (asked_by service (length before) (rules_for list entry) ++ k))
+    ∙ (append_assoc old (asked_by service before (rules_for list entry)) (asked_within less list init service outer)
+    ∙ ap (λ k. old ++ (asked_by service before (rules_for list entry) ++ k))
     (ap (λ n. asked_within n list init service outer) same
     ∙ (ap (λ o. asked_within lists list init service o) sees
     ∙ ap (λ o. unwrap_or (option_map (λ i. asked_within lists list i service (behind entry.name before)) o) []) (sym found)))))
 
 pub asked_ends : (lists : ℕ) (list : Listed) (entry : ListedEntry) (service before : List ℕ) (old new : List AskedLabel)
     → 0 < lists → init_entry list entry.home ≡ None
-    → new ≡ old ++ asked_by service (length before) (rules_for list entry) → new ≡ old ++ asked_within lists list entry service before
+    → new ≡ old ++ asked_by service before (rules_for list entry) → new ≡ old ++ asked_within lists list entry service before
 asked_ends zero list entry service before old new some none asked = absurd (omega arith)
 asked_ends (suc lists) list entry service before old new some none asked =
     asked
     ∙ ap (λ k. old ++ k)
-    (sym (append-nil (asked_by service (length before) (rules_for list entry)))
-    ∙ ap (λ o. asked_by service (length before) (rules_for list entry)
+    (sym (append-nil (asked_by service before (rules_for list entry)))
+    ∙ ap (λ o. asked_by service before (rules_for list entry)
     ++ unwrap_or (option_map (λ i. asked_within lists list i service (behind entry.name before)) o) []) (sym none))
 
 and_of : (a b c : Bool) → a ≡ true → b ≡ c → b ≡ (a && c)

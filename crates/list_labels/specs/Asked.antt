@@ -33,14 +33,18 @@ asks_nothing (Some asked) = false
 abbrev pub asked_texts : List ℕ → List ℕ → List AskedLabel
 asked_texts front end = if is_given front && is_given end then record { front = front; end = end } ∷ [] else []
 
--- the condition of a rule on a label after so many bytes
-abbrev pub asked_of_rule : List ℕ → ℕ → ListedRule → List AskedLabel
+-- some text after these names begins with a text
+abbrev pub can_begin : List ℕ → List ℕ → Bool
+can_begin names asked = starts_with nat_eq names asked || starts_with nat_eq asked names
+
+-- the condition of a rule on a label after these names, if the rule matches any
+abbrev pub asked_of_rule : List ℕ → List ℕ → ListedRule → List AskedLabel
 asked_of_rule service before rule =
-    if as_asked (bytes_eq service) rule.service && asks_nothing rule.label
-    then asked_texts (drop before (text_of rule.label_prefix)) (text_of rule.label_suffix)
+    if as_asked (bytes_eq service) rule.service && (asks_nothing rule.label && can_begin before (text_of rule.label_prefix))
+    then asked_texts (drop (length before) (text_of rule.label_prefix)) (text_of rule.label_suffix)
     else []
 
-abbrev pub asked_by : List ℕ → ℕ → List ListedRule → List AskedLabel
+abbrev pub asked_by : List ℕ → List ℕ → List ListedRule → List AskedLabel
 asked_by service before [] = []
 asked_by service before (rule ∷ rules) = asked_of_rule service before rule ++ asked_by service before rules
 
@@ -48,7 +52,7 @@ asked_by service before (rule ∷ rules) = asked_of_rule service before rule ++ 
 abbrev pub asked_within : ℕ → Listed → ListedEntry → List ℕ → List ℕ → List AskedLabel
 asked_within zero list entry service before = []
 asked_within (suc lists) list entry service before =
-    asked_by service (length before) (rules_for list entry)
+    asked_by service before (rules_for list entry)
     ++ unwrap_or (option_map (λ init. asked_within lists list init service (behind entry.name before)) (init_entry list entry.home)) []
 
 -- the same after the condition of a range

@@ -2,7 +2,7 @@
 ghost use Rattle.std.specs.Prelude.{◌≡◌, ◌+◌, ◌*◌, ◌≤◌, ◌++◌, [], ◌∷◌, length, drop, if◌then◌else◌, Some, None, IfOk, OnOk};
 ghost use Rattle.std.specs.Option.{option_copied};
 ghost use Rattle.std.specs.List.{list_all};
-ghost use Rattle.list_labels.specs.Asked.{agrees, agrees_within, asked_by, asked_of, asked_of_rule, asked_texts, asked_within, asks_nothing, behind, is_open, rule_agrees, text_of};
+ghost use Rattle.list_labels.specs.Asked.{agrees, agrees_within, asked_by, asked_of, asked_of_rule, asked_texts, asked_within, asks_nothing, behind, can_begin, is_open, rule_agrees, text_of};
 
 use crate::key::MOST_LISTS;
 use crate::label::{ClientLabel, behind};
@@ -124,7 +124,7 @@ fn add_asked(
     if lists == 0 {
         return Ok(());
     }
-    add_by(asked, list.rules_of(entry), service, before.len())?;
+    add_by(asked, list.rules_of(entry), service, before)?;
     match list.init_entry(entry.home()) {
         Some(init) => {
             let outer = behind(entry.name(), before);
@@ -134,15 +134,15 @@ fn add_asked(
     }
 }
 
-// The conditions of the rules of a list on a label after so many bytes.
+// The conditions of the rules of a list on a label after these names.
 fn add_by(
     asked: &mut Vec<LabelCondition>,
     rules: &[Rule],
     service: &[u8],
-    before: usize,
+    before: &[u8],
 ) -> Result<(), AllocError>
     ensures { OnOk result (asked.new.items
-        ≡ asked.old.items ++ asked_by service.now before rules.now) }
+        ≡ asked.old.items ++ asked_by service.now before.now rules.now) }
 {
     for rule in rules {
         add_rule(asked, rule, service, before)?;
@@ -150,22 +150,29 @@ fn add_by(
     Ok(())
 }
 
-// The condition of a rule on a label after so many bytes.
+// The condition of a rule on a label after these names. A rule with another beginning than the names has none.
 fn add_rule(
     asked: &mut Vec<LabelCondition>,
     rule: &Rule,
     service: &[u8],
-    before: usize,
+    before: &[u8],
 ) -> Result<(), AllocError>
     ensures { OnOk result (asked.new.items
-        ≡ asked.old.items ++ asked_of_rule service.now before rule.now) }
+        ≡ asked.old.items ++ asked_of_rule service.now before.now rule.now) }
 {
-    if rule.asks_service(service) && asks_nothing(rule.label()) {
-        let front = text_of(rule.label_prefix());
+    let front = text_of(rule.label_prefix());
+    if rule.asks_service(service) && asks_nothing(rule.label()) && can_begin(before, front) {
         let end = text_of(rule.label_suffix());
-        return add_texts(asked, text_behind(front, before), end);
+        return add_texts(asked, text_behind(front, before.len()), end);
     }
     Ok(())
+}
+
+// Whether some text after these names begins with a text.
+fn can_begin(names: &[u8], asked: &[u8]) -> bool
+    ensures { result ≡ can_begin names.now asked.now }
+{
+    names.starts_with(asked) || asked.starts_with(names)
 }
 
 // Both texts, if a given label can begin and end so.

@@ -8,7 +8,7 @@ use Rattle.std.specs.Prelude.{filter, if◌then◌else◌, Option, Some, None}
 use Rattle.std.specs.Fmt.{HasWritten, HasWrittenStyled, IsDefaultSpec, IsPlainFormatter}
 use Rattle.std.specs.List.{flat_map, slice_get}
 use Rattle.std.specs.declared.fmt.Formatter.{Formatter}
-use Rattle.list_reach.specs.Csv.{path_of}
+use Rattle.list_reach.specs.Paths.{path_of}
 use Rattle.list_reach.specs.NamedSets.{SetAt}
 use Rattle.list_reach.specs.TableTexts.{Column, TableAt, TableLine, cell_before, cell_column, cells_text, gap_of, gap_text, head_text, is_by, columns_text, lines_of, margin, next_gap, script_column, script_line, server_column, server_text, set_line, sets_text, shown_in, spaces, start_text, text_before}
 use Rattle.list_reach.specs.declared.reach_cell.ReachCell.{ReachCell}

@@ -4,7 +4,6 @@ pub mod RangeReach
 pub mod Table
 pub mod Additions
 pub mod Rows
-pub mod Csv
 pub mod CellTexts
 pub mod NamedSets
 pub mod TableTexts

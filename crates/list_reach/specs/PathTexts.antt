@@ -1,7 +1,7 @@
 -- The paths by which scripts reach servers, as text.
 use Rattle.std.specs.Prelude.{ℕ, ◌==◌, List, [], ◌++◌, codes, encode_utf8_all, flat_map, if◌then◌else◌, length}
 use Rattle.own_model.specs.Listed.{Listed}
-use Rattle.list_reach.specs.Csv.{path_of}
+use Rattle.list_reach.specs.Paths.{path_of}
 use Rattle.list_reach.specs.RuleTexts.{summary_text}
 use Rattle.list_reach.specs.declared.reach_path_list.ReachPath.{ReachPath}
 use Rattle.list_reach.specs.declared.reach_path_list.ReachPathList.{ReachPathList}

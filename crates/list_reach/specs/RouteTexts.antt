@@ -5,7 +5,7 @@ use Rattle.std.specs.Option.{option_and_then, option_map}
 use Rattle.own_model.specs.Listed.{Listed, ListedEntry, ListedRule, Target, init_entry, rules_for}
 use Rattle.own_model.specs.Listed.Target.{Child, AnyChild, Parent}
 use Rattle.list_labels.specs.RouteSteps.{RouteStepAt}
-use Rattle.list_reach.specs.Csv.{path_of}
+use Rattle.list_reach.specs.Paths.{path_of}
 use Rattle.list_reach.specs.RuleTexts.{entry_rule_text}
 use Rattle.list_reach.specs.declared.route_path.RoutePath.{RoutePath}
 use Rattle.list_reach.specs.declared.texts.EntryRuleText.{EntryRuleText}

@@ -3,7 +3,7 @@ use Rattle.std.specs.Prelude.{ℕ, ◌-◌, ◌==◌, max, Bool, List, [], ◌�
 use Rattle.std.specs.List.{flat_map, repeat}
 use Rattle.std.specs.Option.{option_map, unwrap_or}
 use Rattle.own_model.specs.Listed.{Listed}
-use Rattle.list_reach.specs.Csv.{path_of}
+use Rattle.list_reach.specs.Paths.{path_of}
 use Rattle.list_reach.specs.NamedSets.{SetAt, set_of, with_set}
 use Rattle.list_reach.specs.declared.reach_cell.ReachCell.{ReachCell}
 use Rattle.list_reach.specs.declared.reach_table.ReachTable.{ReachTable}

@@ -8,7 +8,6 @@ mod component_numbers;
 mod near_path;
 mod paths;
 mod reach_cell;
-mod reach_csv;
 mod reach_filter;
 mod reach_path_list;
 mod reach_table;

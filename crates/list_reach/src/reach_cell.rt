@@ -1,6 +1,5 @@
 //! A cell of a table of reach: which labels of a script's requests are routed to a server.
 ghost use Rattle.std.specs.Prelude.{◌≡◌, string_bytes};
-ghost use Rattle.list_labels.specs.Words.{labels_text};
 ghost use Rattle.list_reach.specs.CellTexts.{cell_text};
 
 use crate::client_reach::Reach;
@@ -19,10 +18,8 @@ pub struct ReachCell<'a> {
     pub reach: Reach,
     /// The set of the labels that are routed to the server.
     pub labels: LabelSet,
-    // The labels in words, and their text in a row of a table.
-    pub(crate) words: String,
+    // The text of the labels in a row of a table.
     pub(crate) shown: String,
-    ghost worded: { string_bytes words ≡ labels_text labels },
     ghost shows: { string_bytes shown ≡ cell_text reach labels },
 }
 

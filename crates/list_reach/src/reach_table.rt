@@ -5,11 +5,9 @@ ghost use Rattle.std.specs.List.{enumerate_from, flat_map};
 ghost use Rattle.std.specs.Option.{option_copied};
 ghost use Rattle.own_model.specs.Listed.{services_of};
 ghost use Rattle.list_labels.specs.GivenLabels.{leads_to};
-ghost use Rattle.list_labels.specs.Words.{labels_text};
 ghost use Rattle.list_reach.specs.CellTexts.{cell_text};
-ghost use Rattle.list_reach.specs.Csv.{csv_text, path_of};
 ghost use Rattle.list_reach.specs.NamedSets.{is_set, set_of, with_set};
-ghost use Rattle.list_reach.specs.Paths.{is_chosen};
+ghost use Rattle.list_reach.specs.Paths.{is_chosen, path_of};
 ghost use Rattle.list_reach.specs.Rows.{AddsRows, provider_rows, row_of, rows, script_rows, service_rows};
 ghost use Rattle.list_reach.specs.Table.{IsTrue};
 ghost use Rattle.list_reach.specs.TableTexts.{cell_column, gap_of, head_text, lines_of, margin, next_gap, script_line, server_column, server_text, sets_of, sets_text, shown_in, spaces, start_text, table_at, aligned_table, text_before, width};
@@ -21,7 +19,6 @@ use crate::client_reach::{ClientReach, Reach};
 use crate::comparison::RouteComparison;
 use crate::component_numbers::{ComponentKind, is_sought};
 use crate::reach_cell::ReachCell;
-use crate::reach_csv::csv_text;
 use crate::reach_filter::ReachFilter;
 use crate::services::service_name;
 use crate::texts::PathText;
@@ -112,14 +109,6 @@ impl<'a> ReachTable<'a> {
         ensures { result.now ≡ self.now.cells.items }
     {
         self.cells.as_slice()
-    }
-
-    /// Returns the table as comma-separated values: a row of column names, and a row for each cell. Fails if the host is out of
-    /// memory.
-    pub fn to_csv(&self, alloc: Global) -> Result<Vec<u8>, AllocError>
-        ensures { IfOk result (λ text. text.items ≡ csv_text self.now.list.now self.now.cells.items) }
-    {
-        csv_text(alloc, self.list, self.cells.as_slice())
     }
 }
 
@@ -244,34 +233,26 @@ fn add_cell<'a>(
     let alloc = found.alloc;
     let reach = found.ways.reach(server);
     let labels = found.sets.gained(alloc, None, Some(server))?.labels;
-    let words = labels.to_string(alloc)?;
-    let shown = shown_of(alloc, &reach, &labels, words.as_str())?;
+    let shown = shown_of(alloc, &reach, &labels)?;
     cells.push(ReachCell {
         client: found.client,
         service: found.service,
         server,
         reach,
         labels,
-        words,
         shown,
     })?;
     Ok(())
 }
 
 // The text in a row for a set of labels: the set, and one of the shortest labels if the set isn't one label.
-fn shown_of(
-    alloc: Global,
-    reach: &Reach,
-    labels: &LabelSet,
-    words: &str,
-) -> Result<String, AllocError>
-    requires { words.now ≡ labels_text labels.now }
+fn shown_of(alloc: Global, reach: &Reach, labels: &LabelSet) -> Result<String, AllocError>
     ensures { IfOk result (λ text. string_bytes text ≡ cell_text reach.now labels.now) }
 {
     match reach {
         Reach::Always => format!(in alloc; "always"),
-        Reach::By(_) if labels.is_one() => format!(in alloc; "{words}"),
-        Reach::By(label) => format!(in alloc; "{words} (as \"{label}\")"),
+        Reach::By(_) if labels.is_one() => format!(in alloc; "{labels}"),
+        Reach::By(label) => format!(in alloc; "{labels} (as \"{label}\")"),
         Reach::Never => format!(in alloc; "-"),
     }
 }

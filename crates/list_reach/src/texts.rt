@@ -1,6 +1,6 @@
 //! Pieces of lines: components by their paths, and rules by their places.
 ghost use Rattle.std.specs.Prelude.{◌≡◌, Some};
-ghost use Rattle.list_reach.specs.Csv.{path_of};
+ghost use Rattle.list_reach.specs.Paths.{path_of};
 ghost use Rattle.list_reach.specs.RuleTexts.{entry_rule_text, rule_text};
 
 use list_parser::{ListEntry, StartList};

@@ -1,6 +1,6 @@
 -- The longest path so far.
 use Rattle.std.proofs.Common.{◌≡◌, fold, length, max, take}
-use Rattle.list_reach.specs.Csv.{path_of}
+use Rattle.list_reach.specs.Paths.{path_of}
 use Rattle.list_reach.proofs.reach_table.ReachTable.margin.Given as goal
 
 abbrev pub invariant-loop-cell : goal.invariant-loop-cell

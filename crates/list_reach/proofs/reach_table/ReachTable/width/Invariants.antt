@@ -1,6 +1,6 @@
 -- The longest text so far.
 use Rattle.std.proofs.Common.{◌≡◌, fold, length, take}
-use Rattle.list_reach.specs.Csv.{path_of}
+use Rattle.list_reach.specs.Paths.{path_of}
 use Rattle.list_reach.specs.TableTexts.{table_at, widened}
 use Rattle.list_reach.proofs.reach_table.ReachTable.width.Given as goal
 
