@@ -6,7 +6,7 @@ ghost use Rattle.cli_base.specs.declared.host.ReadFailure.TheVariants.{NoMemory 
 use crate::host::{Host, ReadFailure};
 use crate::reports::{Spot, SystemReason, report_error};
 use crate::status::{OUT_OF_MEMORY, REFUSED, UNWRITTEN};
-use cli_engine::LONGEST_CONFIG_READ;
+use list_parser::LONGEST_TEXT;
 use std::alloc::AllocError;
 use std::fmt;
 use view_diagnostics::DiagnosticForm;
@@ -61,7 +61,7 @@ pub fn read_list<H: Host>(host: &H, path: &str) -> Result<Vec<u8>, ReadFailure>
         IsFrontAt (H.text_at host.now) path.now text.items) }
     ensures failed { IfErr result (λ why. IfSome (H.text_at host.now path.now) (λ _. why ≡ NoRoom)) }
 {
-    host.read(path, Some(LONGEST_CONFIG_READ))
+    host.read(path, Some(LONGEST_TEXT + 1))
 }
 
 /// Reads the text of a scenario's file. Returns none if the file can't be read to its end or has more than 64 MiB. The error is out

@@ -7,8 +7,8 @@ ghost use Rattle.cli_base.specs.Files.{front_of};
 ghost use Rattle.cli_base.specs.declared.host.ReadFailure.TheVariants.{NoMemory as NoRoom};
 
 use clap::Error;
-use cli_engine::{Input, Source};
 use cli_options::words_given;
+use run_devices::{Input, Source};
 use std::alloc::{AllocError, Global};
 use std::fs::File;
 use std::io::Read;

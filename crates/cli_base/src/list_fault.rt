@@ -2,7 +2,7 @@
 ghost use Rattle.cli_base.specs.ListFaults.{list_fault_message};
 
 use crate::reports::{Spot, report_error};
-use init_core::BootFault;
+use list_parser::BootFault;
 use list_review::{FaultPlace, ListFault};
 use std::fmt::{self, Display};
 use view_diagnostics::DiagnosticForm;

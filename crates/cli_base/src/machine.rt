@@ -10,7 +10,7 @@ use crate::list_file::{StartListFailure, filled_list};
 use crate::reports::{Spot, report_error};
 use crate::settings::Settings;
 use crate::status::boot_status;
-use init_core::{BootFault, MACHINE_A, StartList, machine_a_is_read};
+use list_parser::{BootFault, MACHINE_A, StartList, machine_a_is_read};
 use list_review::Review;
 use view_diagnostics::DiagnosticForm;
 

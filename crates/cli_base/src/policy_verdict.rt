@@ -12,7 +12,7 @@ use crate::files::{FileReadMessage, read_list};
 use crate::host::Host;
 use crate::reports::Spot;
 use crate::status::{REFUSED, UNWRITTEN};
-use init_core::StartList;
+use list_parser::StartList;
 use list_policy::{Breach, BreachText, Policy, PolicyFault, PolicyLine, exit_status};
 use std::alloc::{AllocError, Global};
 use std::{fmt, str};

@@ -1,7 +1,7 @@
 //! Diagnostics of a command, on standard error or in a text.
 use crate::streams::{OutputStream as Stream, Writer, plain_writer, text_of};
 use arrayvec::ArrayString;
-use cli_engine::Sink;
+use run_devices::Sink;
 use std::alloc::AllocError;
 use std::fmt::{Display, Write};
 use std::{fmt, io};

@@ -3,7 +3,7 @@ ghost use Rattle.std.specs.Prelude.{◌≡◌, false};
 ghost use Rattle.cli_base.specs.Origins.{origin_bytes};
 
 use crate::streams::Origin;
-use cli_engine::{Input, Source};
+use run_devices::{Input, Source};
 use std::io;
 use std::io::{IsTerminal, Read};
 use std::time::Instant;

@@ -4,7 +4,7 @@ ghost use Rattle.std.specs.Io.KnownBytes.{Appends};
 ghost use Rattle.cli_base.specs.Statuses.{boot_status, EndsAs, HasWritten, IsZero};
 
 use crate::reports::{Spot, report_error, report_write_failure};
-use init_core::BootFault;
+use list_parser::BootFault;
 use run_lines::LineRunFault;
 use std::alloc::AllocError;
 use std::io::{ErrorKind, Write};

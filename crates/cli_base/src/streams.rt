@@ -1,8 +1,7 @@
 //! The streams of a run: what a scenario is read from, and what replies and diagnostics are written to.
 ghost use Rattle.std.specs.Prelude.{◌≡◌, false};
 
-use cli_engine::Output;
-use run_lines::Sink;
+use run_devices::{Output, Sink};
 use std::alloc::Global;
 use std::io;
 use std::io::{Printer, Read, Stderr, StdinLock, Write};

@@ -6,26 +6,23 @@ use Rattle.budget_least.specs.WrittenScenario.{scenario_of}
 use Rattle.budget_least.specs.declared.machine_size.MachineSize.{MachineSize}
 use Rattle.budget_least.specs.declared.report.BudgetReport.{BudgetReport}
 use Rattle.cli_options.specs.declared.command_options.LeastOptions.{LeastOptions}
-use Rattle.view_budgets.specs.Csv.{csv_text}
 use Rattle.view_budgets.specs.Documents.{IsReportJson}
 use Rattle.view_budgets.specs.Text.{report_text}
 use Rattle.cli_budgets.specs.declared.least_command.BudgetFormat.{BudgetFormat}
-use Rattle.cli_budgets.specs.declared.least_command.BudgetFormat.TheVariants.{Text, Values, Documents, List as InList, Scenario}
+use Rattle.cli_budgets.specs.declared.least_command.BudgetFormat.TheVariants.{Text, Documents, List as InList, Scenario}
 
 -- the first flag that is set decides
 abbrev pub format_asked : LeastOptions → BudgetFormat
 format_asked asked =
-    if asked.csv then Values
-    else (if asked.json then Documents
+    if asked.json then Documents
     else (if asked.list then InList
     else (if asked.donations then Scenario
-    else Text)))
+    else Text))
 
 -- a text is that of a report in a form, with the text of its start list and its scenario
 abbrev pub IsReportIn : BudgetFormat → BudgetReport → List ℕ → List ℕ → List ℕ → Type 0
 IsReportIn Text report machine scenario text =
     (size : Option MachineSize) × HasSmallestMachine (sum_of report) size × (text ≡ report_text report size)
-IsReportIn Values report machine scenario text = text ≡ csv_text report
 IsReportIn Documents report machine scenario text = IsReportJson report text
 IsReportIn InList report machine scenario text = IsWritten report machine text
 IsReportIn Scenario report machine scenario text = text ≡ scenario_of report scenario

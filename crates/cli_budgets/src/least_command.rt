@@ -14,11 +14,11 @@ use cli_base::{
     unread_status,
 };
 use cli_options::LeastOptions;
-use init_core::BootFault;
+use list_parser::BootFault;
 use std::alloc::{AllocError, Global};
 use std::io;
 use std::io::Write;
-use view_budgets::{BudgetCsv, BudgetText, budget_documents};
+use view_budgets::{BudgetText, budget_documents};
 use view_diagnostics::DiagnosticForm;
 
 // The form in which a report is printed.
@@ -26,8 +26,6 @@ use view_diagnostics::DiagnosticForm;
 enum BudgetFormat {
     /// As text.
     Text,
-    /// As comma-separated values.
-    Values,
     /// As a document of JSON.
     Documents,
     /// As the start list with its budgets in place.
@@ -44,9 +42,7 @@ impl BudgetFormat {
     fn asked(asked: &LeastOptions<'_>) -> BudgetFormat
         ensures { result ≡ format_asked asked.now }
     {
-        if asked.csv {
-            BudgetFormat::Values
-        } else if asked.json {
+        if asked.json {
             BudgetFormat::Documents
         } else if asked.list {
             BudgetFormat::List
@@ -174,7 +170,6 @@ fn rendered(
 {
     match format {
         BudgetFormat::Text => Ok(BudgetText::of(report).to_string(alloc)?.into_bytes()),
-        BudgetFormat::Values => Ok(BudgetCsv::of(report).to_string(alloc)?.into_bytes()),
         BudgetFormat::Documents => Ok(budget_documents(alloc, report)?),
         BudgetFormat::List => match report.start_list(alloc, machine) {
             Ok(text) => Ok(text),

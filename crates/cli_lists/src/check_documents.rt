@@ -13,7 +13,7 @@ use cli_base::{
     status_after,
 };
 use cli_options::CheckOptions;
-use init_core::{BootFault, StartList};
+use list_parser::{BootFault, StartList};
 use list_review::Review;
 use std::alloc::AllocError;
 use std::fmt::Display;

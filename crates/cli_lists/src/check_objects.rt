@@ -7,7 +7,7 @@ ghost use Rattle.cli_base.specs.PolicyVerdict.{note_message};
 ghost use Rattle.cli_lists.specs.CheckDocuments.{ListsFault, advice_objects, faulty_part, file_object, finding_at, finding_object, flaw_object, note_object, placed_at, placed_object, remark_object, review_objects, verdict_objects};
 
 use cli_base::{ListFaultMessage, PolicyDiagnostic, PolicyVerdict};
-use init_core::BootFault;
+use list_parser::BootFault;
 use list_review::{FaultPlace, Finding, ListFault, ListPart, Review};
 use std::alloc::{AllocError, Global};
 use std::fmt::Display;

@@ -14,8 +14,8 @@ use crate::diff_text::print_differences;
 use crate::review::review;
 use cli_base::{Host, Settings, made_or_status, scenario_text, unfolded};
 use cli_options::DiffOptions;
-use init_core::StartList;
 use list_diff::{ReplyChange, changed_replies, lacks};
+use list_parser::StartList;
 use run_exchanges::Exchange;
 
 /// Prints the differences between two start lists, also the breaches of a policy that one list alone has and the replies to a

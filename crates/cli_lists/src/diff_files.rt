@@ -1,8 +1,8 @@
 //! The start lists that `diff` compares, with their files.
 ghost use Rattle.std.specs.Prelude.{◌≡◌};
 
-use init_core::StartList;
 use list_diff::BreachChange;
+use list_parser::StartList;
 
 /// A start list with the path of its file.
 #[derive(Clone, Copy)]

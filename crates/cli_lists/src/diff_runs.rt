@@ -3,7 +3,7 @@ ghost use Rattle.std.specs.Prelude.{◌≡◌, ◌++◌, map, None, IfErr, IfOk,
 ghost use Rattle.std.specs.List.{flat_map};
 ghost use Rattle.std.specs.Option.{option_copied, option_map};
 ghost use Rattle.budget_least.specs.Report.{accounts_of};
-ghost use Rattle.budget_meter.specs.Needs.{amounts_of};
+ghost use Rattle.budget_least.specs.ComponentAccounts.{amounts_of};
 ghost use Rattle.budget_search.specs.BudgetIntervals.{lowest_of};
 ghost use Rattle.line_rounds.specs.Views.{whole_view};
 ghost use Rattle.list_diff.specs.LineResults.{call_in};
@@ -15,10 +15,10 @@ use cli_base::{
     Host, Origin, OutputStream, Printing, Settings, Spot, StopMessage, UNWRITTEN, made_or_status,
     plain_writer, report_error, spot_of, watched_reader,
 };
-use init_core::{BootFault, ListEntry, StartList};
 use line_rounds::UnfoldedText;
 use line_steps::RunPosition;
 use list_diff::{BreachChange, ComponentNeed, LineResult, QuotaAmounts, line_results};
+use list_parser::{BootFault, ListEntry, StartList};
 use list_reach::pieces;
 use run_exchanges::Exchange;
 use run_lines::LineRunFault;

@@ -6,10 +6,10 @@ ghost use Rattle.cli_lists.specs.Comparison.{AreSoFar, Differ, EndsChanged, Ends
 
 use crate::diff_files::JudgedPair;
 use cli_base::{made_or_status, status_of};
-use init_core::StartList;
 use list_diff::{
     EntryChange, ListDifferences, NeedChange, ReachChange, ReachSide, ReplyChange, changes, leads,
 };
+use list_parser::StartList;
 use list_reach::ReachTable;
 use std::alloc::{AllocError, Global};
 use std::io;

@@ -11,12 +11,12 @@ use cli_base::{
     status_of,
 };
 use cli_options::ReachOptions;
-use init_core::StartList;
+use list_parser::StartList;
 use list_reach::{ReachFilter, ReachPathList, ReachTable, Unnamed};
 use std::alloc::{AllocError, Global};
 use view_diagnostics::DiagnosticForm;
 
-/// Prints which scripts reach which servers, as a table, CSV or documents of JSON. Returns the exit status: 0, or 2 if the list or a
+/// Prints which scripts reach which servers, as a table or documents of JSON. Returns the exit status: 0, or 2 if the list or a
 /// path is refused.
 pub fn show_reach<H: Host>(host: &H, asked: &ReachOptions<'_>, settings: Settings<'_>) -> u8
     ensures { ReachEnds (H.text_at host.now) asked.now settings.entry result }
@@ -87,12 +87,7 @@ fn print_reach(
         return print_documents(rt, reach_documents(rt.alloc(), list, filter));
     }
     match made_or_status(rt, ReachTable::narrowed(rt.alloc(), list, filter)) {
-        Ok(table) => {
-            if asked.csv {
-                return print_documents(rt, table.to_csv(rt.alloc()));
-            }
-            print_table(rt, list, filter, &table)
-        }
+        Ok(table) => print_table(rt, list, filter, &table),
         Err(status) => status,
     }
 }

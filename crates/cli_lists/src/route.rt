@@ -8,7 +8,7 @@ use cli_base::{
     Host, OUT_OF_MEMORY, REFUSED, Settings, Spot, UNWRITTEN, report_error, status_after, status_of,
 };
 use cli_options::RouteOptions;
-use init_core::StartList;
+use list_parser::StartList;
 use list_reach::{RoutePath, RoutePathFault};
 use view_diagnostics::DiagnosticForm;
 

@@ -128,7 +128,7 @@ alone =
 abbrev pub reach : Shape
 reach =
     of_list (codes "reach")
-    (flag_rule (codes "csv") ∷ flag_rule (codes "json") ∷ options_rule (codes "from") ∷ options_rule (codes "to") ∷ [])
+    (flag_rule (codes "json") ∷ options_rule (codes "from") ∷ options_rule (codes "to") ∷ [])
 
 -- the command that prints where one session request is routed to
 abbrev pub route : Shape
@@ -142,8 +142,7 @@ abbrev pub test : Shape
 test =
     with_rules (codes "test")
     (option_rule (codes "machine") ∷ option_rule (codes "junit") ∷ options_rule (codes "filter") ∷ flag_rule (codes "strict")
-    ∷ flag_rule (codes "coverage") ∷ flag_rule (codes "coverage-calls") ∷ option_rule (codes "threshold") ∷ flag_rule (codes "json")
-    ∷ set ∷ option_rule (codes "color") ∷ words_rule (codes "path") ∷ [])
+    ∷ flag_rule (codes "coverage") ∷ option_rule (codes "threshold") ∷ flag_rule (codes "json") ∷ set ∷ option_rule (codes "color") ∷ words_rule (codes "path") ∷ [])
 
 -- the command that compares two start lists
 abbrev pub diff : Shape
@@ -160,23 +159,19 @@ help = with_rules (codes "help") (word_rule (codes "topic") ∷ [])
 abbrev pub json_flag : List Rule
 json_flag = flag_rule (codes "json") ∷ []
 
--- the command that prints all accounts
-abbrev pub accounts_shape : Shape
-accounts_shape = of_scenario (codes "accounts") (flag_rule (codes "plain") ∷ flag_rule (codes "json") ∷ [])
-
 -- the command that prints the sufficient budgets of accounts
 abbrev pub least : Shape
 least =
     with_rules (codes "least")
-    (option_rule (codes "machine") ∷ flag_rule (codes "as-donated") ∷ flag_rule (codes "csv") ∷ flag_rule (codes "json")
-    ∷ flag_rule (codes "list") ∷ flag_rule (codes "scenario") ∷ flag_rule (codes "safe") ∷ set ∷ file_rule (codes "played") ∷ [])
+    (option_rule (codes "machine") ∷ flag_rule (codes "as-donated") ∷ flag_rule (codes "json") ∷ flag_rule (codes "list")
+    ∷ flag_rule (codes "scenario") ∷ flag_rule (codes "safe") ∷ set ∷ file_rule (codes "played") ∷ [])
 
 -- the program itself
 abbrev pub program : App
 program =
     with_commands bare
     (run ∷ record_shape ∷ check ∷ tree ∷ reach ∷ route ∷ of_scenario (codes "trace") json_flag
-    ∷ accounts_shape ∷ alone ∷ least ∷ test ∷ diff ∷ help ∷ [])
+    ∷ of_scenario (codes "accounts") json_flag ∷ alone ∷ least ∷ test ∷ diff ∷ help ∷ [])
 
 -- a text denotes that a flag was used
 abbrev pub is_true : Option Text → Bool
@@ -229,7 +224,6 @@ Asks (command.Tree asked) name rows = (name ≡ codes "tree")
     × (asked.json ≡ is_set (codes "json") rows)
     × (asked.list.now ≡ first_or (codes "-") (codes "list") rows)
 Asks (command.Reach asked) name rows = (name ≡ codes "reach")
-    × (asked.csv ≡ is_set (codes "csv") rows)
     × (asked.json ≡ is_set (codes "json") rows)
     × (map (λ t. t.now) asked.from.items ≡ unwrap_or (all_of (codes "from") rows) [])
     × (map (λ t. t.now) asked.to.items ≡ unwrap_or (all_of (codes "to") rows) [])
@@ -246,7 +240,6 @@ Asks (command.Trace asked) name rows = (name ≡ codes "trace")
     × (asked.scenario.now ≡ first_or (codes "-") (codes "scenario") rows)
 Asks (command.Accounts asked) name rows = (name ≡ codes "accounts")
     × (option_map (λ t. t.now) asked.machine ≡ first_of (codes "machine") rows)
-    × (asked.plain ≡ is_set (codes "plain") rows)
     × (asked.json ≡ is_set (codes "json") rows)
     × (asked.scenario.now ≡ first_or (codes "-") (codes "scenario") rows)
 Asks (command.Alone asked) name rows = (name ≡ codes "alone")
@@ -259,7 +252,6 @@ Asks (command.Alone asked) name rows = (name ≡ codes "alone")
 Asks (command.Least asked) name rows = (name ≡ codes "least")
     × (option_map (λ t. t.now) asked.machine ≡ first_of (codes "machine") rows)
     × (asked.as_donated ≡ is_set (codes "as-donated") rows)
-    × (asked.csv ≡ is_set (codes "csv") rows)
     × (asked.json ≡ is_set (codes "json") rows)
     × (asked.list ≡ is_set (codes "list") rows)
     × (asked.donations ≡ is_set (codes "scenario") rows)
@@ -278,7 +270,6 @@ Asks (command.Test asked) name rows = (name ≡ codes "test")
     × (map (λ t. t.now) asked.filters.items ≡ unwrap_or (all_of (codes "filter") rows) [])
     × (asked.strict ≡ is_set (codes "strict") rows)
     × (asked.coverage ≡ is_set (codes "coverage") rows)
-    × (asked.coverage_calls ≡ is_set (codes "coverage-calls") rows)
     × (option_map (λ t. t.now) asked.threshold ≡ first_of (codes "threshold") rows)
     × (asked.json ≡ is_set (codes "json") rows)
     × IsColor asked.color (first_or (codes "auto") (codes "color") rows)

@@ -145,7 +145,6 @@ impl<'a> Command<'a> {
             filters: words(alloc, found, "filter")?,
             strict: is_set(found, "strict"),
             coverage: is_set(found, "coverage"),
-            coverage_calls: is_set(found, "coverage-calls"),
             threshold: found.get_str("threshold"),
             json: is_set(found, "json"),
             color: colored(found),
@@ -159,7 +158,6 @@ impl<'a> Command<'a> {
             Asks command (codes "reach") (rows_of (found_of found.now))) }
     {
         Ok(Command::Reach(ReachOptions {
-            csv: is_set(found, "csv"),
             json: is_set(found, "json"),
             from: words(alloc, found, "from")?,
             to: words(alloc, found, "to")?,
@@ -272,7 +270,6 @@ impl<'a> Command<'a> {
     {
         Command::Accounts(AccountsOptions {
             machine: found.get_str("machine"),
-            plain: is_set(found, "plain"),
             json: is_set(found, "json"),
             scenario: path(found, "scenario"),
         })
@@ -285,7 +282,6 @@ impl<'a> Command<'a> {
         Command::Least(LeastOptions {
             machine: found.get_str("machine"),
             as_donated: is_set(found, "as-donated"),
-            csv: is_set(found, "csv"),
             json: is_set(found, "json"),
             list: is_set(found, "list"),
             donations: is_set(found, "scenario"),

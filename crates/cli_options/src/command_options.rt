@@ -76,8 +76,6 @@ pub struct TreeOptions<'a> {
 /// The options of `reach`.
 #[derive(Drop)]
 pub struct ReachOptions<'a> {
-    /// Whether comma-separated values are written in place of a table.
-    pub csv: bool,
     /// Whether a document of JSON is written in place of a table.
     pub json: bool,
     /// The paths of the scripts that are shown, or nothing for all scripts.
@@ -119,8 +117,6 @@ pub struct TraceOptions<'a> {
 pub struct AccountsOptions<'a> {
     /// The path of a start list, if one is named.
     pub machine: Option<&'a str>,
-    /// Whether each account is written as a line of the account list, in place of a table.
-    pub plain: bool,
     /// Whether a document of JSON is written in place of a table.
     pub json: bool,
     /// The path of the scenario.
@@ -134,8 +130,6 @@ pub struct LeastOptions<'a> {
     pub machine: Option<&'a str>,
     /// Whether sessions keep the donations of the scenario, in place of the minimum.
     pub as_donated: bool,
-    /// Whether comma-separated values are written in place of a text.
-    pub csv: bool,
     /// Whether a document of JSON is written in place of a text.
     pub json: bool,
     /// Whether the start list with the budgets in place is written.
@@ -195,8 +189,6 @@ pub struct TestOptions<'a> {
     pub strict: bool,
     /// Whether the coverage of the scenarios is printed.
     pub coverage: bool,
-    /// Whether the coverage has refusals and errors too, and is printed.
-    pub coverage_calls: bool,
     /// The percentage of rules and session requests that scenarios must cover, as text, or none.
     pub threshold: Option<&'a str>,
     /// Whether the coverage is printed as a document of JSON, in place of all lines.

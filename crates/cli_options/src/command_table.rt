@@ -33,8 +33,6 @@ const MACHINE: ArgumentForm<'static> = ArgumentForm::Value("machine", "FILE", he
 
 const SET: ArgumentForm<'static> = ArgumentForm::Values("set", "NAME=VALUE", help::SET);
 
-const CSV: ArgumentForm<'static> = ArgumentForm::Flag("csv", help::CSV);
-
 const JSON: ArgumentForm<'static> = ArgumentForm::Flag("json", help::JSON);
 
 const JSON_ERRORS: ArgumentForm<'static> = ArgumentForm::Flag("json", help::JSON_ERRORS);
@@ -101,7 +99,6 @@ pub(crate) const COMMANDS: &[CommandForm<'static>] = &[
         name: "reach",
         about: help::REACH,
         words: &[
-            CSV,
             JSON,
             ArgumentForm::Values("from", "PATH", help::FROM),
             ArgumentForm::Values("to", "PATH", help::TO),
@@ -129,13 +126,7 @@ pub(crate) const COMMANDS: &[CommandForm<'static>] = &[
     CommandForm {
         name: "accounts",
         about: help::ACCOUNTS,
-        words: &[
-            MACHINE,
-            ArgumentForm::Flag("plain", help::PLAIN),
-            JSON,
-            SET,
-            SCENARIO,
-        ],
+        words: &[MACHINE, JSON, SET, SCENARIO],
     },
     CommandForm {
         name: "alone",
@@ -156,7 +147,6 @@ pub(crate) const COMMANDS: &[CommandForm<'static>] = &[
         words: &[
             MACHINE,
             ArgumentForm::Flag("as-donated", help::AS_DONATED),
-            CSV,
             JSON,
             ArgumentForm::Flag("list", help::LEAST_LIST),
             ArgumentForm::Flag("scenario", help::LEAST_SCENARIO),
@@ -174,7 +164,6 @@ pub(crate) const COMMANDS: &[CommandForm<'static>] = &[
             ArgumentForm::Values("filter", "TEXT", help::FILTER),
             STRICT,
             ArgumentForm::Flag("coverage", help::COVERAGE),
-            ArgumentForm::Flag("coverage-calls", help::COVERAGE_CALLS),
             ArgumentForm::Value("threshold", "N", help::THRESHOLD),
             JSON,
             SET,

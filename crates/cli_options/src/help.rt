@@ -135,8 +135,6 @@ pub(crate) const TRACE: &str = "Write a table (CSV) of all calls with use and li
 
 pub(crate) const ACCOUNTS: &str = "Show use, peaks and limits of all accounts at the end";
 
-pub(crate) const PLAIN: &str = "Write a line per account, with its need";
-
 pub(crate) const ALONE: &str =
     "Compare the replies to NAME, or with --all to each script, with a run of its lines alone";
 
@@ -187,8 +185,6 @@ pub(crate) const POLICY: &str =
 
 pub(crate) const DOT: &str = "Write a graph for Graphviz instead of text";
 
-pub(crate) const CSV: &str = "Write comma-separated values instead of a table";
-
 pub(crate) const FROM: &str =
     "Show only scripts of this path, with each route; a last name of * matches all of that list";
 
@@ -230,8 +226,6 @@ pub(crate) const OTHER_MACHINE: &str =
 
 pub(crate) const COVERAGE: &str =
     "Report which rules decide a session request, and which script requests which service";
-
-pub(crate) const COVERAGE_CALLS: &str = "Report the coverage, and which refusals and errors occur";
 
 pub(crate) const THRESHOLD: &str =
     "Report the coverage, and exit with status 3 if less than N percent of the rules and session requests are covered";

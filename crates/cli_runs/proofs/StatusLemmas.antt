@@ -100,12 +100,6 @@ module _ (view : RunView) (start : RunStart) (input : Option (List ℕ)) where
   has_status ending B C D None silent runs before = status_of_run silent (runs refl)
   has_status ending B C D (Some fault) silent runs before = subst (λ e. HasStatus view start input e) (sym before.0) tt
 
-  -- of a run of which more is known
-  pub status_of_more : {X : Type 0} {told : List LineStep → List ℕ} {behind : X → List LineStep → List ℕ} {also : X → Type 0} {calls : Bool} {reports : List (List ℕ) → Type 0} {rest w w' : Option (List ℕ)} {failed : Bool} (B C D : Type 0) (ending : ScenarioEnd) (before : Option LineRunFault) → ((steps : List LineStep) → has_no_line view steps ≡ false) →
-      (before ≡ None → (x : X) × (IsRunFrom start told (behind x) calls reports ending input rest failed w w' × also x)) → IfSome before (λ fault. (ending ≡ unplayed fault) × B × C × D) → HasStatus view start input ending
-  status_of_more B C D ending None silent runs before = status_of_run silent (runs refl).1.0
-  status_of_more B C D ending (Some fault) silent runs before = subst (λ e. HasStatus view start input e) (sym before.0) tt
-
   -- of a run's result
   pub status_of_result : (told behind : List LineStep → List ℕ) (calls : Bool) (reports : List (List ℕ) → Type 0) (rest w w' : Option (List ℕ)) (failed : Bool) (B C D : Type 0) (r : Result ScenarioEnd BootFault) (before : Option LineRunFault) → ((steps : List LineStep) → has_no_line view steps ≡ false) →
       IfOk r (λ ending. before ≡ None → IsRunFrom start told behind calls reports ending input rest failed w w') → IfOk r (λ ending. IfSome before (λ fault. (ending ≡ unplayed fault) × B × C × D)) → IfOk r (HasStatus view start input)

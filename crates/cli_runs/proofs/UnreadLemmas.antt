@@ -6,8 +6,8 @@ use Rattle.std.specs.List.{flat_map}
 use Rattle.std.proofs.lemmas.Grind.{flat_map-append}
 use Rattle.std.proofs.lemmas.List.{take_more}
 use Rattle.line_steps.specs.declared.unread_line.UnreadLine.{UnreadLine}
-use Rattle.run_lines.proofs.GatheredLemmas.{Appends-more}
-use Rattle.run_lines.specs.RunOutput.{OutputsPart, Tells}
+use Rattle.run_devices.proofs.GatheredLemmas.{Appends-more}
+use Rattle.run_devices.specs.RunOutput.{OutputsPart, Tells}
 use Rattle.run_scenario.specs.Complaints.{WritesUnless}
 use Rattle.view_diagnostics.specs.Diagnostics.{SubjectAt, diagnostic}
 use Rattle.view_diagnostics.specs.declared.diagnostics.Severity.TheVariants.{Error}

@@ -47,7 +47,7 @@ advice_of only list text = scenario_advice (services_of list.entries) (kinds_of 
 abbrev pub warnings_of : RunView → Listed → List ℕ → ℕ
 warnings_of (Run options coloring) list text = length (advice_of (option_copied options.only) list text)
 warnings_of (Trace json) list text = 0
-warnings_of (Accounts form) list text = 0
+warnings_of (Accounts json) list text = 0
 warnings_of (Alone name) list text = 0
 
 -- the lines of a text ran, and the status is theirs, or that of a warning
@@ -139,25 +139,25 @@ EndsRun texts named IsRun status =
 abbrev pub IsTranscript : Option (List ℕ) → RunView → Type 0
 IsTranscript only (Run options coloring) = option_copied options.only ≡ only
 IsTranscript only (Trace json) = ⊥
-IsTranscript only (Accounts form) = ⊥
+IsTranscript only (Accounts json) = ⊥
 IsTranscript only (Alone name) = ⊥
 
 abbrev pub IsTrace : RunView → Type 0
 IsTrace (Run options coloring) = ⊥
 IsTrace (Trace json) = ⊤
-IsTrace (Accounts form) = ⊥
+IsTrace (Accounts json) = ⊥
 IsTrace (Alone name) = ⊥
 
 abbrev pub IsAccountView : RunView → Type 0
 IsAccountView (Run options coloring) = ⊥
 IsAccountView (Trace json) = ⊥
-IsAccountView (Accounts form) = ⊤
+IsAccountView (Accounts json) = ⊤
 IsAccountView (Alone name) = ⊥
 
 abbrev pub IsAloneView : List ℕ → RunView → Type 0
 IsAloneView named (Run options coloring) = ⊥
 IsAloneView named (Trace json) = ⊥
-IsAloneView named (Accounts form) = ⊥
+IsAloneView named (Accounts json) = ⊥
 IsAloneView named (Alone name) = name.now ≡ named
 
 abbrev pub RunEnds : (List ℕ → Option (List ℕ)) → RunOptions → Settings → ℕ → Type 0

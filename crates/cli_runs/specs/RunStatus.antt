@@ -27,14 +27,14 @@ use Rattle.cli_runs.specs.declared.view.RunView.TheVariants.{Run, Trace, Account
 abbrev pub only_of : RunView → Option (List ℕ)
 only_of (Run options coloring) = option_copied options.only
 only_of (Trace json) = None
-only_of (Accounts form) = None
+only_of (Accounts json) = None
 only_of (Alone name) = None
 
 -- the view is of a component that makes none of the calls of these steps
 abbrev pub has_no_line : RunView → List LineStep → Bool
 has_no_line (Run options coloring) steps = false
 has_no_line (Trace json) steps = false
-has_no_line (Accounts form) steps = false
+has_no_line (Accounts json) steps = false
 has_no_line (Alone name) steps = length (calls_answered (Some name.now) steps) == 0
 
 -- the run of a view begins there

@@ -13,8 +13,8 @@ use cli_base::{
     status_of, text_of, unfolded, watched_reader,
 };
 use cli_options::AloneOptions;
-use init_core::StartList;
 use line_rounds::UnfoldedText;
+use list_parser::StartList;
 use run_scenario::ScenarioInput;
 use std::alloc::AllocError;
 use std::io;

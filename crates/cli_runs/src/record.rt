@@ -12,7 +12,7 @@ use cli_base::{
     unfolded, unread_status, warned_status,
 };
 use cli_options::RecordOptions;
-use init_core::StartList;
+use list_parser::StartList;
 use run_record::{Recording, Scenario, record};
 use std::alloc::AllocError;
 use std::io;

@@ -1,7 +1,7 @@
 //! How a run over files and the standard streams ended.
 
 use cli_base::{StopMessage, UNREAD, boot_status, report_error, spot_of, summarize};
-use init_core::BootFault;
+use list_parser::BootFault;
 use run_lines::LineRunFault;
 use run_scenario::{ScenarioEnd, exit_status};
 use view_diagnostics::{Counts, DiagnosticForm};

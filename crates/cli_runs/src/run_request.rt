@@ -8,16 +8,15 @@ ghost use Rattle.cli_base.specs.Unfolding.{EndsUnfolded};
 ghost use Rattle.cli_runs.specs.CommandStatus.{EndsByLine, EndsChosen, EndsLines, EndsNamed, EndsOn, IsRunOf, LacksScenario, RunRefused, is_known, named_status, warnings_of};
 ghost use Rattle.cli_runs.specs.RunStatus.{EndsFrom, HasStatus, IsUnbooted, start_by, start_of};
 
-use crate::accounts::print_accounts;
 use crate::run_end::RunEnd;
-use crate::view::{AccountsForm, RunView, view};
+use crate::view::{RunView, view};
 use cli_base::{
     Host, Machine, MachineChoice, Origin, OutputStream, REFUSED, ReadFailure, STANDARD_INPUT,
     Settings, Spot, Warnings, made_or_status, no_memory, read_whole, report_boot_fault,
     report_error, unfolded, warned_status, watched_reader, writer,
 };
-use init_core::StartList;
 use line_names::RoundMark;
+use list_parser::StartList;
 use run_scenario::{ScenarioInput, near_component};
 use std::alloc::AllocError;
 use std::io;
@@ -281,9 +280,6 @@ fn run_over_streams<F: Read + Drop>(
     let mut reader = watched_reader(rt, origin, viewing.printing());
     let stderr = OutputStream::Complained(rt.stderr());
     let mut complaints = writer(rt, stderr, Lines::Complaints, coloring.err);
-    if let RunView::Accounts(AccountsForm::Rows(form)) = viewing {
-        return print_accounts(rt, input, form, &mut reader, &mut complaints);
-    }
     let stdout = OutputStream::Printed(io::writer(rt));
     let mut replies = writer(rt, stdout, Lines::Replies, coloring.out);
     let ended = view(

@@ -2,12 +2,12 @@
 ghost use Rattle.std.specs.Prelude.{◌≡◌, ◌==◌, ◌||◌, is_some, nat_lt, IfErr, IfOk};
 ghost use Rattle.cli_runs.specs.RunStatus.{HasStatus, IsUnbooted, start_of};
 
+use crate::accounts::print_accounts;
 use cli_base::{Coloring, Printing};
-use init_core::BootFault;
+use list_parser::BootFault;
 use run_lines::{Sink, Source};
 use run_scenario::{ScenarioEnd, ScenarioInput};
 use std::alloc::Global;
-use view_accounts::accounts;
 use view_runs::{AloneComparison, CsvRows, JsonRows, TranscriptOptions, alone, run, trace};
 
 /// The part of a run that a command prints.
@@ -21,34 +21,19 @@ pub(crate) enum RunView<'a> {
         json: bool,
     },
     /// The accounts after the last line.
-    Accounts(AccountsForm),
+    Accounts {
+        /// Whether they are printed as documents of JSON, in place of a table.
+        json: bool,
+    },
     /// The replies to the component of this name, in the whole run and alone.
     Alone(&'a [u8]),
-}
-
-/// The form in which accounts are printed.
-#[derive(Clone, Copy)]
-pub(crate) enum AccountsForm {
-    /// A line of the account list for each account.
-    Lines,
-    /// Rows, printed after the run.
-    Rows(RowsForm),
-}
-
-/// The form in which the rows of an account list are printed.
-#[derive(Clone, Copy)]
-pub(crate) enum RowsForm {
-    /// A table.
-    Table,
-    /// A list of JSON.
-    Json,
 }
 
 impl<'a> RunView<'a> {
     /// Returns when the part is printed: the accounts after the run, and each other part during it.
     pub(crate) fn printing(self) -> Printing {
         match self {
-            RunView::Accounts(_) => Printing::Afterwards,
+            RunView::Accounts { .. } => Printing::Afterwards,
             _ => Printing::Meanwhile,
         }
     }
@@ -62,9 +47,8 @@ impl<'a> RunView<'a> {
     }
 }
 
-/// Runs a scenario, and writes this part of it: a table as comma-separated values or as documents of JSON, and the accounts as
-/// lines. Returns how the run ended: with the errors of its own lines, and one more if a component is asked for that has no line.
-/// The error is the fault of the boot.
+/// Runs a scenario, and writes this part of it. Returns how the run ended: with the errors of its own lines, and one more if a
+/// component is asked for that has no line. The error is the fault of the boot.
 pub(crate) fn view<S: Source, K: Sink, E: Sink>(
     alloc: Global,
     input: ScenarioInput<'_>,
@@ -86,7 +70,9 @@ pub(crate) fn view<S: Source, K: Sink, E: Sink>(
             let format = JsonRows { alloc };
             trace(alloc, input, format, reader, writer, complaints)
         }
-        RunView::Accounts(_) => { Ok(accounts(alloc, input, reader, writer, complaints)?.ending) }
+        RunView::Accounts { json } => {
+            print_accounts(alloc, input, json, reader, writer, complaints)
+        }
         RunView::Alone(name) => {
             Ok(comparison_end(alone(alloc, input, name, reader, writer, complaints)?))
         }

@@ -11,7 +11,7 @@ use Rattle.line_steps.specs.RunPosition.{RunPosition, first_position}
 use Rattle.list_parser.specs.Quota.{quota_fault}
 use Rattle.list_parser.specs.StartText.{list_in}
 use Rattle.list_parser.specs.declared.fault.BootFault.{BootFault}
-use Rattle.run_lines.specs.Lines.{AreReadable}
+use Rattle.run_devices.specs.Lines.{AreReadable}
 use Rattle.run_lines.specs.Machine.{world_of}
 use Rattle.run_lines.specs.declared.line_run_fault.LineRunFault.{LineRunFault}
 use Rattle.run_lines.specs.declared.line_run_fault.LineRunFault.TheVariants.{ReadFault, WriteFault, TooManyLines, NoMemory}

@@ -28,11 +28,11 @@ impl CoveragePrinter {
     /// Returns the coverage of no scenario yet. If the options don't ask for coverage, none is added later.
     pub(crate) fn new(rt: &HostRuntime, asked: &TestOptions<'_>) -> CoveragePrinter
         ensures { result.asked
-            ≡ ((asked.now.coverage || asked.now.coverage_calls) || is_some asked.now.threshold) }
+            ≡ (asked.now.coverage || is_some asked.now.threshold) }
     {
         CoveragePrinter {
-            report: CoverageReport::new(rt.alloc(), asked.coverage_calls),
-            asked: asked.coverage || asked.coverage_calls || asked.threshold.is_some(),
+            report: CoverageReport::new(rt.alloc()),
+            asked: asked.coverage || asked.threshold.is_some(),
             json: asked.json,
         }
     }

@@ -10,7 +10,7 @@ use cli_base::{
     Host, ListFaultMessage, Machine, PolicyDiagnostic, PolicyVerdict, Settings, Spot,
     StartListFailure, check_policy, error_line, fault_spot, machine_path,
 };
-use init_core::BootFault;
+use list_parser::BootFault;
 use list_review::{ListFault, Review};
 use std::alloc::AllocError;
 use std::fmt::Display;

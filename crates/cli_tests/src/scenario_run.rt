@@ -9,8 +9,8 @@ use cli_base::{
     ListFaultMessage, Machine, Origin, OutputStream, Settings, Spot, StopMessage, fault_spot,
     plain_writer, silent_reader, spot_of, text_of,
 };
-use init_core::{BootFault, StartList};
 use line_names::RoundMark;
+use list_parser::{BootFault, StartList};
 use list_review::Review;
 use run_lines::LineRunFault;
 use run_scenario::{ScenarioEnd, ScenarioInput, exit_status};

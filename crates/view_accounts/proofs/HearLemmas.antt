@@ -9,7 +9,7 @@ use Rattle.own_model.specs.StartList.{Entry, entries_of}
 use Rattle.own_model.specs.Transcript.{calls_in, entry_at, heard, heard_spoken, state_at}
 use Rattle.own_model.specs.Transcript.Heard.{Stranger, Caller}
 use Rattle.own_model.specs.World.{World, account_at}
-use Rattle.pd_core.specs.Answer.{quotas_account}
+use Rattle.core_calls.specs.Quotas.{quotas_account}
 use Rattle.core_calls.specs.declared.quotas.Quotas.{Quotas}
 use Rattle.budget_meter.specs.Metered.{HasObserved, HasReply}
 use Rattle.budget_meter.specs.declared.account.AccountMeter.{AccountMeter}

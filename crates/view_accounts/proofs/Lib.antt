@@ -1,11 +1,9 @@
 pub mod AccountViewLemmas
 pub mod AccountingLemmas
-pub mod ClosedLemmas
 pub mod ClosedLineLemmas
 pub mod ClosingLemmas
 pub mod HearLemmas
 pub mod KeptLemmas
-pub mod ListLemmas
 pub mod NeedLemmas
 pub mod NotedLemmas
 pub mod OpenLemmas

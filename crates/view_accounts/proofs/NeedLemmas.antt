@@ -18,7 +18,7 @@ use Rattle.own_model.specs.StartList.{Entry, Kind, StartEntry, entries_of, init_
 use Rattle.own_model.specs.Transcript.{calls_in, calls_of, entry_at, heard, nothing, own_part, state_at}
 use Rattle.own_model.specs.Transcript.Heard.{Caller}
 use Rattle.own_model.specs.World.{World, account_at, account_by, world_running}
-use Rattle.pd_core.specs.Answer.{quotas_account}
+use Rattle.core_calls.specs.Quotas.{quotas_account}
 use Rattle.core_calls.specs.declared.quotas.Quotas.{Quotas}
 use Rattle.budget_meter.specs.Metered.{HasObserved, HasReply}
 use Rattle.budget_meter.specs.declared.account.AccountMeter.{AccountMeter}

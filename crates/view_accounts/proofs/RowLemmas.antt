@@ -12,14 +12,12 @@ use Rattle.own_model.specs.StartList.{Entry}
 use Rattle.own_model.specs.Transcript.{state_at}
 use Rattle.own_model.specs.World.{World}
 use Rattle.run_lines.proofs.ComponentLines.{IsPrinted, IsUnprinted, printed_if_any, unprinted_if_none}
-use Rattle.run_lines.specs.declared.columns.AccountOwner.TheVariants as owner
 use Rattle.std.specs.FinMap.{get}
 use Rattle.std.specs.Option.{option_map}
 use Rattle.view_accounts.specs.Needs.{Needed}
-use Rattle.view_accounts.specs.PeakList.{name_at}
 use Rattle.view_accounts.specs.Peaks.{Noted}
 use Rattle.view_accounts.specs.Rows.{AccountView, AccountsView, ComponentView, SessionView}
-use Rattle.view_accounts.specs.RunRows.{Measures, entries_in, in_turn, open_row, reserve_row, session_row, session_rows}
+use Rattle.view_accounts.specs.RunRows.{Measures, entries_in, in_turn, name_at, open_row, reserve_row, session_row, session_rows}
 
 module _ {X : Type 0} (f : ℕ → List X) where
   pub in_turn-none : in_turn f 0 ≡ []
@@ -82,7 +80,7 @@ module _ (listed : Option Amounts) (kept : Amounts) {given : Bool} (reserve : Am
 pub no_session : (listed : Listed) (measures : Measures) (world : World) (component selector : ℕ) → get (state_at world.states component).selectors selector ≡ None →
     session_rows listed measures world component selector ≡ []
 no_session listed measures world component selector none =
-    ap (λ o. open_row (entries_in listed) (measures.needs (owner.Session component selector)) component selector (option_map (λ (s : Session). s.account) (session_named o))
+    ap (λ o. open_row (entries_in listed) (measures.needs.session component selector) component selector (option_map (λ (s : Session). s.account) (session_named o))
     (measures.noted component selector)) none
 
 module _ (entries : List Entry) (needed : Needed) (component selector : ℕ) (rows : List SessionView) where

@@ -1,6 +1,5 @@
 -- The rows that are kept are those after the calls so far.
-use Rattle.std.proofs.Common.{◌≡◌, ◌≢◌, ℕ, ◌<◌, Bool, true, cond, List, [], ◌∷◌, ◌++◌, append-nil, is_some, length, Option, Some, None, IfNone, IfOk, IfSome, Result, refl, sym, ◌∙◌, ap, subst}
-use Rattle.std.proofs.lemmas.Option.{none-some}
+use Rattle.std.proofs.Common.{◌≡◌, ℕ, ◌<◌, Bool, true, cond, List, [], ◌∷◌, ◌++◌, append-nil, is_some, length, Option, Some, None, IfNone, IfOk, IfSome, Result, refl, sym, ◌∙◌, ap, subst}
 use Rattle.std.proofs.lemmas.Result.{IfOk-weaker}
 use Rattle.std.specs.declared.alloc.AllocError.{AllocError}
 use Rattle.std.specs.Option.{option_map}
@@ -10,22 +9,16 @@ use Rattle.own_model.specs.StartList.{entries_of}
 use Rattle.own_model.specs.Text.{lines_of}
 use Rattle.own_model.specs.World.{World, world_running}
 use Rattle.line_steps.specs.RunPosition.{RunPosition}
-use Rattle.run_lines.specs.Causes.{HasCause}
-use Rattle.run_lines.specs.Faults.{is_write_fault}
 use Rattle.run_lines.specs.LineRuns.{EndsFor}
 use Rattle.run_lines.specs.Machine.{world_of}
-use Rattle.run_lines.specs.declared.columns.AccountOwner.TheVariants as owner
 use Rattle.run_lines.specs.declared.line_run_fault.LineRunFault.{LineRunFault}
-use Rattle.run_lines.specs.declared.line_run_fault.LineRunFault.TheVariants.{NoMemory}
 use Rattle.run_lines.proofs.AccountLemmas.{entries_listed}
 use Rattle.run_scenario.specs.LineSteps.{LineStep, steps_of}
 use Rattle.run_scenario.specs.RunCalls.{calls_answered}
-use Rattle.run_scenario.specs.Faults.{fault_before, unplayed}
 use Rattle.run_scenario.specs.ScenarioRuns.{RunsAll, most_lines}
-use Rattle.run_scenario.specs.Writes.{Closes, IsRunFrom, RunStart, WritesAfter, steps_on}
+use Rattle.run_scenario.specs.Writes.{steps_on}
 use Rattle.run_scenario.specs.declared.scenario_end.ScenarioEnd.{ScenarioEnd}
-use Rattle.run_scenario.proofs.WriteLemmas.{ends_for_some_cause}
-use Rattle.view_accounts.specs.Accounting.{SeesAccounts, sessions_kept, text_kept}
+use Rattle.view_accounts.specs.Accounting.{SeesAccounts, sessions_kept}
 use Rattle.view_accounts.specs.ClosedByLines.{opening_line}
 use Rattle.view_accounts.specs.Kept.{found}
 use Rattle.view_accounts.specs.Needs.{Needed}
@@ -65,7 +58,7 @@ module _ (observer : Accounting) (listed : Listed) {start : World} {calls : List
   sessions_are component within =
       in_turn-alike (session_rows listed kept now component) (session_rows listed after now component) selector_count
       (λ selector less.
-      open_is (kept.needs (owner.Session component selector)) component selector (session_at component selector now) (found observer.peaks.sessions component selector)
+      open_is (kept.needs.session component selector) component selector (session_at component selector now) (found observer.peaks.sessions component selector)
       (noted_of listed start calls component selector) (sees.peaks.of_sessions component selector (inside within)))
 
   component_is : (component : ℕ) → component < length listed.entries → component_row listed kept now component ≡ component_row listed after now component
@@ -102,8 +95,8 @@ module _ (observer : Accounting) (listed : Listed) {start : World} {calls : List
   }
 
 -- what was seen of a run that reached its end is so of the calls of its input
-module _ {seen : List (List ℕ) → Type 0} {first : RunPosition} {start last : World} {counts : List LineStep → Type 0} {reports : List (List ℕ) → Type 0} {input rest w w' w'' : Option (List ℕ)} {failed : Bool} {behind : List ℕ} (played ended : ScenarioEnd)
-    (plays : RunsAll (λ _ _ _. []) true seen counts reports None first played.fault played.lines start last [] input rest failed w w') (closes : Closes played ended w' w'' behind)
+module _ {seen : List (List ℕ) → Type 0} {first : RunPosition} {start last : World} {counts : List LineStep → Type 0} {reports : List (List ℕ) → Type 0} {input rest w w' : Option (List ℕ)} {failed : Bool} (played : ScenarioEnd)
+    (plays : RunsAll (λ _ _ _. []) true seen counts reports None first played.fault played.lines start last [] input rest failed w w')
     (P : List (List ℕ) → Type 0) (so : (calls : List (List ℕ)) → last ≡ world_running start calls → seen calls → P calls) where
   abbrev steps : List LineStep
   steps = steps_of None start first plays.given
@@ -115,29 +108,27 @@ module _ {seen : List (List ℕ) → Type 0} {first : RunPosition} {start last :
       (so (calls_answered None steps) plays.world sees)
   of_input sees None ends = tt
 
-  by_faults : (played_fault ended_fault : Option LineRunFault) → WritesAfter played_fault ended_fault w' w'' behind → IfNone played_fault (seen (calls_answered None steps)) →
-      EndsFor most_lines played_fault plays.given input rest failed → IfNone ended_fault (IfSome input (λ text. P (calls_answered None (steps_of None start first (lines_of text)))))
-  by_faults None None writes sees ends = of_input sees input ends
-  by_faults (Some fault) None writes sees ends = absurd (none-some fault writes.0)
-  by_faults played_fault (Some fault) writes sees ends = tt
+  by_fault : (fault : Option LineRunFault) → IfNone fault (seen (calls_answered None steps)) → EndsFor most_lines fault plays.given input rest failed →
+      IfNone fault (IfSome input (λ text. P (calls_answered None (steps_of None start first (lines_of text)))))
+  by_fault None sees ends = of_input sees input ends
+  by_fault (Some fault) sees ends = tt
 
-  pub seen_at_end : IfNone ended.fault (IfSome input (λ text. P (calls_answered None (steps_of None start first (lines_of text)))))
-  seen_at_end = by_faults played.fault ended.fault closes.writes plays.sees plays.ends
+  pub seen_at_end : IfNone played.fault (IfSome input (λ text. P (calls_answered None (steps_of None start first (lines_of text)))))
+  seen_at_end = by_fault played.fault plays.sees plays.ends
 
-module _ (observer : Accounting) (listed : Listed) {first : RunPosition} {start last : World} {counts : List LineStep → Type 0} {reports : List (List ℕ) → Type 0} {input rest w w' w'' : Option (List ℕ)} {failed : Bool} (played ended : ScenarioEnd)
-    (plays : RunsAll (λ _ _ _. []) true (SeesAccounts observer listed start) counts reports None first played.fault played.lines start last [] input rest failed w w')
-    (closes : Closes played ended w' w'' (text_kept observer listed last)) where
+module _ (observer : Accounting) (listed : Listed) {first : RunPosition} {start last : World} {counts : List LineStep → Type 0} {reports : List (List ℕ) → Type 0} {input rest w w' : Option (List ℕ)} {failed : Bool} (played : ScenarioEnd)
+    (plays : RunsAll (λ _ _ _. []) true (SeesAccounts observer listed start) counts reports None first played.fault played.lines start last [] input rest failed w w') where
   pub rows_played : (rows : Result AccountRows AllocError) → start.entries ≡ entries_of (start_list_of listed) →
-      IfOk rows (λ shown. accounts_view shown ≡ rows_kept observer listed last) → ShowsRows (sessions_kept observer) listed start (steps_of None start first) ended.fault input rows
+      IfOk rows (λ shown. accounts_view shown ≡ rows_kept observer listed last) → ShowsRows (sessions_kept observer) listed start (steps_of None start first) played.fault input rows
   rows_played rows entries shows =
-      seen_at_end played ended plays closes (λ calls. IfOk rows (λ shown. accounts_view shown ≡ rows_after (sessions_kept observer) listed start calls))
+      seen_at_end played plays (λ calls. IfOk rows (λ shown. accounts_view shown ≡ rows_after (sessions_kept observer) listed start calls))
       (λ calls leads sees.
       IfOk-weaker rows (λ shown. accounts_view shown ≡ rows_kept observer listed last) (λ shown. accounts_view shown ≡ rows_after (sessions_kept observer) listed start calls)
       (λ shown is. is ∙ ap (rows_kept observer listed) leads ∙ rows_are observer listed sees entries) shows)
 
-  pub sessions_played : ShowsSessions (sessions_kept observer) listed start (steps_of None start first) ended.fault input
+  pub sessions_played : ShowsSessions (sessions_kept observer) listed start (steps_of None start first) played.fault input
   sessions_played =
-      seen_at_end played ended plays closes (ShownAfter (sessions_kept observer) listed start)
+      seen_at_end played plays (ShownAfter (sessions_kept observer) listed start)
       (λ calls leads sees. record {
         led = leads_now start sees.peaks.none_at_start calls;
         needs = λ c q. need_kept (opening_line start calls c q) (history_of start calls c q) (value_at observer.needs.sessions.opened c q) (sees.sessions.each c q);
@@ -149,11 +140,3 @@ pub shows_on : (Shows : World → (List (List ℕ) → List LineStep) → Type 0
     Shows start (steps_of None start begun) → Shows (world_of listed) (steps_on None first listed)
 shows_on Shows listed first {start = start} starts begins shows =
     subst (λ world. Shows world (steps_of None world first)) starts (subst (λ position. Shows start (steps_of None start position)) begins shows)
-
--- a fault has a cause, whatever else is known of the run
-pub ends_with_rows : {X : Type 0} {start : RunStart} {told : List LineStep → List ℕ} {behind : X → List LineStep → List ℕ} {also : X → Type 0} {calls : Bool} {reports : List (List ℕ) → Type 0} {ending : ScenarioEnd} {input rest : Option (List ℕ)} {failed : Bool} {w w' : Option (List ℕ)} (read_before write_before write_failed : Bool) →
-    (fault_before read_before write_before ≡ None → (x : X) × (IsRunFrom start told (behind x) calls reports ending input rest failed w w' × also x)) →
-    IfSome (fault_before read_before write_before) (λ fault. (ending ≡ unplayed fault) × (failed ≡ read_before)) → write_failed ≡ is_write_fault ending.fault →
-    IfSome ending.fault (λ fault. fault ≢ NoMemory → IfSome input (λ text. HasCause text most_lines failed write_failed))
-ends_with_rows {behind = behind} read_before write_before write_failed played =
-    ends_for_some_cause {behind = behind} read_before write_before write_failed (λ works. ((played works).0, (played works).1.0))

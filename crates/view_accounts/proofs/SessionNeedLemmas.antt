@@ -8,7 +8,7 @@ use Rattle.own_model.specs.ObjectKinds.{ObjectKind}
 use Rattle.own_model.specs.Session.{Session, Wish, new_session, offer_of, served, too_small, upgraded}
 use Rattle.object_kinds.specs.Offered.{offered_kinds}
 use Rattle.core_calls.specs.declared.quotas.Quotas.{Quotas}
-use Rattle.pd_core.specs.Answer.{quotas_account}
+use Rattle.core_calls.specs.Quotas.{quotas_account}
 use Rattle.budget_theorems.specs.Request.{donating}
 use Rattle.budget_theorems.specs.RequestTheorems.{Reaches, session_run}
 use Rattle.budget_theorems.specs.RequestTheorems.Reaches.{Asked, Raised}

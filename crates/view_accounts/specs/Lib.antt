@@ -7,7 +7,6 @@ pub mod Kept
 pub mod KeptSessions
 pub mod Meters
 pub mod Needs
-pub mod PeakList
 pub mod Peaks
 pub mod Rows
 pub mod RunRows

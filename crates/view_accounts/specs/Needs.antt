@@ -1,18 +1,15 @@
 -- The needs of accounts: the minimum budgets with which the tests that passed so far still pass.
-use Rattle.std.specs.Prelude.{ℕ, ◌+◌, ◌-◌, ◌^◌, ◌++◌, ◌&&◌, Bool, true, false, List, [], ◌∷◌, length, drop, min, codes, nat_eq, if◌then◌else◌, Option, Some, None}
+use Rattle.std.specs.Prelude.{ℕ, ◌+◌, ◌-◌, ◌^◌, ◌&&◌, Bool, true, false, List, [], ◌∷◌, length, drop, min, codes, nat_eq, if◌then◌else◌, Option, Some, None}
 use Rattle.std.specs.List.{starts_with}
 use Rattle.own_model.specs.Account.{Account}
 use Rattle.own_model.specs.Amounts.{Amounts, no_amounts}
 use Rattle.own_model.specs.Call.{Call}
 use Rattle.own_model.specs.Listed.{Binary, Listed, ListedEntry, reserve_of}
 use Rattle.own_model.specs.Listed.Binary.{Script, Server, Init}
-use Rattle.own_model.specs.Reply.{amounts_text}
 use Rattle.own_model.specs.Transcript.{calls_of, entry_at, own_part, state_at}
 use Rattle.own_model.specs.World.{World, world_running}
 use Rattle.budget_theorems.specs.Need.{Cell, cell}
 use Rattle.run_lines.specs.Accounts.{listed_at}
-use Rattle.run_lines.specs.declared.columns.AccountOwner.{AccountOwner}
-use Rattle.run_lines.specs.declared.columns.AccountOwner.TheVariants.{Init as OfInit, Component as OfComponent, Session as OfSession}
 
 -- the need of an account's start budget; its component may have exited
 pub record Needed : Type 0 where
@@ -24,9 +21,6 @@ nothing_needed = record { need = no_amounts; gone = false }
 
 abbrev pub gone_text : Bool → List ℕ
 gone_text gone = if gone then codes " gone" else []
-
-abbrev pub needed_text : Needed → List ℕ
-needed_text needed = gone_text needed.gone ++ codes " need " ++ amounts_text needed.need
 
 -- ---- of scripts
 
@@ -90,14 +84,19 @@ needed_running Script own listed place = own place
 needed_running (Server service offer) own listed place = nothing_needed
 needed_running Init own listed place = needed_below (Some (listed_at listed place).path) own listed
 
--- the need of each account, by the needs of scripts and sessions
-abbrev pub Needs : Type 0
-Needs = AccountOwner → Needed
+-- the need of each account: the machine's init, each component, and each session
+pub record Needs : Type 0 where
+  pub init : Needed
+  pub component : ℕ → Needed
+  pub session : ℕ → ℕ → Needed
 
+-- by the needs of scripts and sessions
 abbrev pub needs_by : (ℕ → Needed) → (ℕ → ℕ → Amounts) → Listed → Needs
-needs_by own of_session listed OfInit = needed_below None own listed
-needs_by own of_session listed (OfComponent place) = needed_running (listed_at listed place).binary own listed place
-needs_by own of_session listed (OfSession component selector) = record { need = of_session component selector; gone = false }
+needs_by own of_session listed = record {
+  init = needed_below None own listed;
+  component = λ place. needed_running (listed_at listed place).binary own listed place;
+  session = λ component selector. record { need = of_session component selector; gone = false };
+}
 
 -- after calls of all
 abbrev pub needs_after : (ℕ → ℕ → Amounts) → Listed → World → List (List ℕ) → Needs

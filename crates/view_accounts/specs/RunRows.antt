@@ -1,5 +1,5 @@
 -- The rows of an account list after calls.
-use Rattle.std.specs.Prelude.{◌≡◌, ℕ, zero, suc, false, ◌++◌, List, [], ◌∷◌, length, codes, map, if◌then◌else◌, Option, Some, None, IfNone, IfOk, IfSome, Result}
+use Rattle.std.specs.Prelude.{◌≡◌, ℕ, zero, suc, false, ◌++◌, List, [], ◌∷◌, length, nat_lt, codes, map, if◌then◌else◌, Option, Some, None, IfNone, IfOk, IfSome, Result}
 use Rattle.std.specs.declared.alloc.AllocError.{AllocError}
 use Rattle.std.specs.Option.{option_map}
 use Rattle.own_model.specs.Account.{Account}
@@ -13,7 +13,6 @@ use Rattle.own_model.specs.Transcript.{entry_at, state_at}
 use Rattle.own_model.specs.World.{World, account_at, all_caps, all_ram, machine_init, world_running}
 use Rattle.budget_meter.specs.Needs.{amounts_of}
 use Rattle.run_lines.specs.Accounts.{listed_at}
-use Rattle.run_lines.specs.declared.columns.AccountOwner.TheVariants as owner
 use Rattle.run_lines.specs.declared.line_run_fault.LineRunFault.{LineRunFault}
 use Rattle.run_scenario.specs.LineSteps.{LineStep}
 use Rattle.run_scenario.specs.RunCalls.{calls_answered}
@@ -21,7 +20,6 @@ use Rattle.view_accounts.specs.Accounting.{OfSessions}
 use Rattle.view_accounts.specs.Kept.{found, noted_in, peak_at, peaked}
 use Rattle.view_accounts.specs.Meters.{needed_of, needs_of_sessions}
 use Rattle.view_accounts.specs.Needs.{Needed, Needs, needs_after, needs_by}
-use Rattle.view_accounts.specs.PeakList.{name_at}
 use Rattle.view_accounts.specs.Peaks.{Noted, noted_of, peak_of, session_at, worlds}
 use Rattle.view_accounts.specs.Rows.{AccountView, AccountsView, ComponentView, SessionView, accounts_view}
 use Rattle.view_accounts.specs.declared.account_rows.AccountRows.{AccountRows}
@@ -46,6 +44,11 @@ pub record Measures : Type 0 where
 
 abbrev pub entries_in : Listed → List Entry
 entries_in listed = entries_of (start_list_of listed)
+
+-- the name of the component at a place, or `?` if there is none
+abbrev pub name_at : List Entry → Option ℕ → List ℕ
+name_at entries (Some place) = if nat_lt place (length entries) then (entry_at entries place).name else codes "?"
+name_at entries None = codes "?"
 
 -- a session of a component under a selector, by its account, its need, and its values
 abbrev pub session_row : List Entry → ℕ → ℕ → Option Account → Needed → Noted → SessionView
@@ -73,7 +76,7 @@ session_account world component selector = option_map (λ (s : Session). s.accou
 
 abbrev pub session_rows : Listed → Measures → World → ℕ → ℕ → List SessionView
 session_rows listed measures world component selector =
-    open_row (entries_in listed) (measures.needs (owner.Session component selector)) component selector (session_account world component selector)
+    open_row (entries_in listed) (measures.needs.session component selector) component selector (session_account world component selector)
     (measures.noted component selector)
 
 -- the reserve of a component, if the list gives it one or it isn't empty
@@ -84,7 +87,7 @@ abbrev pub account_row : Listed → Measures → World → ℕ → AccountView
 account_row listed measures world component = record {
   name = (entry_at (entries_in listed) component).name;
   account = account_at world component;
-  needed = measures.needs (owner.Component component);
+  needed = measures.needs.component component;
   peak = measures.peak component;
 }
 
@@ -99,7 +102,7 @@ abbrev pub init_row : Measures → World → AccountView
 init_row measures world = record {
   name = codes "init";
   account = machine_init world;
-  needed = measures.needs owner.Init;
+  needed = measures.needs.init;
   peak = measures.init;
 }
 

@@ -8,7 +8,7 @@ use Rattle.own_model.specs.OwnState.{NamedBuffer, bytes_of_buffer}
 use Rattle.own_model.specs.Session.{Session, Wish, new_session, served, too_small, upgraded}
 use Rattle.own_model.specs.World.{World}
 use Rattle.core_calls.specs.declared.quotas.Quotas.{Quotas}
-use Rattle.pd_core.specs.Answer.{quotas_account}
+use Rattle.core_calls.specs.Quotas.{quotas_account}
 use Rattle.budget_theorems.specs.Request.{donating}
 use Rattle.budget_theorems.specs.RequestTheorems.{Reaches, session_run}
 use Rattle.budget_theorems.specs.RequestTheorems.Reaches.{Asked, Raised}

@@ -1,33 +1,28 @@
-//! The account list with needs, peaks, servers and labels, after a run.
-ghost use Rattle.std.specs.Io.KnownBytes.{Appends};
+//! The rows of the account list with needs, peaks, servers and labels, after a run.
 ghost use Rattle.std.specs.Prelude.{◌≡◌, ◌≢◌, ◌≤◌, ◌||◌, [], false, true, IfNone, IfOk, IfErr, IfSome, OnErr, OnOk, None, Some};
 ghost use Rattle.own_model.specs.Listed.{start_list_of};
 ghost use Rattle.own_model.specs.StartList.{Boots, entries_of};
 ghost use Rattle.list_parser.specs.Quota.{quota_fault};
 ghost use Rattle.list_parser.specs.declared.fault.BootFault.TheVariants.{NoMemory};
-ghost use Rattle.run_lines.specs.Causes.{HasCause, AppendsPart, is_write_fault as is_writing};
+ghost use Rattle.run_lines.specs.Causes.{HasCause};
 ghost use Rattle.run_lines.specs.Faults.{is_write_fault};
-ghost use Rattle.run_lines.specs.declared.run_fault.RunFault.TheVariants.{WriteFault};
-ghost use Rattle.view_accounts.specs.Accounting.{OfSessions, SeesAccounts, accounts_behind, accounts_text, text_kept};
+ghost use Rattle.view_accounts.specs.Accounting.{OfSessions, SeesAccounts};
 ghost use Rattle.view_accounts.specs.Rows.{accounts_view};
 ghost use Rattle.view_accounts.specs.RunRows.{ShowsRows, rows_kept};
 ghost use Rattle.view_accounts.specs.ShownSessions.{ShowsSessions};
 ghost use Rattle.run_lines.specs.Machine.{world_of};
 ghost use Rattle.run_scenario.specs.Faults.{fault_before, unplayed};
-ghost use Rattle.run_scenario.specs.RunCalls.{calls_answered};
 ghost use Rattle.run_scenario.specs.LineSteps.{steps_of};
 ghost use Rattle.run_scenario.specs.RunReports.{WritesAllReports, scope_of};
-ghost use Rattle.run_scenario.specs.Writes.{Closes, IsRunFrom, nothing_told, start_at, start_on, steps_on};
+ghost use Rattle.run_scenario.specs.Writes.{IsRunFrom, nothing_told, start_at, start_on, steps_on};
 ghost use Rattle.run_lines.specs.declared.line_run_fault.LineRunFault.TheVariants.{NoMemory as NoRoom};
 ghost use Rattle.view_diagnostics.specs.Diagnostics.{subject_at};
 
 use crate::account_rows::AccountRows;
 use crate::accounting::Accounting;
-use crate::closed_lines::write_closed;
 use init_core::boot;
 use list_parser::{BootFault, StartList};
-use pd_core::{Core, Router};
-use run_lines::{LineDispatcher, LineRunFault, MAX_LINES, RunFault, Sink, Source, write_columns};
+use run_lines::{Core, LineDispatcher, MAX_LINES, Router, Sink, Source};
 use run_scenario::{
     BootedScenario, CallBuffers, ScenarioEnd, ScenarioInput, ScenarioRunner, ScenarioState,
     play as play_lines,
@@ -43,14 +38,11 @@ pub struct AccountList {
     pub rows: Result<AccountRows, AllocError>,
 }
 
-/// Runs a scenario, and then writes the account list. It has the account of the machine's init, those of the components with
-/// their reserves, and those of the open sessions. Each account has its need and its peak, a session also its server and its
-/// label. The sums of all limits follow, and then the closed sessions. A need is the minimum start budget with which the tests
-/// that passed still pass; an init's is what its list needs. A peak is the most that was in use at the start or after any line,
-/// of a session since its opening. Errors of lines are written as they are found.
-///
-/// At a fault of the run no list is written. At a fault while the list is written, the list is a prefix. It stops as `run` does,
-/// and also if the host is out of memory at a call.
+/// Runs a scenario, and returns the rows of the account list: the account of the machine's init, those of the components with
+/// their reserves and their open sessions, the sums of all limits, and the closed sessions. A need is the minimum start budget
+/// with which the tests that passed still pass; an init's is what its list needs. A peak is the most that was in use at the start
+/// or after any line, of a session since its opening. Errors of lines are written as they are found, and nothing else. It stops as
+/// `run` does, and also if the host is out of memory at a call.
 #[tactic(auto, using(run_lines::proofs::MachineLemmas::listed_at_start))]
 pub fn accounts<S: Source, K: Sink, E: Sink>(
     alloc: Global,
@@ -61,20 +53,22 @@ pub fn accounts<S: Source, K: Sink, E: Sink>(
 ) -> Result<AccountList, BootFault>
     ensures played { IfOk result (λ accounts. fault_before (S.has_failed reader.old)
         (K.has_failed writer.old || E.has_failed complaints.old) ≡ None →
-        (sessions : OfSessions) × (IsRunFrom (start_on None play.entry.start play.entry.list.now)
-        nothing_told (accounts_behind sessions play.entry.list.now) true
+        IsRunFrom (start_on None play.entry.start play.entry.list.now) nothing_told nothing_told true
         (WritesAllReports (scope_of (subject_at play.entry.scenario) play.entry.list.now)
         (start_on None play.entry.start play.entry.list.now)
         (E.contents complaints.old) (E.contents complaints.new))
         accounts.ending
         (S.remaining reader.old) (S.remaining reader.new)
-        (S.has_failed reader.new) (K.contents writer.old) (K.contents writer.new)
+        (S.has_failed reader.new) (K.contents writer.old) (K.contents writer.new)) }
+    ensures shown { IfOk result (λ accounts. fault_before (S.has_failed reader.old)
+        (K.has_failed writer.old || E.has_failed complaints.old) ≡ None →
+        (sessions : OfSessions)
         × (ShowsRows sessions play.entry.list.now (world_of play.entry.list.now)
         (steps_on None play.entry.start play.entry.list.now) accounts.ending.fault
         (S.remaining reader.old) accounts.rows
         × ShowsSessions sessions play.entry.list.now (world_of play.entry.list.now)
         (steps_on None play.entry.start play.entry.list.now) accounts.ending.fault
-        (S.remaining reader.old)))) }
+        (S.remaining reader.old))) }
     ensures few { IfOk result (λ accounts. accounts.ending.lines ≤ MAX_LINES) }
     ensures writing { IfOk result (λ accounts. (K.has_failed writer.new
         || E.has_failed complaints.new) ≡ is_write_fault accounts.ending.fault) }
@@ -126,25 +120,24 @@ fn run_accounting<R: Router + Drop, S: Source, K: Sink, E: Sink>(
     requires sees { SeesAccounts observer.old stage.run.list.now stage.core [] }
     ensures played { fault_before (S.has_failed reader.old)
         (K.has_failed writer.old || E.has_failed complaints.old) ≡ None →
-        (sessions : OfSessions)
-        × (IsRunFrom (start_at None stage.entry.core stage.entry.state.position
-        stage.entry.state.checker.expected) (λ _. [])
-        (λ steps. accounts_text sessions stage.entry.run.list.now stage.entry.core
-        (calls_answered None steps))
-        true
+        IsRunFrom (start_at None stage.entry.core stage.entry.state.position
+        stage.entry.state.checker.expected) (λ _. []) (λ _. []) true
         (WritesAllReports
         (scope_of (subject_at stage.entry.state.checker.scenario) stage.entry.run.list.now)
         (start_at None stage.entry.core stage.entry.state.position
         stage.entry.state.checker.expected)
         (E.contents complaints.old) (E.contents complaints.new))
         result.ending (S.remaining reader.old) (S.remaining reader.new)
-        (S.has_failed reader.new) (K.contents writer.old) (K.contents writer.new)
+        (S.has_failed reader.new) (K.contents writer.old) (K.contents writer.new) }
+    ensures shown { fault_before (S.has_failed reader.old)
+        (K.has_failed writer.old || E.has_failed complaints.old) ≡ None →
+        (sessions : OfSessions)
         × (ShowsRows sessions stage.entry.run.list.now stage.entry.core
         (steps_of None stage.entry.core stage.entry.state.position) result.ending.fault
         (S.remaining reader.old) result.rows
         × ShowsSessions sessions stage.entry.run.list.now stage.entry.core
         (steps_of None stage.entry.core stage.entry.state.position) result.ending.fault
-        (S.remaining reader.old))) }
+        (S.remaining reader.old)) }
     ensures few { result.ending.lines ≤ MAX_LINES }
     ensures writing { (K.has_failed writer.new || E.has_failed complaints.new)
         ≡ is_write_fault result.ending.fault }
@@ -171,7 +164,6 @@ fn run_accounting<R: Router + Drop, S: Source, K: Sink, E: Sink>(
     };
     let ending = play_lines(&mut runner, &mut core, b"", reader, writer);
     let rows = rows_after(alloc, &core, run.list, &runner);
-    let ending = close_accounting(ending, &core, run.list, &runner, writer);
     AccountList { ending, rows }
 }
 
@@ -186,46 +178,4 @@ fn rows_after<R: Router + Drop, E: Sink>(
     ensures { IfOk result (λ rows. accounts_view rows ≡ rows_kept runner.now.observer.now list.now core.now) }
 {
     AccountRows::of(alloc, core, list, runner.observer)
-}
-
-// Writes the list after a run that ended without a fault.
-fn close_accounting<R: Router + Drop, K: Sink, E: Sink>(
-    ending: ScenarioEnd,
-    core: &Core<R>,
-    list: &StartList,
-    runner: &ScenarioRunner<'_, '_, '_, '_, '_, '_, '_, Accounting, E>,
-    writer: &mut K,
-) -> ScenarioEnd
-    requires listed { core.now.entries ≡ entries_of (start_list_of list.now) }
-    ensures closes { Closes ending result (K.contents writer.old) (K.contents writer.new)
-        (text_kept runner.now.observer.now list.now core.now) }
-    ensures failing { IfNone ending.fault (K.has_failed writer.new ≡ is_write_fault result.fault) }
-    ensures stopped { IfSome ending.fault (λ _. (result ≡ ending) × (writer.new ≡ writer.old)) }
-{
-    if ending.fault.is_some() {
-        return ending;
-    }
-    match write_accounts(core, list, runner.observer, writer) {
-        Ok(()) => ending,
-        Err(fault) => ending.stopped_by(LineRunFault::from(fault)),
-    }
-}
-
-// Writes the list, and the closed sessions after it.
-fn write_accounts<R: Router + Drop, K: Sink>(
-    core: &Core<R>,
-    list: &StartList,
-    observer: &Accounting,
-    writer: &mut K,
-) -> Result<(), RunFault>
-    requires listed { core.now.entries ≡ entries_of (start_list_of list.now) }
-    ensures told { OnOk result (Appends (K.contents writer.old) (K.contents writer.new)
-        (text_kept observer.now list.now core.now)) }
-    ensures fault { IfErr result (λ fault. fault ≡ WriteFault) }
-    ensures part { OnErr result (AppendsPart (K.contents writer.old) (K.contents writer.new)
-        (text_kept observer.now list.now core.now)) }
-    ensures writing { K.has_failed writer.new ≡ is_writing result }
-{
-    write_columns(core, list, observer, writer)?;
-    write_closed(list, observer.needs.sessions.closed.as_slice(), writer)
 }

@@ -9,17 +9,15 @@ ghost use Rattle.run_lines.specs.Accounts.{listed_at};
 ghost use Rattle.view_accounts.specs.Kept.{noted_in};
 ghost use Rattle.view_accounts.specs.Meters.{needed_in};
 ghost use Rattle.view_accounts.specs.Rows.{account_view, accounts_view, component_view, session_view};
-ghost use Rattle.view_accounts.specs.RunRows.{account_row, closed_kept, closed_row, component_row, entries_in, in_turn, init_row, measures_kept, reserve_row, rows_kept, selector_count, session_row, session_rows};
+ghost use Rattle.view_accounts.specs.RunRows.{account_row, closed_kept, closed_row, component_row, entries_in, in_turn, init_row, measures_kept, name_at, reserve_row, rows_kept, selector_count, session_row, session_rows};
 
 use crate::accounting::Accounting;
 use crate::needs::AccountNeed;
-use crate::peak_columns::name_at;
 use crate::peaks::{Peak, SessionPeak};
 use crate::session_needs::ClosedSession;
 use core_calls::{Quotas, Reserve};
 use list_parser::StartList;
-use pd_core::{Core, Router};
-use run_lines::{AccountOwner, Sums, sum_all};
+use run_lines::{Core, Router, Sums, sum_all};
 use std::alloc::{AllocError, Global};
 
 /// The rows of an account list: of the machine's init, of the components in the order of the list, of the sums of all limits, and
@@ -105,7 +103,7 @@ fn init_row<R: Router + Drop>(
     Ok(AccountRow {
         name,
         account: core.init_account(),
-        needed: observer.needs.needed(list, AccountOwner::Init),
+        needed: observer.needs.init(list),
         peak: observer.peaks.init,
     })
 }
@@ -170,9 +168,7 @@ fn account_row<R: Router + Drop>(
     Ok(AccountRow {
         name,
         account: core.account(component),
-        needed: observer
-            .needs
-            .needed(list, AccountOwner::Component(component)),
+        needed: observer.needs.component(list, component),
         peak: observer.peaks.component(component),
     })
 }
@@ -252,11 +248,7 @@ fn add_session<R: Router + Drop>(
     let Some(session) = observer.peaks.session(component, selector) else {
         return Ok(());
     };
-    let owner = AccountOwner::Session {
-        component,
-        selector,
-    };
-    let needed = observer.needs.needed(list, owner);
+    let needed = observer.needs.session(component, selector);
     let row = row_of(alloc, list, named, session, Some(account), needed)?;
     rows.push(row)?;
     Ok(())
@@ -320,4 +312,14 @@ fn row_of(
         server,
         label,
     })
+}
+
+// Returns the name of the component at a place, or `?` if there is none.
+fn name_at(list: &StartList, place: Option<usize>) -> &[u8]
+    ensures { result.now ≡ name_at (entries_in list.now) place }
+{
+    match place {
+        Some(place) if place < list.count() => list.name(place),
+        _ => b"?",
+    }
 }

@@ -1,23 +1,15 @@
-//! The observer of an account list: peaks and needs, which are its columns.
-ghost use Rattle.std.specs.Prelude.{◌≡◌, [], IfOk, false, is_err};
+//! The observer of an account list: peaks and needs.
+ghost use Rattle.std.specs.Prelude.{◌≡◌, [], IfOk};
 ghost use Rattle.own_model.specs.Listed.{Listed};
 ghost use Rattle.run_lines.specs.Machine.{world_of};
-ghost use Rattle.run_lines.specs.RunOutput.{OutputsUnless};
 ghost use Rattle.view_accounts.specs.Accounting.{SeesAccounts};
-ghost use Rattle.view_accounts.specs.Meters.{needed_in};
-ghost use Rattle.view_accounts.specs.Needs.{needed_text};
 
-use crate::needs::{AccountNeed, Needs};
+use crate::needs::Needs;
 use crate::peaks::Peaks;
-use arrayvec::ArrayVec;
 use list_parser::StartList;
-use pd_core::{Core, Router};
-use run_lines::{AccountOwner, Columns, DeviceFault, LineRunFault, Sink, WriteBuffer};
-use run_scenario::{CallObserver, ObservedCall, add, add_number};
+use run_lines::{Core, LineRunFault, Router, Sink, WriteBuffer};
+use run_scenario::{CallObserver, ObservedCall};
 use std::alloc::{AllocError, Global};
-
-/// The most bytes of a need as text.
-const LONGEST_NEED: usize = 80;
 
 /// Observes a run, and keeps peaks and needs after the lines so far.
 #[derive(Drop)]
@@ -61,44 +53,4 @@ impl CallObserver for Accounting {
         self.needs.hear(core, list, heard, &self.peaks)?;
         self.peaks.tell(core, list, heard, gathered, writer)
     }
-}
-
-impl Columns for Accounting {
-    ghost use Rattle.view_accounts.specs.Accounting.{beside_kept};
-
-    ghost beside = { λ observer list. beside_kept observer list };
-
-    fn put<K: Sink>(
-        &self,
-        list: &StartList,
-        owner: AccountOwner,
-        gathered: &mut WriteBuffer,
-        sink: &mut K,
-    ) -> Result<(), DeviceFault> {
-        put_needed(self.needs.needed(list, owner), gathered, sink)?;
-        self.peaks.put(list, owner, gathered, sink)
-    }
-}
-
-/// Gathers the need of an account, and whether its component has exited. The error is a failed write.
-pub(crate) fn put_needed<K: Sink>(
-    figure: AccountNeed,
-    gathered: &mut WriteBuffer,
-    sink: &mut K,
-) -> Result<(), DeviceFault>
-    requires { K.has_failed sink.old ≡ false }
-    ensures told { OutputsUnless result (K.contents sink.old) gathered.old
-        (K.contents sink.new) gathered.new (needed_text (needed_in figure)) }
-    ensures failing { K.has_failed sink.new ≡ is_err result }
-{
-    let mut text: ArrayVec<u8, LONGEST_NEED> = ArrayVec::new();
-    if figure.is_gone {
-        add(&mut text, b" gone");
-    }
-    add(&mut text, b" need ");
-    add(&mut text, b"ram ");
-    add_number(&mut text, figure.need.ram);
-    add(&mut text, b" caps ");
-    add_number(&mut text, figure.need.caps);
-    gathered.put(sink, text.as_slice())
 }

@@ -1,7 +1,6 @@
-//! Writes the account list after a run: use, limit, need and peak of each account, and of each closed session; as lines, as a table,
-//! and as JSON.
+//! The accounts after a run: use, limit, need and peak of each, and of each closed session; as a table, and as JSON.
 //!
-//! `cli_runs` calls it. For example `accounts(alloc, play, reader, writer, complaints)?` writes the list, and returns its rows.
+//! `cli_runs` calls it. For example `accounts(alloc, play, reader, writer, complaints)?` runs a scenario, and returns its rows.
 #![tactic(auto)]
 
 mod account_documents;
@@ -9,9 +8,7 @@ mod account_list;
 mod account_rows;
 mod account_table;
 mod accounting;
-mod closed_lines;
 mod needs;
-mod peak_columns;
 mod peaks;
 mod session_needs;
 mod session_outcome;

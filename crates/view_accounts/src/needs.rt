@@ -1,5 +1,5 @@
 //! The needs of accounts: the minimum budgets with which the tests that passed so far still pass.
-ghost use Rattle.std.specs.Prelude.{◌≡◌, ◌≢◌, ◌∷◌, ◌++◌, ◌<◌, ℕ, [], List, length, false, Some, IfNone, IfOk, IfSome, OnOk};
+ghost use Rattle.std.specs.Prelude.{◌≡◌, ◌≢◌, ◌∷◌, ◌++◌, ◌<◌, ℕ, [], List, length, false, Some, IfNone, IfOk, IfSome, None, OnOk};
 ghost use Rattle.std.specs.Option.{option_copied};
 ghost use Rattle.own_model.specs.Amounts.{no_amounts};
 ghost use Rattle.own_model.specs.Call.{Call as Said};
@@ -10,7 +10,7 @@ ghost use Rattle.own_model.specs.StartList.{Entry as AnEntry, entries_of};
 ghost use Rattle.own_model.specs.Transcript.{calls_in, heard};
 ghost use Rattle.own_model.specs.Transcript.Heard.{Caller};
 ghost use Rattle.own_model.specs.World.{World, account_at};
-ghost use Rattle.pd_core.specs.Answer.{quotas_account};
+ghost use Rattle.core_calls.specs.Quotas.{quotas_account};
 ghost use Rattle.core_calls.specs.Call.{model_call};
 ghost use Rattle.run_lines.specs.Accounts.{listed_at};
 ghost use Rattle.run_lines.specs.Machine.{world_of};
@@ -20,7 +20,7 @@ ghost use Rattle.budget_meter.specs.Needs.{amounts_of};
 ghost use Rattle.view_accounts.specs.Meters.{IsFresh, SeesNeeds, meter_at, metered, needed_in, needed_of, needs_of_sessions};
 ghost use Rattle.view_accounts.specs.Kept.{SeesPeaks, peaked};
 ghost use Rattle.view_accounts.specs.KeptSessions.{SeesSessions};
-ghost use Rattle.view_accounts.specs.Needs.{added, counts_below, lies_below, limits, needed_running, needs_by, summed};
+ghost use Rattle.view_accounts.specs.Needs.{added, counts_below, lies_below, limits, needed_below, needed_running, summed};
 ghost use Rattle.run_scenario.specs.Observation.{IsAnsweredAfter};
 
 use crate::peaks::Peaks;
@@ -29,8 +29,7 @@ use crate::session_outcome::SessionOutcome;
 use budget_meter::{AccountMeter, Budget};
 use core_calls::{Answer, Call, Quotas};
 use list_parser::{Binary, ListEntry, StartList};
-use pd_core::{Core, Router};
-use run_lines::{AccountOwner, NamedCall};
+use run_lines::{Core, NamedCall, Router};
 use run_scenario::{ObservedCall, caller_of, said_in};
 use std::alloc::{AllocError, Global};
 
@@ -92,23 +91,15 @@ impl Needs {
         })
     }
 
-    /// Returns the need of an account; an init's is the need of its list.
-    pub(crate) fn needed(&self, list: &StartList, owner: AccountOwner) -> AccountNeed
-        ensures { needed_in result ≡ needs_by (needed_of self.now.meters.items)
-            (needs_of_sessions self.now.sessions.opened) list.now owner }
+    /// Returns the need of the machine's init, which is that of its list.
+    pub(crate) fn init(&self, list: &StartList) -> AccountNeed
+        ensures { needed_in result ≡ needed_below None (needed_of self.now.meters.items) list.now }
     {
-        match owner {
-            AccountOwner::Init => AccountNeed::of(self.below(list, None)),
-            AccountOwner::Component(place) => self.running(list, place),
-            AccountOwner::Session {
-                component,
-                selector,
-            } => AccountNeed::of(self.sessions.needed(component, selector)),
-        }
+        AccountNeed::of(self.below(list, None))
     }
 
-    // Returns the need of the component at a place.
-    fn running(&self, list: &StartList, place: usize) -> AccountNeed
+    /// Returns the need of the component at a place; an init's is the need of its list.
+    pub(crate) fn component(&self, list: &StartList, place: usize) -> AccountNeed
         ensures { needed_in result ≡ needed_running (listed_at list.now place).binary
             (needed_of self.now.meters.items) list.now place }
     {
@@ -120,6 +111,16 @@ impl Needs {
             Binary::Server(_) | Binary::Declared(_) => AccountNeed::of(Budget { ram: 0, caps: 0 }),
             Binary::Init => AccountNeed::of(self.below(list, Some(entry.path()))),
         }
+    }
+
+    /// Returns the need of the session that a selector of a component names, or zero if no such session is open.
+    pub(crate) fn session(&self, component: usize, selector: u64) -> AccountNeed
+        ensures { needed_in result ≡ record {
+          need = needs_of_sessions self.now.sessions.opened component selector;
+          gone = false;
+        } }
+    {
+        AccountNeed::of(self.sessions.needed(component, selector))
     }
 
     // Returns the need of the script at a place, or zero after the last.

@@ -6,7 +6,7 @@ ghost use Rattle.own_model.specs.Routes.{label_with};
 ghost use Rattle.own_model.specs.Session.{Session as Opened, given};
 ghost use Rattle.own_model.specs.StartList.{entries_of};
 ghost use Rattle.own_model.specs.World.{account_at, machine_init};
-ghost use Rattle.pd_core.specs.Answer.{quotas_account};
+ghost use Rattle.core_calls.specs.Quotas.{quotas_account};
 ghost use Rattle.core_calls.specs.Call.{model_call};
 ghost use Rattle.view_accounts.specs.Kept.{begun_with, found, grown, in_use, noted_after, noted_exited, noted_in, noted_more, noted_named, noted_opened, peak_at, peaked};
 
@@ -16,8 +16,7 @@ use crate::session_table::SessionTable;
 use core_calls::{Call, Quotas};
 use list_parser::StartList;
 use list_routes::route;
-use pd_core::{Core, Router};
-use run_lines::{LineRunFault, Sink, WriteBuffer};
+use run_lines::{Core, LineRunFault, Router, Sink, WriteBuffer};
 use run_scenario::{CallObserver, ObservedCall};
 use session_proto::SessionArgs;
 use std::alloc::{AllocError, Global};

@@ -15,7 +15,7 @@ use crate::session_outcome::SessionOutcome;
 use crate::session_table::SessionTable;
 use budget_meter::{Budget, SessionMeter};
 use core_calls::{Answer, Call};
-use pd_core::{Core, Router};
+use run_lines::{Core, Router};
 use std::alloc::{AllocError, Global};
 
 /// What the account of an open session needs.

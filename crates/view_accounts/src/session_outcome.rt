@@ -7,7 +7,7 @@ ghost use Rattle.core_calls.specs.Outcome.{IsText};
 ghost use Rattle.view_accounts.specs.Peaks.{is_open};
 
 use core_calls::Outcome;
-use pd_core::{Core, Router};
+use run_lines::{Core, Router};
 
 /// Which session a call opened if it opens one, and whether a call that replies nothing is done.
 #[derive(Clone, Copy)]

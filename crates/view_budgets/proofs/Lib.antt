@@ -1,2 +1,1 @@
 mod DocumentLemmas
-mod CellLemmas

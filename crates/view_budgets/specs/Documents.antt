@@ -1,22 +1,29 @@
 -- A report as JSON.
-use Rattle.std.specs.Prelude.{◌≡◌, ℕ, List, [], ◌∷◌, ◌++◌, codes, map, Option}
-use Rattle.std.specs.List.{flat_map, zip}
+use Rattle.std.specs.Prelude.{◌≡◌, ℕ, List, [], ◌∷◌, ◌++◌, codes, if◌then◌else◌, map, Option}
+use Rattle.std.specs.List.{flat_map}
 use Rattle.std.specs.Option.{option_map}
 use Rattle.serde_json.specs.Data.{Data, array}
 use Rattle.serde_json.specs.View.{items_of}
 use Rattle.view_json.specs.Documents.{list_text, number_data, number_or_null, object_of, text_data, Member}
 use Rattle.own_model.specs.Amounts.{Amounts}
+use Rattle.budget_search.specs.BudgetIntervals.{safe_of}
 use Rattle.budget_search.specs.declared.account_budgets.AccountBudgets.{AccountBudgets}
 use Rattle.budget_search.specs.declared.budget_intervals.BudgetInterval.{BudgetInterval}
-use Rattle.budget_least.specs.Report.{accounts_of, sum_of, HasSmallestMachine}
-use Rattle.budget_least.specs.Unmeasured.{reason_text}
+use Rattle.budget_least.specs.Report.{accounts_of, list_of, sum_of, unmeasured_of, HasSmallestMachine}
+use Rattle.budget_least.specs.Unmeasured.{is_named_with, reason_text}
 use Rattle.budget_least.specs.declared.machine_size.MachineSize.{MachineSize}
 use Rattle.budget_least.specs.declared.report.BudgetReport.{BudgetReport}
 use Rattle.budget_least.specs.declared.unmeasured_line.UnmeasuredLine.{UnmeasuredLine}
-use Rattle.view_budgets.specs.Columns.{column_names, values_of, Value}
-use Rattle.view_budgets.specs.Columns.Value.{Text, Number, Maybe, Lines}
+use Rattle.view_budgets.specs.Text.{path_of}
 
 -- ---- accounts
+
+-- the lines of an account that aren't measured
+abbrev pub named_line : AccountBudgets → UnmeasuredLine → List UnmeasuredLine
+named_line account line = if is_named_with account line then line ∷ [] else []
+
+abbrev pub named_lines : AccountBudgets → List UnmeasuredLine → List UnmeasuredLine
+named_lines account lines = flat_map (named_line account) lines
 
 -- a line that isn't measured, with the reason
 abbrev pub unmeasured_object : UnmeasuredLine → Data
@@ -26,19 +33,24 @@ unmeasured_object line =
 abbrev pub unmeasured_data : List UnmeasuredLine → Data
 unmeasured_data lines = array (items_of (map unmeasured_object lines))
 
-abbrev pub data_of : Value → Data
-data_of (Text text) = text_data text
-data_of (Number number) = number_data number
-data_of (Maybe number) = number_or_null number
-data_of (Lines lines) = unmeasured_data lines
+-- an interval of an account, with its component's path and its lines that aren't measured
+abbrev pub members_with : List ℕ → Data → AccountBudgets → BudgetInterval → List Member
+members_with path unmeasured account row =
+    (codes "kind", text_data (codes "interval"))
+    ∷ (codes "component", text_data path)
+    ∷ (codes "session", number_or_null (option_map (λ key. key.selector) account.session))
+    ∷ (codes "line", number_or_null (option_map (λ key. key.line) account.session))
+    ∷ (codes "ram_from", number_data row.ram_from)
+    ∷ (codes "ram_below", number_or_null row.ram_below)
+    ∷ (codes "caps_from", number_data row.caps_from)
+    ∷ (codes "unmeasured", unmeasured)
+    ∷ (codes "safe_ram", number_or_null (option_map (λ budget. budget.ram) (safe_of account.found.rows.items)))
+    ∷ (codes "safe_caps", number_or_null (option_map (λ budget. budget.caps) (safe_of account.found.rows.items)))
+    ∷ (codes "count", number_data account.count) ∷ []
 
--- an interval by its values
-abbrev pub members_of : List Value → List Member
-members_of values = (codes "kind", text_data (codes "interval")) ∷ zip column_names (map data_of values)
-
--- an interval of an account
 abbrev pub interval_members : BudgetReport → AccountBudgets → BudgetInterval → List Member
-interval_members report account row = members_of (values_of report account row)
+interval_members report account row =
+    members_with (path_of (list_of report) account) (unmeasured_data (named_lines account (unmeasured_of report))) account row
 
 -- the intervals of an account
 abbrev pub account_documents : BudgetReport → AccountBudgets → List (List Member)

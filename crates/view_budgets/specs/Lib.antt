@@ -1,4 +1,2 @@
-pub mod Columns
-pub mod Csv
-pub mod Documents
 pub mod Text
+pub mod Documents

@@ -1,8 +1,9 @@
 -- The text of a report.
 use Rattle.std.specs.Prelude.{ℕ, ◌-◌, ◌==◌, ◌&&◌, Bool, true, false, List, [], ◌∷◌, ◌++◌, codes, decimal, length, nat_le, nat_lt, if◌then◌else◌, Option, Some, None}
-use Rattle.std.specs.List.{flat_map}
+use Rattle.std.specs.List.{flat_map, slice_get}
 use Rattle.std.specs.Option.{option_map_or, unwrap_or}
 use Rattle.own_model.specs.Amounts.{Amounts, no_amounts}
+use Rattle.own_model.specs.Listed.{Listed}
 use Rattle.budget_meter.specs.ByteTexts.{bytes_text}
 use Rattle.budget_meter.specs.Needs.{amounts_of}
 use Rattle.budget_search.specs.BudgetIntervals.{lowest_of, safe_of}
@@ -21,13 +22,16 @@ use Rattle.budget_least.specs.Unmeasured.{is_named_with, reason_text}
 use Rattle.budget_least.specs.declared.machine_size.MachineSize.{MachineSize}
 use Rattle.budget_least.specs.declared.report.BudgetReport.{BudgetReport}
 use Rattle.budget_least.specs.declared.unmeasured_line.UnmeasuredLine.{UnmeasuredLine}
-use Rattle.view_budgets.specs.Columns.{path_of}
 
 -- RAM, in K if it is whole, and capabilities
 abbrev pub amounts_text : Amounts → List ℕ
 amounts_text amounts = bytes_text amounts.ram ++ codes " and " ++ decimal amounts.caps
 
 -- ---- an account and its intervals
+
+-- the path of the component of an account
+abbrev pub path_of : Listed → AccountBudgets → List ℕ
+path_of list account = option_map_or (λ entry. entry.path) (slice_get list.entries account.component) []
 
 -- how many sessions of a line have the same budgets, if there are several
 abbrev pub times_text : ℕ → List ℕ

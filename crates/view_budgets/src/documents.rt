@@ -1,17 +1,15 @@
 //! The report as JSON.
-ghost use Rattle.std.specs.Prelude.{◌≡◌, ◌∷◌, ◌++◌, [], List, IfOk, OnOk, map};
+ghost use Rattle.std.specs.Prelude.{◌≡◌, ◌∷◌, ◌++◌, [], IfOk, OnOk, map};
 ghost use Rattle.std.specs.List.{flat_map};
 ghost use Rattle.std.specs.Option.{option_map};
 ghost use Rattle.budget_meter.specs.Needs.{amounts_of};
-ghost use Rattle.budget_least.specs.declared.unmeasured_line.UnmeasuredLine.{UnmeasuredLine};
 ghost use Rattle.view_json.specs.Documents.{field_data, list_data, number_or_null, objects_in};
 ghost use Rattle.view_json.specs.Listings.{Extends};
-ghost use Rattle.view_budgets.specs.Columns.{column_values, named_line, named_lines, path_of};
-ghost use Rattle.view_budgets.specs.Documents.{account_documents, machine_members, members_of, unmeasured_data, unmeasured_object, IsReportJson};
+ghost use Rattle.view_budgets.specs.Documents.{account_documents, machine_members, members_with, named_line, named_lines, unmeasured_data, unmeasured_object, IsReportJson};
+ghost use Rattle.view_budgets.specs.Text.{path_of};
 
-use crate::columns::{budget_numbers, session_numbers};
 use budget_least::{Budget, BudgetReport, MachineSize, UnmeasuredLine};
-use budget_search::{AccountBudgets, BudgetInterval};
+use budget_search::{AccountBudgets, BudgetInterval, SessionKey};
 use list_parser::StartList;
 use std::alloc::{AllocError, Global};
 use view_json::{JsonField, Listing, ObjectList, ObjectListBuilder};
@@ -136,9 +134,8 @@ fn add_row<'a>(
     row: &BudgetInterval,
     unmeasured: &'a ObjectList,
 ) -> Result<(), AllocError>
-    ensures { (lines : List UnmeasuredLine) → list_data unmeasured.now ≡ unmeasured_data lines →
-        OnOk result (Extends listing.old listing.new
-        (members_of (column_values path.now lines account.now row.now) ∷ [])) }
+    ensures { OnOk result (Extends listing.old listing.new
+        (members_with path.now (list_data unmeasured.now) account.now row.now ∷ [])) }
 {
     let (selector, line) = session_numbers(account.session());
     let (safe_ram, safe_caps) = budget_numbers(account.safe());
@@ -155,6 +152,28 @@ fn add_row<'a>(
         ("safe_caps", number_field(safe_caps)),
         ("count", JsonField::Number(account.count())),
     ])
+}
+
+// Returns the selector of a session and the line that opens it, or nothing without a session.
+fn session_numbers(session: Option<SessionKey>) -> (Option<u64>, Option<u64>)
+    ensures selector { result.0 ≡ option_map (λ key. key.selector) session }
+    ensures line { result.1 ≡ option_map (λ key. key.line) session }
+{
+    match session {
+        Some(SessionKey { selector, line }) => (Some(selector), Some(line)),
+        None => (None, None),
+    }
+}
+
+// Returns the RAM in bytes and the capabilities of a budget, or nothing without one.
+fn budget_numbers(budget: Option<Budget>) -> (Option<u64>, Option<u64>)
+    ensures ram { result.0 ≡ option_map (λ a. a.ram) (option_map amounts_of budget) }
+    ensures caps { result.1 ≡ option_map (λ a. a.caps) (option_map amounts_of budget) }
+{
+    match budget {
+        Some(Budget { ram, caps }) => (Some(ram), Some(caps)),
+        None => (None, None),
+    }
 }
 
 // Returns a number, or nothing without one.

@@ -5,8 +5,7 @@ ghost use Rattle.std.specs.List.{flat_map};
 ghost use Rattle.std.specs.Option.{option_map};
 ghost use Rattle.budget_meter.specs.Needs.{amounts_of};
 ghost use Rattle.budget_least.specs.Report.{accounts_of, sum_of, HasSmallestMachine};
-ghost use Rattle.view_budgets.specs.Columns.{path_of};
-ghost use Rattle.view_budgets.specs.Text.{account_text, first_line, machine_line, reason_line, report_text, sum_line, unmeasured_line};
+ghost use Rattle.view_budgets.specs.Text.{account_text, first_line, machine_line, path_of, reason_line, report_text, sum_line, unmeasured_line};
 
 use crate::account_lines::{show_given_lines, show_ranges};
 use crate::amounts_text::AmountsText;
@@ -90,8 +89,8 @@ fn show_first_line<W: fmt::Write>(
     f.write_str("\n")
 }
 
-/// Writes the path of the component of an account.
-pub(crate) fn show_path<W: fmt::Write>(
+// Writes the path of the component of an account.
+fn show_path<W: fmt::Write>(
     f: &mut fmt::Formatter<W>,
     list: &StartList,
     account: &AccountBudgets,

@@ -1,6 +1,4 @@
 mod ServiceLemmas
 mod CoverLemmas
-mod TableLemmas
 mod PlaceLemmas
-mod DocumentLemmas
 mod LineLemmas

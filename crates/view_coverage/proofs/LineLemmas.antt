@@ -1,12 +1,9 @@
 -- Lines and names that are written one after another.
-use Rattle.std.proofs.Common.{◌≡◌, ◌≤◌, ℕ, zero, suc, ◌+◌, Bool, true, false, List, [], ◌∷◌, ◌++◌, append_assoc, refl, sym, subst, ap, arith, ◌∙◌}
+use Rattle.std.proofs.Common.{◌≡◌, ℕ, Bool, false, List, [], ◌∷◌, ◌++◌, append_assoc, refl, sym, subst, ap, ◌∙◌}
 use Rattle.std.proofs.Output.{has_written_append, has_written_of_eq}
-use Rattle.std.specs.Prelude.{if◌then◌else◌, nat_lt}
 use Rattle.std.specs.Fmt.{HasWritten}
 use Rattle.std.specs.declared.fmt.Formatter.{Formatter}
-use Rattle.view_coverage.specs.Documents.{times}
-use Rattle.view_coverage.specs.Lines.{is_first_after, joined, met_among, separator}
-use Rattle.view_coverage.specs.declared.report.CoverageReport.{CoverageReport}
+use Rattle.view_coverage.specs.Lines.{is_first_after, joined, separator}
 
 -- one piece more is written
 pub written_next : {W : Type 0} {took : W → List ℕ → W → Type 0} {f g h : Formatter W} (so_far piece next : List ℕ) → next ≡ so_far ++ piece
@@ -46,14 +43,3 @@ pub first_next : (first now after : Bool) (so_far more next : List (List ℕ)) �
     → after ≡ is_first_after now more → after ≡ is_first_after first next
 first_next first now after so_far more next now_is next_is after_is =
     after_is ∙ ap (λ b. is_first_after b more) now_is ∙ sym (ap (is_first_after first) next_is ∙ first_more first so_far more)
-
--- ---- rows that are met
-
-at_most_one : (b : Bool) → (if b then 1 else 0) ≤ 1
-at_most_one true = omega arith
-at_most_one false = omega arith
-
--- no more rows are met than there are
-pub met_within : (report : CoverageReport) (count : ℕ) → met_among report count ≤ count
-met_within report zero = omega arith
-met_within report (suc count) = omega (arith, met_within report count, at_most_one (nat_lt 0 (times report count)))

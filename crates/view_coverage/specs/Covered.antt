@@ -1,25 +1,19 @@
 -- The coverage of a machine by the answered calls of a scenario: which of its rows are met.
-use Rattle.std.specs.Prelude.{ℕ, ◌+◌, ◌&&◌, ◌==◌, ◌||◌, zero, suc, Bool, true, false, List, [], ◌∷◌, ◌++◌, if◌then◌else◌, map, length, nat_lt, Option, Some, None}
-use Rattle.std.specs.List.{flat_map, list_any}
-use Rattle.std.specs.Option.{option_and_then, option_copied, option_map}
+use Rattle.std.specs.Prelude.{ℕ, ◌+◌, ◌&&◌, ◌==◌, ◌||◌, zero, suc, Bool, false, List, [], ◌∷◌, ◌++◌, if◌then◌else◌, map, length, Option, Some, None}
+use Rattle.std.specs.List.{list_any}
+use Rattle.std.specs.Option.{option_and_then, option_map}
 use Rattle.std.specs.Str.{bytes_eq}
-use Rattle.trade_base.specs.Refusal.{refusal_name}
-use Rattle.trade_base.specs.Service.{services}
 use Rattle.own_model.specs.Listed.{Listed, ListedEntry, ListedRule, offers, services_of}
 use Rattle.own_model.specs.Call.{Spoken, parsed_call}
 use Rattle.list_parser.specs.Depth.{runs_script}
 use Rattle.run_exchanges.specs.Exchange.{Exchange}
-use Rattle.view_coverage.specs.Forms.{form_of, forms, is_form_of, refusals_of}
-use Rattle.view_coverage.specs.Requests.{errors_of, is_asked, is_error, object_requests, request_word, requests}
 use Rattle.view_coverage.specs.Rules.{SessionRequest, is_rule, request_of, rules_of_request}
-use Rattle.view_coverage.specs.declared.request_forms.CoverageRequest.{CoverageRequest}
 use Rattle.view_coverage.specs.declared.event.CoverageEvent.{CoverageEvent}
-use Rattle.view_coverage.specs.declared.event.CoverageEvent.TheVariants.{Refused, Failed, Decided, Requested}
+use Rattle.view_coverage.specs.declared.event.CoverageEvent.TheVariants.{Decided, Requested}
 use Rattle.view_coverage.specs.declared.event.RouteOwner.{RouteOwner}
 use Rattle.view_coverage.specs.declared.event.RouteOwner.TheVariants.{Own, Inner, Machine}
 use Rattle.view_coverage.specs.declared.event.RulePlace.{RulePlace}
 use Rattle.view_coverage.specs.declared.event.ScriptService.{ScriptService}
-use Rattle.view_coverage.specs.declared.call_forms.CoverageCall.{CoverageCall}
 use Rattle.view_coverage.specs.declared.row.CallEvidence.{CallEvidence}
 use Rattle.view_coverage.specs.declared.row.CoverageRow.{CoverageRow}
 
@@ -58,31 +52,19 @@ asked_by list request =
 abbrev pub asked_in : Listed → Option SessionRequest → Option ScriptService
 asked_in list request = option_and_then (asked_by list) request
 
--- the evidence of an answered line: its reply, and the rules that decided its session request. It has the form of the call, the
--- first word of the request, and the script and the service of the session request, if the line has these.
+-- the evidence of an answered line: the rules that decided its session request, and the request's script and service, if the line
+-- makes a request
 pub record Evidence : Type 0 where
-  pub form : Option CoverageCall
-  pub word : Option (List ℕ)
-  pub reply : List ℕ
   pub asked : Option ScriptService
   pub rules : List RulePlace
 
 abbrev pub evidence_in : CallEvidence → Evidence
-evidence_in it = record {
-  form = it.form;
-  word = option_copied it.word;
-  reply = it.answer.text.now;
-  asked = it.asked;
-  rules = it.rules.now;
-}
+evidence_in it = record { asked = it.asked; rules = it.rules.now }
 
 -- the evidence of a line, by its call, if it has one, and by its reply
 abbrev pub evidence_of : Listed → Option Spoken → List ℕ → Evidence
-evidence_of list None reply = record { form = None; word = None; reply = reply; asked = None; rules = [] }
+evidence_of list None reply = record { asked = None; rules = [] }
 evidence_of list (Some said) reply = record {
-  form = form_of said.call;
-  word = request_word said.call;
-  reply = reply;
   asked = asked_in list (request_of list said reply);
   rules = rules_of_request list (request_of list said reply);
 }
@@ -92,8 +74,6 @@ evidence list answer = evidence_of list (parsed_call answer.line) answer.reply
 
 -- the evidence shows an event
 abbrev pub shown_with : Evidence → CoverageEvent → Bool
-shown_with it (Refused form refusal) = is_form_of form it.form && bytes_eq it.reply (refusal_name refusal)
-shown_with it (Failed asked error) = is_asked asked it.word && is_error error it.reply
 shown_with it (Decided rule) = has_rule it.rules rule
 shown_with it (Requested asked) = is_request asked it.asked
 
@@ -114,12 +94,6 @@ rows_after list (answer ∷ answers) rows = rows_after list answers (map (row_wi
 abbrev pub unmet : CoverageEvent → CoverageRow
 unmet event = record { event = event; met = false }
 
-abbrev pub refusal_rows : CoverageCall → List CoverageRow
-refusal_rows form = map (λ refusal. unmet (Refused form refusal)) (refusals_of form)
-
-abbrev pub error_rows : CoverageRequest → List CoverageRow
-error_rows asked = map (λ error. unmet (Failed asked error)) (errors_of asked)
-
 -- the rows of so many rules of a route
 abbrev pub route_rows : RouteOwner → ℕ → List CoverageRow
 route_rows route zero = []
@@ -135,20 +109,6 @@ rows_of_entry number entry = own_rows number entry.route ++ route_rows (Inner nu
 abbrev pub rows_of_entries : ℕ → List ListedEntry → List CoverageRow
 rows_of_entries number [] = []
 rows_of_entries number (entry ∷ entries) = rows_of_entry number entry ++ rows_of_entries (number + 1) entries
-
-abbrev pub calls_rows : List CoverageRow
-calls_rows = flat_map refusal_rows forms
-
-abbrev pub requests_rows : List CoverageRow
-requests_rows = flat_map error_rows requests
-
--- a list declares a service: it has more than those that the machine has built in
-abbrev pub declares : List ListedEntry → Bool
-declares entries = nat_lt (length services) (length (services_of entries))
-
--- the rows of the requests that sessions of declared servers alone have
-abbrev pub object_rows : List ListedEntry → List CoverageRow
-object_rows entries = if declares entries then flat_map error_rows object_requests else []
 
 -- an entry of the list provides a service
 abbrev pub is_provided : List ListedEntry → List ℕ → Bool
@@ -173,11 +133,10 @@ abbrev pub scripts_rows : List ListedEntry → ℕ → List ListedEntry → List
 scripts_rows all number [] = []
 scripts_rows all number (entry ∷ entries) = script_rows all number entry ++ scripts_rows all (number + 1) entries
 
--- the rows of a machine, none of them met: of both tables, of each rule, and of each script and service
+-- the rows of a machine, none of them met: of each rule, and of each script and service
 abbrev pub rows_of : Listed → List CoverageRow
 rows_of list =
-    calls_rows ++ requests_rows ++ object_rows list.entries ++ route_rows Machine (length list.default_route) ++ rows_of_entries 0 list.entries
-    ++ scripts_rows list.entries 0 list.entries
+    route_rows Machine (length list.default_route) ++ rows_of_entries 0 list.entries ++ scripts_rows list.entries 0 list.entries
 
 -- ---- all answers
 

@@ -1,5 +1,3 @@
-pub mod Forms
-pub mod Requests
 pub mod Lines
 pub mod Names
 pub mod Rules
@@ -7,4 +5,3 @@ pub mod Views
 pub mod Covered
 pub mod Documents
 pub mod Reported
-pub mod TableTheorems

@@ -1,15 +1,8 @@
 -- The coverage of all scenarios as lines of comments.
-use Rattle.std.specs.Prelude.{ℕ, zero, suc, ◌+◌, ◌==◌, ◌&&◌, Bool, true, false, List, [], ◌∷◌, ◌++◌, codes, count_by, decimal, if◌then◌else◌, length, nat_lt, string_bytes}
-use Rattle.std.specs.List.{enumerate_from, flat_map}
-use Rattle.trade_base.specs.Refusal.{refusal_name}
-use Rattle.own_model.specs.ObjectText.{object_error_name}
-use Rattle.core_calls.specs.ObjectError.{model_object_error}
-use Rattle.view_coverage.specs.Documents.{most_rows, path_at, table_rows, times, times_of}
-use Rattle.view_coverage.specs.Forms.{form_word}
+use Rattle.std.specs.Prelude.{ℕ, zero, suc, ◌==◌, ◌&&◌, Bool, true, false, List, [], ◌∷◌, ◌++◌, codes, count_by, decimal, if◌then◌else◌, length, string_bytes}
+use Rattle.std.specs.List.{flat_map}
+use Rattle.view_coverage.specs.Documents.{path_at, times_of}
 use Rattle.view_coverage.specs.Reported.{is_covered, meets_part}
-use Rattle.view_coverage.specs.Requests.{asked_word}
-use Rattle.view_coverage.specs.declared.event.CoverageEvent.{CoverageEvent}
-use Rattle.view_coverage.specs.declared.event.CoverageEvent.TheVariants.{Refused, Failed, Decided, Requested}
 use Rattle.view_coverage.specs.declared.report.CoverageReport.{CoverageReport}
 use Rattle.view_coverage.specs.declared.report.CoveragePart.{CoveragePart}
 use Rattle.view_coverage.specs.declared.report.CoverageSheet.{CoverageSheet}
@@ -17,14 +10,6 @@ use Rattle.view_coverage.specs.declared.report.PartKind.{PartKind}
 use Rattle.view_coverage.specs.declared.report.PartKind.TheVariants as kind
 use Rattle.view_coverage.specs.declared.report.PartName.{PartName}
 use Rattle.view_coverage.specs.declared.report.PartName.TheVariants.{Rule, Request}
-use Rattle.view_coverage.specs.declared.row.CoverageRow.{CoverageRow}
-
--- a refusal after the form of its calls, or an error after the form of its requests; a rule and a service have their numbers
-abbrev pub event_text : CoverageEvent → List ℕ
-event_text (Refused form refusal) = form_word form ++ codes " " ++ refusal_name refusal
-event_text (Failed asked error) = asked_word asked ++ codes " ERR " ++ object_error_name (model_object_error error)
-event_text (Decided rule) = codes "rule " ++ decimal rule.place
-event_text (Requested asked) = codes "service " ++ decimal asked.service
 
 -- a rule by its name, or a script and a service
 abbrev pub name_text : PartName → List ℕ
@@ -91,28 +76,6 @@ abbrev pub lists_lines : CoverageReport → ℕ → List ℕ
 lists_lines report zero = []
 lists_lines report (suc count) = lists_lines report count ++ list_lines report count
 
--- ---- both tables
-
--- how many of so many rows some scenario meets
-abbrev pub met_among : CoverageReport → ℕ → ℕ
-met_among report zero = 0
-met_among report (suc count) = met_among report count + (if nat_lt 0 (times report count) then 1 else 0)
-
--- a row by its place, with the number of scenarios that meet it
-abbrev pub row_line : CoverageReport → ℕ × CoverageRow → List ℕ
-row_line report row =
-    codes "# coverage: " ++ event_text row.1.event ++ codes ": " ++ times_text (times report row.0) ++ codes "\n"
-
--- how many rows are met, and each row
-abbrev pub rows_lines : CoverageReport → List CoverageRow → List ℕ
-rows_lines report rows =
-    (codes "# coverage: " ++ decimal (met_among report (length rows)) ++ codes " of " ++ decimal (length rows)
-    ++ codes " refusals and errors are met\n")
-    ++ flat_map (row_line report) (enumerate_from 0 rows)
-
-abbrev pub tables_lines : CoverageReport → List ℕ
-tables_lines report = if report.calls then rows_lines report (most_rows [] report.sheets.items) else []
-
 -- ---- what a scenario meets
 
 -- what is before a name
@@ -128,23 +91,15 @@ abbrev pub is_first_after : Bool → List (List ℕ) → Bool
 is_first_after is_first [] = is_first
 is_first_after is_first (name ∷ names) = false
 
-abbrev pub row_name : Bool → CoverageRow → List (List ℕ)
-row_name calls row = if calls && row.met then event_text row.event ∷ [] else []
-
 abbrev pub part_name : CoverageSheet → CoveragePart → List (List ℕ)
 part_name sheet part = if meets_part sheet part then name_text part.name ∷ [] else []
 
--- rows of the tables if they are reported, and parts of its start list
-abbrev pub met_names : CoverageReport → CoverageSheet → List (List ℕ)
-met_names report sheet =
-    flat_map (row_name report.calls) (table_rows sheet.rows.items) ++ flat_map (part_name sheet) report.parts.items
-
 abbrev pub sheet_line : CoverageReport → CoverageSheet → List ℕ
 sheet_line report sheet =
-    (codes "# coverage: " ++ string_bytes sheet.path ++ codes ":") ++ joined true (met_names report sheet) ++ codes "\n"
+    (codes "# coverage: " ++ string_bytes sheet.path ++ codes ":") ++ joined true (flat_map (part_name sheet) report.parts.items) ++ codes "\n"
 
 -- ---- all
 
 abbrev pub report_text : CoverageReport → List ℕ
 report_text report =
-    lists_lines report (length report.lists.items) ++ tables_lines report ++ flat_map (sheet_line report) report.sheets.items
+    lists_lines report (length report.lists.items) ++ flat_map (sheet_line report) report.sheets.items

@@ -4,7 +4,7 @@ use Rattle.std.specs.List.{slice_get}
 use Rattle.std.specs.Option.{option_and_then, option_map, unwrap_or}
 use Rattle.own_model.specs.Listed.{Listed, ListedEntry, services_of}
 use Rattle.view_coverage.specs.declared.event.CoverageEvent.{CoverageEvent}
-use Rattle.view_coverage.specs.declared.event.CoverageEvent.TheVariants.{Refused, Failed, Decided, Requested}
+use Rattle.view_coverage.specs.declared.event.CoverageEvent.TheVariants.{Decided, Requested}
 use Rattle.view_coverage.specs.declared.event.RouteOwner.{RouteOwner}
 use Rattle.view_coverage.specs.declared.event.RouteOwner.TheVariants.{Own, Inner, Machine}
 use Rattle.view_coverage.specs.declared.event.RulePlace.{RulePlace}
@@ -47,12 +47,10 @@ requested_service list number = unwrap_or (slice_get (services_of list.entries) 
 
 -- ---- parts
 
--- the name of a rule; the script and the service of a session request; a refusal and an error are of no start list
-abbrev pub names_by : Listed → CoverageEvent → Option (List (List ℕ))
-names_by list (Refused form refusal) = None
-names_by list (Failed asked error) = None
-names_by list (Decided rule) = Some (rule_name list rule ∷ [])
-names_by list (Requested asked) = Some (script_path list asked.client ∷ requested_service list asked.service ∷ [])
+-- the name of a rule; the script and the service of a session request
+abbrev pub names_by : Listed → CoverageEvent → List (List ℕ)
+names_by list (Decided rule) = rule_name list rule ∷ []
+names_by list (Requested asked) = script_path list asked.client ∷ requested_service list asked.service ∷ []
 
 -- the same of a part
 abbrev pub names_in : PartName → List (List ℕ)

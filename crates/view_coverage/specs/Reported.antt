@@ -1,13 +1,11 @@
 -- The coverage of all scenarios.
-use Rattle.std.specs.Prelude.{ℕ, ◌==◌, ◌&&◌, ◌*◌, ◌+◌, Bool, true, false, List, [], ◌∷◌, ◌++◌, if◌then◌else◌, length, map, nat_lt, not, position, String, string_bytes, Option, Some, None}
+use Rattle.std.specs.Prelude.{ℕ, ◌==◌, ◌&&◌, ◌*◌, ◌+◌, Bool, false, List, [], ◌∷◌, ◌++◌, length, map, nat_lt, position, String, string_bytes, Option, Some, None}
 use Rattle.std.specs.Global.{Global}
 use Rattle.std.specs.List.{list_any, slice_get}
 use Rattle.std.specs.Option.{option_and_then, option_map, unwrap_or}
 use Rattle.std.specs.Str.{bytes_eq}
 use Rattle.own_model.specs.Listed.{Listed}
 use Rattle.view_coverage.specs.Names.{names_by, names_in}
-use Rattle.view_coverage.specs.declared.event.CoverageEvent.{CoverageEvent}
-use Rattle.view_coverage.specs.declared.event.CoverageEvent.TheVariants.{Refused, Failed, Decided, Requested}
 use Rattle.view_coverage.specs.declared.report.CoverageReport.{CoverageReport}
 use Rattle.view_coverage.specs.declared.report.CoveragePart.{CoveragePart}
 use Rattle.view_coverage.specs.declared.report.CoverageSheet.{CoverageSheet}
@@ -32,21 +30,6 @@ list_of_scenario report number =
 
 -- ---- rules and session requests
 
--- a row is of a start list: of a rule, or of a script and a service
-abbrev pub is_event_of_list : CoverageEvent → Bool
-is_event_of_list (Refused form refusal) = false
-is_event_of_list (Failed asked error) = false
-is_event_of_list (Decided rule) = true
-is_event_of_list (Requested asked) = true
-
-abbrev pub is_of_list : CoverageRow → Bool
-is_of_list row = is_event_of_list row.event
-
--- the row at a place is of a table, and is met in a scenario
-abbrev pub is_met_on_table : CoverageSheet → ℕ → Bool
-is_met_on_table sheet place =
-    unwrap_or (option_map (λ (row : CoverageRow). row.met && not (is_of_list row)) (slice_get sheet.rows.items place)) false
-
 -- a part of a start list: the place of the start list, that of the row, and its names
 abbrev pub Part : Type 0
 Part = ℕ × ℕ × List (List ℕ)
@@ -54,16 +37,11 @@ Part = ℕ × ℕ × List (List ℕ)
 abbrev pub part_of : CoveragePart → Part
 part_of part = (part.list, part.place, names_in part.name)
 
--- the part of a row with these names, if it has names
-abbrev pub part_named : ℕ → ℕ → Option (List (List ℕ)) → List Part
-part_named list place None = []
-part_named list place (Some names) = (list, place, names) ∷ []
-
--- the parts of the start list at a place: its rows of rules and of scripts and services, where the first row is at this place
+-- the parts of the start list at a place, one for each row, where the first row is at this place
 abbrev pub parts_from : Listed → ℕ → ℕ → List CoverageRow → List Part
 parts_from start list place [] = []
 parts_from start list place (row ∷ rows) =
-    part_named list place (names_by start row.event) ++ parts_from start list (place + 1) rows
+    (list, place, names_by start row.event) ∷ parts_from start list (place + 1) rows
 
 -- a scenario of its start list meets the row of a part
 abbrev pub is_covered : List CoverageSheet → CoveragePart → Bool

@@ -2,6 +2,8 @@
 ghost use Rattle.std.specs.Prelude.{◌≡◌, ◌∷◌, ◌++◌, ◌<◌, ◌≤◌, [], length, IfOk, IfSome, IfNone, OnOk, Some, None};
 ghost use Rattle.std.specs.List.{slice_get};
 ghost use Rattle.std.specs.Option.{option_and_then, option_map};
+ghost use Rattle.std.specs.Str.{bytes_eq};
+ghost use Rattle.trade_base.specs.Refusal.{refusal_name};
 ghost use Rattle.core_calls.specs.Call.{model_call};
 ghost use Rattle.own_model.specs.Listed.{services_of};
 ghost use Rattle.own_model.specs.Session.{given};
@@ -9,8 +11,8 @@ ghost use Rattle.view_coverage.specs.Covered.{asked_in, service_number};
 ghost use Rattle.view_coverage.specs.Rules.{default_of, init_of, init_place, is_turned_away, request_by, request_of, route_by, route_for, rule_in, rules_from, rules_of_request};
 ghost use Rattle.view_coverage.specs.Views.{request_view};
 
-use crate::event::{RouteOwner, RulePlace, ScriptService, is_refused};
-use core_calls::{Answer, Call};
+use crate::event::{RouteOwner, RulePlace, ScriptService};
+use core_calls::{Answer, Call, Outcome};
 use list_labels::RouteStep;
 use list_parser::{ListEntry, StartList};
 use list_reach::{RoutePath, service_name};
@@ -60,6 +62,13 @@ fn is_turned_away(answer: Answer<'_>) -> bool
     TURNED_AWAY
         .iter()
         .any(|refusal| is_refused(answer, *refusal))
+}
+
+// Returns whether a reply is a call's refusal of this kind.
+fn is_refused(answer: Answer<'_>, refusal: Refusal) -> bool
+    ensures { result ≡ bytes_eq answer.entry.text.now (refusal_name refusal) }
+{
+    matches!(answer.outcome, Outcome::Refused(other) if other == refusal)
 }
 
 // Returns the session request of a component's call, if it makes one.

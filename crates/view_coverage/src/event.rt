@@ -1,23 +1,8 @@
 //! The events that replies can show.
-ghost use Rattle.std.specs.Prelude.{◌≡◌};
-ghost use Rattle.std.specs.Str.{bytes_eq};
-ghost use Rattle.trade_base.specs.Refusal.{refusal_name};
-ghost use Rattle.core_calls.specs.declared.object_error.ObjectError.TheVariants.{BadKind, Shared};
-ghost use Rattle.view_coverage.specs.Requests.{is_error};
-ghost use Rattle.view_coverage.specs.Rules.{is_rule, is_same};
-
-use crate::call_forms::CoverageCall;
-use crate::request_forms::CoverageRequest;
-use core_calls::{Answer, FileError, ObjectError, Outcome, ServiceOutcome};
-use trade_base::Refusal;
 
 /// An event that a reply can show.
 #[derive(Clone, Copy)]
 pub enum CoverageEvent {
-    /// A call of a form is refused with this refusal.
-    Refused(CoverageCall, Refusal),
-    /// A request of a form is answered with this error.
-    Failed(CoverageRequest, ObjectError),
     /// A rule decides a session request.
     Decided(RulePlace),
     /// A script requests a session of a service.
@@ -94,35 +79,4 @@ impl RulePlace {
     {
         self.place == other.place && self.route.is_same(other.route)
     }
-}
-
-/// Returns whether a reply is a call's refusal of this kind.
-pub(crate) fn is_refused(answer: Answer<'_>, refusal: Refusal) -> bool
-    ensures { result ≡ bytes_eq answer.entry.text.now (refusal_name refusal) }
-{
-    matches!(answer.outcome, Outcome::Refused(other) if other == refusal)
-}
-
-/// Returns whether a reply is a service's error of this kind.
-pub(crate) fn is_error(answer: Answer<'_>, error: ObjectError) -> bool
-    ensures { result ≡ is_error error answer.entry.text.now }
-{
-    match error {
-        ObjectError::BadKind => is_bad_kind(answer),
-        ObjectError::Shared(error) => is_shared_error(answer, error),
-    }
-}
-
-// Returns whether a reply is the error that a server offers no kind of a name.
-fn is_bad_kind(answer: Answer<'_>) -> bool
-    ensures { result ≡ is_error BadKind answer.entry.text.now }
-{
-    matches!(answer.outcome, Outcome::Served(ServiceOutcome::BadKind))
-}
-
-// Returns whether a reply is this error, which the file service has too.
-fn is_shared_error(answer: Answer<'_>, error: FileError) -> bool
-    ensures { result ≡ is_error (Shared error) answer.entry.text.now }
-{
-    matches!(answer.outcome, Outcome::Served(ServiceOutcome::Refused(other)) if other == error)
 }

@@ -1,39 +1,12 @@
 //! The coverage of all scenarios, as lines for people.
 ghost use Rattle.std.specs.Prelude.{◌≡◌, ◌&&◌, count_by, length, true, OnOk, Some};
 ghost use Rattle.std.specs.Fmt.{WritesOnOk};
-ghost use Rattle.std.specs.List.{enumerate_from, flat_map};
-ghost use Rattle.view_coverage.specs.Lines.{count_line, count_of, covered_of, event_text, is_first_after, is_of, joined, kind_lines, line_if, list_lines, lists_lines, met_among, met_names, name_text, part_line, part_name, report_text, row_line, row_name, rows_lines, separator, sheet_line, tables_lines, times_text, verdict};
+ghost use Rattle.std.specs.List.{flat_map};
+ghost use Rattle.view_coverage.specs.Lines.{count_line, count_of, covered_of, is_first_after, is_of, joined, kind_lines, line_if, list_lines, lists_lines, name_text, part_line, part_name, report_text, separator, sheet_line, times_text, verdict};
 ghost use Rattle.view_coverage.specs.Reported.{is_covered};
 
-use crate::event::CoverageEvent;
-use crate::report::{CoveragePart, CoverageReport, CoverageSheet, PartKind, PartName, tables_of};
-use crate::row::CoverageRow;
+use crate::report::{CoveragePart, CoverageReport, CoverageSheet, PartKind, PartName};
 use std::fmt;
-
-/// Writes a refusal after the form of its calls, or an error after the form of its requests. A rule and a service have their
-/// numbers.
-impl fmt::Display for CoverageRow {
-    ghost output = { λ row. Some (event_text row.event) };
-
-    fn fmt<W: fmt::Write>(&self, f: &mut fmt::Formatter<W>) -> fmt::Result {
-        match self.event {
-            CoverageEvent::Refused(form, refusal) => write!(
-                f,
-                "{} {}",
-                form.word(),
-                refusal.name()
-            ),
-            CoverageEvent::Failed(asked, error) => write!(
-                f,
-                "{} ERR {}",
-                asked.word(),
-                error.name()
-            ),
-            CoverageEvent::Decided(rule) => write!(f, "rule {}", rule.place),
-            CoverageEvent::Requested(asked) => write!(f, "service {}", asked.service),
-        }
-    }
-}
 
 /// Writes the name of a rule, or a script's path and a service.
 impl fmt::Display for PartName {
@@ -66,14 +39,13 @@ impl fmt::Display for ScenarioCount {
     }
 }
 
-/// Writes lines of comments: the rules and the session requests of each start list, then both tables if they are reported, and
-/// then each scenario with what it meets of these.
+/// Writes lines of comments: the rules and the session requests of each start list, and then each scenario with what it meets of
+/// these.
 impl fmt::Display for CoverageReport {
     ghost output = { λ report. Some (report_text report) };
 
     fn fmt<W: fmt::Write>(&self, f: &mut fmt::Formatter<W>) -> fmt::Result {
         show_lists(f, self, self.lists.len())?;
-        show_tables(f, self)?;
         show_sheets(f, self, self.sheets.as_slice())
     }
 }
@@ -215,72 +187,6 @@ fn show_part<W: fmt::Write>(
     writeln!(f, "# coverage: {path}: {}: {times}", part.name)
 }
 
-// Writes the rows of both tables, if they are reported.
-fn show_tables<W: fmt::Write>(f: &mut fmt::Formatter<W>, report: &CoverageReport) -> fmt::Result
-    ensures { WritesOnOk W.write_str_gives f.old result (tables_lines report.now) f.new }
-{
-    if report.calls {
-        return show_rows(f, report, report.tables());
-    }
-    Ok(())
-}
-
-// Writes how many of these rows are met, and each row.
-fn show_rows<W: fmt::Write>(
-    f: &mut fmt::Formatter<W>,
-    report: &CoverageReport,
-    rows: &[CoverageRow],
-) -> fmt::Result
-    ensures { WritesOnOk W.write_str_gives f.old result (rows_lines report.now rows.now) f.new }
-{
-    let all = rows.len();
-    let met = met_among(report, all);
-    writeln!(f, "# coverage: {met} of {all} refusals and errors are met")?;
-    show_each_row(f, report, rows)
-}
-
-// Returns how many of so many rows of the tables some scenario meets.
-#[tactic(auto, using(crate::proofs::LineLemmas::met_within))]
-fn met_among(report: &CoverageReport, count: usize) -> usize
-    ensures { result ≡ met_among report.now count }
-{
-    let mut met = 0usize;
-    for place in 0..count {
-        if report.times(place) > 0 {
-            met += 1;
-        }
-    }
-    met
-}
-
-// Writes these rows of the tables.
-fn show_each_row<W: fmt::Write>(
-    f: &mut fmt::Formatter<W>,
-    report: &CoverageReport,
-    rows: &[CoverageRow],
-) -> fmt::Result
-    ensures { WritesOnOk W.write_str_gives f.old result
-        (flat_map (row_line report.now) (enumerate_from 0 rows.now)) f.new }
-{
-    for place in 0..rows.len() {
-        show_row(f, report, place, &rows[place])?;
-    }
-    Ok(())
-}
-
-// Writes the row at a place of the tables, with the number of scenarios that meet it.
-fn show_row<W: fmt::Write>(
-    f: &mut fmt::Formatter<W>,
-    report: &CoverageReport,
-    place: usize,
-    row: &CoverageRow,
-) -> fmt::Result
-    ensures { WritesOnOk W.write_str_gives f.old result (row_line report.now (place, row.now)) f.new }
-{
-    let times = ScenarioCount(report.times(place));
-    writeln!(f, "# coverage: {row}: {times}")
-}
-
 // Writes what scenarios meet.
 fn show_sheets<W: fmt::Write>(
     f: &mut fmt::Formatter<W>,
@@ -296,7 +202,7 @@ fn show_sheets<W: fmt::Write>(
     Ok(())
 }
 
-// Writes what a scenario meets: rows of the tables if they are reported, and parts of its start list.
+// Writes what a scenario meets.
 fn show_sheet<W: fmt::Write>(
     f: &mut fmt::Formatter<W>,
     report: &CoverageReport,
@@ -305,80 +211,22 @@ fn show_sheet<W: fmt::Write>(
     ensures { WritesOnOk W.write_str_gives f.old result (sheet_line report.now sheet.now) f.new }
 {
     write!(f, "# coverage: {}:", sheet.path.as_str())?;
-    name_all(f, report, sheet)?;
+    name_parts(f, sheet, report.parts.as_slice())?;
     f.write_str("\n")
-}
-
-// Writes the names of rows of the tables that a scenario meets, if rows are reported, and then of parts of its start list.
-fn name_all<W: fmt::Write>(
-    f: &mut fmt::Formatter<W>,
-    report: &CoverageReport,
-    sheet: &CoverageSheet,
-) -> fmt::Result
-    ensures { WritesOnOk W.write_str_gives f.old result
-        (joined true (met_names report.now sheet.now)) f.new }
-{
-    let mut is_first = true;
-    name_rows(
-        f,
-        &mut is_first,
-        report.calls,
-        tables_of(sheet.rows.as_slice()),
-    )?;
-    name_parts(f, &mut is_first, sheet, report.parts.as_slice())
-}
-
-// Writes those of these rows that are met, if they are reported.
-fn name_rows<W: fmt::Write>(
-    f: &mut fmt::Formatter<W>,
-    is_first: &mut bool,
-    calls: bool,
-    rows: &[CoverageRow],
-) -> fmt::Result
-    ensures text { WritesOnOk W.write_str_gives f.old result
-        (joined is_first.old (flat_map (row_name calls) rows.now)) f.new }
-    ensures first { OnOk result (is_first.new
-        ≡ is_first_after is_first.old (flat_map (row_name calls) rows.now)) }
-{
-    for row in rows {
-        name_row(f, is_first, calls, row)?;
-    }
-    Ok(())
-}
-
-// Writes a row, if it is met and rows are reported.
-fn name_row<W: fmt::Write>(
-    f: &mut fmt::Formatter<W>,
-    is_first: &mut bool,
-    calls: bool,
-    row: &CoverageRow,
-) -> fmt::Result
-    ensures text { WritesOnOk W.write_str_gives f.old result
-        (joined is_first.old (row_name calls row.now)) f.new }
-    ensures first { OnOk result (is_first.new ≡ is_first_after is_first.old (row_name calls row.now)) }
-{
-    if !(calls && row.met) {
-        return Ok(());
-    }
-    let before = separator(*is_first);
-    *is_first = false;
-    write!(f, "{before}{row}")
 }
 
 // Writes those of these parts that a scenario meets.
 fn name_parts<W: fmt::Write>(
     f: &mut fmt::Formatter<W>,
-    is_first: &mut bool,
     sheet: &CoverageSheet,
     parts: &[CoveragePart],
 ) -> fmt::Result
-    ensures text { WritesOnOk W.write_str_gives f.old result
-        (joined is_first.old (flat_map (part_name sheet.now) parts.now)) f.new }
-    ensures first { OnOk result (is_first.new
-        ≡ is_first_after is_first.old (flat_map (part_name sheet.now) parts.now)) }
+    ensures { WritesOnOk W.write_str_gives f.old result
+        (joined true (flat_map (part_name sheet.now) parts.now)) f.new }
 {
+    let mut is_first = true;
     for part in parts {
-        name_part(f, is_first, sheet, part)?;
+        name_part(f, &mut is_first, sheet, part)?;
     }
     Ok(())
 }

@@ -1,11 +1,10 @@
-//! The coverage of all scenarios: which rules decide a session request, which script requests which service, and which refusals
-//! and errors are met, in total and by file.
-ghost use Rattle.std.specs.Prelude.{◌≡◌, ◌≤◌, ◌&&◌, ◌==◌, ◌++◌, ◌∷◌, [], count_by, if◌then◌else◌, is_some, length, map, string_bytes, IfOk, IfSome, OnOk, Some};
-ghost use Rattle.std.specs.List.{position};
-ghost use Rattle.view_coverage.specs.Documents.{most_rows, path_at, table_rows, times, times_of};
-ghost use Rattle.std.specs.Option.{option_and_then, option_map};
+//! The coverage of all scenarios: which rules decide a session request, and which script requests which service, in total and by
+//! file.
+ghost use Rattle.std.specs.Prelude.{◌≡◌, ◌++◌, ◌∷◌, [], count_by, length, map, string_bytes, IfOk, OnOk, Some};
+ghost use Rattle.view_coverage.specs.Documents.{path_at, times_of};
+ghost use Rattle.std.specs.Option.{option_and_then};
 ghost use Rattle.view_coverage.specs.Names.{names_by, names_in, owner_number, path_of, requested_service, rule_name, rule_text, script_path};
-ghost use Rattle.view_coverage.specs.Reported.{if_new, is_covered, is_met_on_table, is_of_list, list_at, list_of_scenario, meets_part, part_named, part_of, parts_from, parts_in, parts_with, paths_in, paths_with, place_of, rows_in};
+ghost use Rattle.view_coverage.specs.Reported.{is_covered, list_at, list_of_scenario, meets_part, part_of, parts_from, parts_in, parts_with, paths_in, paths_with, place_of, rows_in};
 
 use crate::event::{CoverageEvent, RouteOwner, RulePlace, ScriptService};
 use crate::row::CoverageRow;
@@ -18,8 +17,6 @@ use std::alloc::{AllocError, Global};
 #[derive(Drop)]
 pub struct CoverageReport {
     alloc: Global,
-    /// Whether the text and the document have the refusals and errors too.
-    pub(crate) calls: bool,
     /// The paths of the start lists.
     pub(crate) lists: Vec<String>,
     /// The parts of each start list, in the order of the start lists.
@@ -119,16 +116,14 @@ pub(crate) struct CoverageSheet {
 }
 
 impl CoverageReport {
-    /// Returns a report without scenarios, to which scenarios are added. It has the refusals and errors if `calls` is set.
-    pub fn new(alloc: Global, calls: bool) -> CoverageReport
-        ensures calls { result.calls ≡ calls }
+    /// Returns a report without scenarios, to which scenarios are added.
+    pub fn new(alloc: Global) -> CoverageReport
         ensures paths { paths_in result ≡ [] }
         ensures parts { parts_in result ≡ [] }
         ensures rows { rows_in result ≡ [] }
     {
         CoverageReport {
             alloc,
-            calls,
             lists: Vec::new(alloc),
             parts: Vec::new(alloc),
             sheets: Vec::new(alloc),
@@ -195,21 +190,6 @@ impl CoverageReport {
         Ok(place)
     }
 
-    /// Returns the rows of both tables. Their events are the same for each scenario, except that only the machines with declared
-    /// servers have the last ones, which are of requests to these: so the most rows of a scenario are returned.
-    pub(crate) fn tables(&self) -> &[CoverageRow]
-        ensures { result.now ≡ most_rows [] self.now.sheets.items }
-    {
-        tables_in(self.sheets.as_slice())
-    }
-
-    /// Returns how many scenarios meet the row at a place of the tables.
-    pub(crate) fn times(&self, place: usize) -> usize
-        ensures { result ≡ times self.now place }
-    {
-        times_in(self.sheets.as_slice(), place)
-    }
-
     /// Returns how many scenarios of its start list meet a part.
     pub(crate) fn times_of(&self, part: &CoveragePart) -> usize
         ensures { result ≡ times_of self.now part.now }
@@ -230,7 +210,7 @@ impl CoverageReport {
 
 impl CoverageSheet {
     ghost use Rattle.std.specs.Prelude.{◌≡◌};
-    ghost use Rattle.view_coverage.specs.Reported.{is_met_in, is_met_on_table, meets_part};
+    ghost use Rattle.view_coverage.specs.Reported.{is_met_in, meets_part};
 
     /// Returns whether the scenario meets the row at a place.
     pub(crate) fn meets(&self, place: usize) -> bool
@@ -248,16 +228,6 @@ impl CoverageSheet {
     {
         self.list == part.list && self.meets(part.place)
     }
-
-    /// Returns whether the row at a place is of a table, and the scenario meets the row.
-    pub(crate) fn meets_on_table(&self, place: usize) -> bool
-        ensures { result ≡ is_met_on_table self.now place }
-    {
-        match self.rows.get(place) {
-            Some(row) => row.met && !row.is_of_list(),
-            None => false,
-        }
-    }
 }
 
 // Returns the place of the start list of a path, if it is there.
@@ -274,16 +244,6 @@ fn covered_in(sheets: &[CoverageSheet], parts: &[CoveragePart]) -> usize
     parts.iter().filter(|part| part.is_covered(sheets)).count()
 }
 
-// The number of these scenarios that meet the row at a place of the tables.
-fn times_in(sheets: &[CoverageSheet], place: usize) -> usize
-    ensures { result ≡ count_by (λ sheet. is_met_on_table sheet place) sheets.now }
-{
-    sheets
-        .iter()
-        .filter(|sheet| sheet.meets_on_table(place))
-        .count()
-}
-
 // Returns how many of these scenarios meet a part.
 fn meeting(sheets: &[CoverageSheet], part: &CoveragePart) -> usize
     ensures { result ≡ count_by (λ sheet. meets_part sheet part.now) sheets.now }
@@ -291,40 +251,7 @@ fn meeting(sheets: &[CoverageSheet], part: &CoveragePart) -> usize
     sheets.iter().filter(|sheet| sheet.meets_part(part)).count()
 }
 
-// Returns the rows of both tables of the scenario that has most of them.
-fn tables_in(sheets: &[CoverageSheet]) -> &[CoverageRow]
-    ensures { result.now ≡ most_rows [] sheets.now }
-{
-    let mut most: &[CoverageRow] = &[];
-    for sheet in sheets {
-        let rows = tables_of(sheet.rows.as_slice());
-        if rows.len() > most.len() {
-            most = rows;
-        }
-    }
-    most
-}
-
-/// Returns the rows before the first row of a start list: those of both tables.
-#[tactic(auto, using(crate::proofs::PlaceLemmas::all_rows, crate::proofs::PlaceLemmas::first_rows))]
-pub(crate) fn tables_of(rows: &[CoverageRow]) -> &[CoverageRow]
-    ensures { result.now ≡ table_rows rows.now }
-{
-    match first_of_list(rows) {
-        Some(end) => &rows[..end],
-        None => rows,
-    }
-}
-
-// Returns the place of the first row of a start list.
-fn first_of_list(rows: &[CoverageRow]) -> Option<usize>
-    ensures place { result ≡ position is_of_list rows.now }
-    ensures within { IfSome result (λ end. end ≤ length rows.now) }
-{
-    rows.iter().position(|row| row.is_of_list())
-}
-
-// Adds the parts of the start list at a place: one for each row of a rule or of a script and a service.
+// Adds the parts of the start list at a place, one for each row.
 fn add_parts(
     alloc: Global,
     list: &StartList,
@@ -336,52 +263,29 @@ fn add_parts(
         ≡ map part_of parts.old.items ++ parts_from list.now number 0 rows.now) }
 {
     for place in 0..rows.len() {
-        add_part(alloc, list, number, place, &rows[place], parts)?;
+        let name = part_name(alloc, list, rows[place].event)?;
+        parts.push(CoveragePart {
+            list: number,
+            place,
+            name,
+        })?;
     }
     Ok(())
 }
 
-// Adds the part of the row at a place, if the row is of a start list.
-fn add_part(
-    alloc: Global,
-    list: &StartList,
-    number: usize,
-    place: usize,
-    row: &CoverageRow,
-    parts: &mut Vec<CoveragePart>,
-) -> Result<(), AllocError>
-    ensures { OnOk result (map part_of parts.new.items ≡ map part_of parts.old.items
-        ++ part_named number place (names_by list.now row.now.event)) }
-{
-    let Some(name) = part_name(alloc, list, row.event)? else {
-        return Ok(());
-    };
-    parts.push(CoveragePart {
-        list: number,
-        place,
-        name,
-    })?;
-    Ok(())
-}
-
-// Returns the name of the part of an event, if the event is of a start list.
-fn part_name(
-    alloc: Global,
-    list: &StartList,
-    event: CoverageEvent,
-) -> Result<Option<PartName>, AllocError>
-    ensures { IfOk result (λ name. option_map names_in name ≡ names_by list.now event) }
+// Returns the name of the part of an event.
+fn part_name(alloc: Global, list: &StartList, event: CoverageEvent) -> Result<PartName, AllocError>
+    ensures { IfOk result (λ name. names_in name ≡ names_by list.now event) }
 {
     match event {
-        CoverageEvent::Refused(_, _) | CoverageEvent::Failed(_, _) => Ok(None),
         CoverageEvent::Decided(rule) => {
             let name = rule_name(alloc, list, rule)?;
-            Ok(Some(PartName::Rule(name)))
+            Ok(PartName::Rule(name))
         }
         CoverageEvent::Requested(asked) => {
             let path = script_path(alloc, list, asked)?;
             let service = asked_service(alloc, list, asked)?;
-            Ok(Some(PartName::Request(path, service)))
+            Ok(PartName::Request(path, service))
         }
     }
 }

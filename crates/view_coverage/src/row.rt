@@ -3,9 +3,7 @@ ghost use Rattle.std.specs.Prelude.{◌≡◌, map};
 ghost use Rattle.std.specs.List.{list_any};
 ghost use Rattle.view_coverage.specs.Covered.{evidence_in, has_rule, is_request, row_with, shown_with};
 
-use crate::call_forms::CoverageCall;
-use crate::event::{CoverageEvent, RulePlace, ScriptService, is_error, is_refused};
-use core_calls::Answer;
+use crate::event::{CoverageEvent, RulePlace, ScriptService};
 
 /// A row of coverage: an event that a reply can show, and whether some reply showed it.
 #[derive(Clone, Copy)]
@@ -14,33 +12,15 @@ pub struct CoverageRow {
     pub met: bool,
 }
 
-impl CoverageRow {
-    ghost use Rattle.std.specs.Prelude.{◌≡◌};
-    ghost use Rattle.view_coverage.specs.Reported.{is_of_list};
-
-    /// Returns whether the row is of a start list: of a rule, or of a script's session requests.
-    pub(crate) fn is_of_list(&self) -> bool
-        ensures { result ≡ is_of_list self.now }
-    {
-        matches!(
-            self.event,
-            CoverageEvent::Decided(_) | CoverageEvent::Requested(_)
-        )
-    }
-}
-
-/// The evidence of an answered line: its reply, and the rules that decided its session request. It has the form of the call, the
-/// first word of the request, and the script and the service of the session request, if the line has these.
+/// The evidence of an answered line: the rules that decided its session request, and the request's script and service, if the line
+/// makes a request.
 #[derive(Clone, Copy)]
-pub(crate) struct CallEvidence<'a, 'b> {
-    pub form: Option<CoverageCall>,
-    pub word: Option<&'a [u8]>,
-    pub answer: Answer<'a>,
+pub(crate) struct CallEvidence<'a> {
     pub asked: Option<ScriptService>,
-    pub rules: &'b [RulePlace],
+    pub rules: &'a [RulePlace],
 }
 
-impl CallEvidence<'_, '_> {
+impl CallEvidence<'_> {
     ghost use Rattle.std.specs.Prelude.{◌≡◌, map};
     ghost use Rattle.view_coverage.specs.Covered.{evidence_in, row_with, shown_with};
 
@@ -49,11 +29,6 @@ impl CallEvidence<'_, '_> {
         ensures { result ≡ shown_with (evidence_in self.entry) event }
     {
         match event {
-            CoverageEvent::Refused(form, refusal) => {
-                form.is_of(self.form) && is_refused(self.answer, refusal)
-            }
-            CoverageEvent::Failed(asked, error) => asked.is_in(self.word)
-                && is_error(self.answer, error),
             CoverageEvent::Decided(rule) => has_rule(self.rules, rule),
             CoverageEvent::Requested(asked) => is_request(asked, self.asked),
         }

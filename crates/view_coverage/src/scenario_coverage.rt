@@ -3,9 +3,7 @@ ghost use Rattle.std.specs.Prelude.{◌≡◌, ◌∷◌, [], IfOk, OnOk, Some, 
 ghost use Rattle.core_calls.specs.Call.{model_call};
 ghost use Rattle.view_coverage.specs.Covered.{answer_of, evidence_of, row_by, row_with, rows_after, rows_of};
 
-use crate::call_forms::form_of;
 use crate::deciding_rules::{asked_in, request_of, rules_of_request};
-use crate::request_forms::request_word;
 use crate::row::{CallEvidence, CoverageRow};
 use crate::table::rows_of;
 use core_calls::{Answer, Call};
@@ -17,13 +15,12 @@ use std::alloc::{AllocError, Global};
 /// The coverage of a machine by a scenario.
 #[derive(Drop)]
 pub struct Coverage {
-    /// The rows of the table of calls, of that of requests, of each rule of the start list, and of each of its scripts and each
-    /// service that it provides.
+    /// The rows of each rule of the start list, and of each of its scripts and each service that it provides.
     pub rows: Vec<CoverageRow>,
 }
 
-/// Returns the coverage of a start list's machine by a scenario's calls with their replies. It has each row of both tables, each
-/// rule, and each script by service, and whether some call shows it. Fails if the host is out of memory.
+/// Returns the coverage of a start list's machine by a scenario's calls with their replies. It has each rule, and each script by
+/// service, and whether some call shows it. Fails if the host is out of memory.
 pub fn cover(
     alloc: Global,
     list: &StartList,
@@ -62,14 +59,10 @@ fn note(
     ensures { OnOk result (rows.new
         ≡ rows_after list.now (answer_of exchange.now ∷ []) rows.old) }
 {
-    let answer = exchange.answer();
     match read_line(exchange.line()) {
-        Ok((name, call)) => note_call(alloc, list, name, call, answer, rows),
+        Ok((name, call)) => note_call(alloc, list, name, call, exchange.answer(), rows),
         Err(_) => {
             let answered = CallEvidence {
-                form: None,
-                word: None,
-                answer,
                 asked: None,
                 rules: &[],
             };
@@ -95,9 +88,6 @@ fn note_call(
     let request = request_of(list, name, call, answer);
     let rules = rules_of_request(alloc, list, request)?;
     let answered = CallEvidence {
-        form: form_of(call),
-        word: request_word(call),
-        answer,
         asked: asked_in(list, request),
         rules: rules.as_slice(),
     };

@@ -1,27 +1,19 @@
 //! The rows of a machine, none of them met.
-ghost use Rattle.std.specs.Prelude.{◌≡◌, ◌++◌, length, map, OnOk, IfOk};
-ghost use Rattle.std.specs.List.{flat_map};
+ghost use Rattle.std.specs.Prelude.{◌≡◌, ◌++◌, OnOk, IfOk};
 ghost use Rattle.own_model.specs.Listed.{services_of};
-ghost use Rattle.view_coverage.specs.Covered.{error_rows, is_provided, object_rows, refusal_rows, route_rows, rows_of, rows_of_entries, rows_of_entry, script_rows, scripts_rows, service_rows, services_rows, unmet};
+ghost use Rattle.view_coverage.specs.Covered.{is_provided, route_rows, rows_of, rows_of_entries, rows_of_entry, script_rows, scripts_rows, service_rows, services_rows, unmet};
 
-use crate::call_forms::{CoverageCall, FORMS};
 use crate::event::{CoverageEvent, RouteOwner, RulePlace, ScriptService};
-use crate::request_forms::{CoverageRequest, OBJECT_REQUESTS, REQUESTS};
 use crate::row::CoverageRow;
 use list_parser::{ListEntry, StartList};
 use list_reach::service_name;
 use std::alloc::{AllocError, Global};
-use trade_base::SERVICES;
 
-/// Returns the rows of a machine: of the table of calls, of the table of requests, of each rule of its start list, and of each
-/// script by service. A machine without declared servers has no rows of the requests that their sessions alone have. Fails if the host is out of memory.
+/// Returns the rows of a machine: of each rule of its start list, and of each script by service. Fails if the host is out of memory.
 pub(crate) fn rows_of(alloc: Global, list: &StartList) -> Result<Vec<CoverageRow>, AllocError>
     ensures { IfOk result (λ rows. rows.items ≡ rows_of list.now) }
 {
     let mut rows = Vec::new(alloc);
-    add_calls(&mut rows, &FORMS)?;
-    add_requests(&mut rows, &REQUESTS)?;
-    add_object_requests(&mut rows, list)?;
     add_rules(&mut rows, RouteOwner::Machine, list.default_route().len())?;
     add_entries(&mut rows, list.entries())?;
     add_scripts(&mut rows, list)?;
@@ -33,57 +25,6 @@ fn unmet(event: CoverageEvent) -> CoverageRow
     ensures { result ≡ unmet event }
 {
     CoverageRow { event, met: false }
-}
-
-// Adds the refusals of calls of these forms.
-fn add_calls(rows: &mut Vec<CoverageRow>, forms: &[CoverageCall]) -> Result<(), AllocError>
-    ensures { OnOk result (rows.new.items ≡ rows.old.items ++ flat_map refusal_rows forms.now) }
-{
-    for form in forms {
-        add_refusals(rows, *form)?;
-    }
-    Ok(())
-}
-
-// Adds the errors of requests of these forms.
-fn add_requests(rows: &mut Vec<CoverageRow>, requests: &[CoverageRequest]) -> Result<(), AllocError>
-    ensures { OnOk result (rows.new.items ≡ rows.old.items ++ flat_map error_rows requests.now) }
-{
-    for asked in requests {
-        add_errors(rows, *asked)?;
-    }
-    Ok(())
-}
-
-// Adds the errors of requests that sessions of declared servers alone have, if the list declares a service.
-fn add_object_requests(rows: &mut Vec<CoverageRow>, list: &StartList) -> Result<(), AllocError>
-    ensures { OnOk result (rows.new.items ≡ rows.old.items ++ object_rows list.now.entries) }
-{
-    if list.service_count() > SERVICES.len() {
-        add_requests(rows, &OBJECT_REQUESTS)
-    } else {
-        Ok(())
-    }
-}
-
-// Adds the refusals of calls of a form.
-fn add_refusals(rows: &mut Vec<CoverageRow>, form: CoverageCall) -> Result<(), AllocError>
-    ensures { OnOk result (rows.new.items ≡ rows.old.items ++ refusal_rows form) }
-{
-    for refusal in form.refusals() {
-        rows.push(unmet(CoverageEvent::Refused(form, *refusal)))?;
-    }
-    Ok(())
-}
-
-// Adds the errors of requests of a form.
-fn add_errors(rows: &mut Vec<CoverageRow>, asked: CoverageRequest) -> Result<(), AllocError>
-    ensures { OnOk result (rows.new.items ≡ rows.old.items ++ error_rows asked) }
-{
-    for error in asked.errors() {
-        rows.push(unmet(CoverageEvent::Failed(asked, *error)))?;
-    }
-    Ok(())
 }
 
 // Adds so many rules of a route.

@@ -7,6 +7,6 @@ use Rattle.cli_runs.proofs.accounts.list_accounts.Goals as goal
 pub returns : goal.returns
 returns g c = (
   c.whole.result,
-  whole_run c.args.asked.now.scenario.now c.args.settings (Accounts c.form_asked.result) IsAccountView c.whole.result tt c.whole.ensures,
+  whole_run c.args.asked.now.scenario.now c.args.settings (Accounts c.args.asked.now.json) IsAccountView c.whole.result tt c.whole.ensures,
   c.run_chosen.ensures,
 )

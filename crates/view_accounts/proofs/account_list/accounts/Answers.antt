@@ -1,26 +1,25 @@
 -- On the machine of the list.
 use Rattle.std.proofs.Common.{ap, [], None}
-use Rattle.view_accounts.specs.Accounting.{accounts_text}
 use Rattle.view_accounts.specs.RunRows.{ShowsRows}
 use Rattle.view_accounts.specs.ShownSessions.{ShowsSessions}
-use Rattle.run_scenario.specs.RunCalls.{calls_answered}
-use Rattle.run_scenario.proofs.WriteLemmas.{played_on, unplayed_with}
-use Rattle.view_accounts.proofs.RunRowLemmas.{ends_with_rows, shows_on}
+use Rattle.run_scenario.proofs.WriteLemmas.{ends_for_cause, played_on, unplayed_with}
+use Rattle.view_accounts.proofs.RunRowLemmas.{shows_on}
 use Rattle.view_accounts.proofs.account_list.accounts.Goals as goal
 
 pub returns-clause-played : goal.returns-clause-played
 returns-clause-played g c = λ works.
-    let played = c.run_accounting.ensures.played works in (
-      played.0,
+    played_on c.args.play.list.now None c.args.play.start (λ _ _. []) (λ _ _. []) c.run_accounting.result.ending _ _ _ _ _ _ _
+    c.in_ok-core.ensures.started c.new-state.ensures.stands c.new-state.ensures.expects c.new-state.ensures.subject (c.run_accounting.ensures.played works)
+
+pub returns-clause-shown : goal.returns-clause-shown
+returns-clause-shown g c = λ works.
+    let shown = c.run_accounting.ensures.shown works in (
+      shown.0,
       (
-        played_on c.args.play.list.now None c.args.play.start (λ _ _. []) (λ start steps. accounts_text played.0 c.args.play.list.now start (calls_answered None steps)) c.run_accounting.result.ending _ _ _ _ _ _ _
-            c.in_ok-core.ensures.started c.new-state.ensures.stands c.new-state.ensures.expects c.new-state.ensures.subject played.1.0,
-        (
-          shows_on (λ world steps. ShowsRows played.0 c.args.play.list.now world steps c.run_accounting.result.ending.fault (g.S.Source.remaining c.args.reader.now) c.run_accounting.result.rows)
-              c.args.play.list.now c.args.play.start c.in_ok-core.ensures.started c.new-state.ensures.stands played.1.1.0,
-          shows_on (λ world steps. ShowsSessions played.0 c.args.play.list.now world steps c.run_accounting.result.ending.fault (g.S.Source.remaining c.args.reader.now))
-              c.args.play.list.now c.args.play.start c.in_ok-core.ensures.started c.new-state.ensures.stands played.1.1.1,
-        ),
+        shows_on (λ world steps. ShowsRows shown.0 c.args.play.list.now world steps c.run_accounting.result.ending.fault (g.S.Source.remaining c.args.reader.now) c.run_accounting.result.rows)
+            c.args.play.list.now c.args.play.start c.in_ok-core.ensures.started c.new-state.ensures.stands shown.1.0,
+        shows_on (λ world steps. ShowsSessions shown.0 c.args.play.list.now world steps c.run_accounting.result.ending.fault (g.S.Source.remaining c.args.reader.now))
+            c.args.play.list.now c.args.play.start c.in_ok-core.ensures.started c.new-state.ensures.stands shown.1.1,
       ),
     )
 
@@ -29,5 +28,5 @@ run_accounting-requires-clause-sees g c = c.in_ok-observer.ensures c.args.play.l
 
 pub returns-clause-ok : goal.returns-clause-ok
 returns-clause-ok g c =
-    ends_with_rows _ _ _ c.run_accounting.ensures.played
+    ends_for_cause _ _ _ c.run_accounting.ensures.played
     (unplayed_with c.run_accounting.result.ending _ _ _ _ _ (ap g.S.Source.has_failed) c.run_accounting.ensures.before) c.run_accounting.ensures.writing

@@ -1,4 +1,4 @@
--- The list behind what the play writes, which is nothing, the rows, and the sessions.
+-- The run, which writes nothing, the rows, and the sessions.
 use Rattle.std.proofs.Common.{rules}
 use Rattle.run_scenario.proofs.WriteLemmas.{reported_at}
 use Rattle.view_accounts.specs.Accounting.{sessions_kept}
@@ -7,17 +7,16 @@ use Rattle.view_accounts.proofs.RunRowLemmas.{rows_played, sessions_played}
 use Rattle.view_accounts.proofs.account_list.run_accounting.Goals as goal
 
 pub returns-clause-played : goal.returns-clause-played
-returns-clause-played g c = λ works. (
+returns-clause-played g c = λ works.
+    reported_at (accounts_played c.play-ending.result (rw c.requires.all at (c.play-ending.ensures.plays works))) (search rules)
+
+pub returns-clause-shown : goal.returns-clause-shown
+returns-clause-shown g c = λ works. (
   sessions_kept c.play-ending.new.runner.observer.now,
   (
-    reported_at
-        (accounts_played c.play-ending.new.runner.observer.now c.args.stage.run.list.now c.play-ending.result c.close_accounting-ending.result c.requires.listed
-        (rw c.requires.all at (c.play-ending.ensures.plays works)) c.close_accounting-ending.ensures.closes) (search rules),
-    (
-      rows_played c.play-ending.new.runner.observer.now c.args.stage.run.list.now c.play-ending.result c.close_accounting-ending.result
-          (rw c.requires.all at (c.play-ending.ensures.plays works)) c.close_accounting-ending.ensures.closes c.rows_after-rows.result c.requires.listed c.rows_after-rows.ensures,
-      sessions_played c.play-ending.new.runner.observer.now c.args.stage.run.list.now c.play-ending.result c.close_accounting-ending.result
-          (rw c.requires.all at (c.play-ending.ensures.plays works)) c.close_accounting-ending.ensures.closes,
-    ),
+    rows_played c.play-ending.new.runner.observer.now c.args.stage.run.list.now c.play-ending.result
+        (rw c.requires.all at (c.play-ending.ensures.plays works)) c.rows_after-rows.result c.requires.listed c.rows_after-rows.ensures,
+    sessions_played c.play-ending.new.runner.observer.now c.args.stage.run.list.now c.play-ending.result
+        (rw c.requires.all at (c.play-ending.ensures.plays works)),
   ),
 )

@@ -9,4 +9,4 @@ use Rattle.view_accounts.proofs.account_rows.add_session.Goals as goal
 pub returns : goal.returns
 returns g c =
     added_open session_view (entries_in c.args.list.now) c.args.named.component c.args.named.selector _ _ _ (quotas_account c.in-Some.account) (noted_in c.in-Some-session.session.now) _ _ _ _
-    c.in_ok-push.ensures.items c.in_ok-row.ensures c.needed-needed.ensures c.in-Some.ensures c.in-Some-session.ensures
+    c.in_ok-push.ensures.items c.in_ok-row.ensures c.session-needed.ensures c.in-Some.ensures c.in-Some-session.ensures

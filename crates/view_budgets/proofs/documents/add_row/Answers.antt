@@ -2,7 +2,7 @@
 use Rattle.view_budgets.proofs.documents.add_row.Goals as goal
 
 pub returns : goal.returns
-returns c = λ lines is.
+returns c =
     simp (
       c.session_numbers-selector.ensures.selector,
       c.session_numbers-selector.ensures.line,
@@ -16,6 +16,5 @@ returns c = λ lines is.
       c.safe.ensures.value,
       c.session.ensures,
       c.count.ensures,
-      is,
     )
     at c.add.ensures

@@ -1,8 +1,7 @@
 -- The account's lines so far.
 use Rattle.std.proofs.Common.{◌≡◌, map, take}
 use Rattle.view_json.specs.Documents.{objects_in}
-use Rattle.view_budgets.specs.Columns.{named_lines}
-use Rattle.view_budgets.specs.Documents.{unmeasured_object}
+use Rattle.view_budgets.specs.Documents.{named_lines, unmeasured_object}
 use Rattle.view_budgets.proofs.documents.unmeasured_objects.Given as goal
 
 abbrev pub invariant-loop-line : goal.invariant-loop-line

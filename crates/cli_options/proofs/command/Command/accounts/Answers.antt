@@ -9,6 +9,5 @@ returns c = (
   refl,
   c.get_str.ensures ∙ first_value-rows (found_of c.args.found.now) (codes "machine"),
   c.is_set.ensures,
-  c.is_set-2.ensures,
   c.path.ensures,
 )

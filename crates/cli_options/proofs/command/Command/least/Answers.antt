@@ -13,6 +13,5 @@ returns c = (
   c.is_set-3.ensures,
   c.is_set-4.ensures,
   c.is_set-5.ensures,
-  c.is_set-6.ensures,
   c.path.ensures,
 )

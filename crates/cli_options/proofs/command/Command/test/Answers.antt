@@ -12,9 +12,8 @@ returns c = (
   c.in_ok-words.ensures,
   c.is_set.ensures,
   c.is_set-2.ensures,
-  c.is_set-3.ensures,
   c.get_str-3.ensures ∙ first_value-rows (found_of c.args.found.now) (codes "threshold"),
-  c.is_set-4.ensures,
+  c.is_set-3.ensures,
   c.colored.ensures,
   c.in_ok-words-2.ensures,
 )

@@ -1,6 +1,6 @@
 -- What the peaks see, and the needs.
 use Rattle.std.proofs.Common.{refl}
-use Rattle.run_lines.proofs.GatheredLemmas.{Tells-none, told_err}
+use Rattle.run_devices.proofs.GatheredLemmas.{Tells-none, told_err}
 use Rattle.view_accounts.proofs.AccountingLemmas.{sees_both}
 use Rattle.run_scenario.proofs.FailLemmas.{roomless}
 use Rattle.view_accounts.proofs.accounting.AccountingCallObserver.tell.Goals as goal

@@ -5,7 +5,7 @@ use Rattle.own_model.specs.Listed.{route_of}
 use Rattle.own_model.specs.Routes.{label_with}
 use Rattle.own_model.specs.Session.{given}
 use Rattle.own_model.specs.Transcript.{entry_at}
-use Rattle.pd_core.specs.Answer.{quotas_account}
+use Rattle.core_calls.specs.Quotas.{quotas_account}
 use Rattle.run_lines.proofs.AccountLemmas.{entries_within}
 use Rattle.view_accounts.specs.Kept.{found}
 use Rattle.view_accounts.specs.Peaks.{Noted, session_at}

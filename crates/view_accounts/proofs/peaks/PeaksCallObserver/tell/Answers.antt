@@ -5,7 +5,7 @@ use Rattle.own_model.specs.StartList.{entries_of}
 use Rattle.own_model.specs.Transcript.{calls_in, heard}
 use Rattle.own_model.specs.Transcript.Heard.{Caller}
 use Rattle.core_calls.specs.Call.{model_call}
-use Rattle.run_lines.proofs.GatheredLemmas.{Tells-none, told_err}
+use Rattle.run_devices.proofs.GatheredLemmas.{Tells-none, told_err}
 use Rattle.view_accounts.specs.Kept.{found, noted_after, peak_at, peaked}
 use Rattle.view_accounts.proofs.KeptLemmas.{is_outcome, sees_called, sees_silent}
 use Rattle.view_accounts.proofs.peaks.PeaksCallObserver.tell.Goals as goal

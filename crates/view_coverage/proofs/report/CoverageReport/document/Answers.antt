@@ -11,7 +11,6 @@ returns c =
     let report = c.args.self.now in
     let parts : Extends c.new-listing.result c.add_parts.new.listing (map (part_object report) report.parts.items) =
     rw c.as_slice-parts.ensures.value at c.in_ok-add_parts.ensures in
-    let sheets : Extends c.add_tables.new.listing c.add_sheets.new.listing (flat_map (sheet_objects report) report.sheets.items) =
+    let sheets : Extends c.add_parts.new.listing c.add_sheets.new.listing (flat_map (sheet_objects report) report.sheets.items) =
     rw c.as_slice-sheets.ensures.value at c.in_ok-add_sheets.ensures in
-    let all = extends_then (extends_then parts c.in_ok-add_tables.ensures) sheets in
-    c.into_text.ensures (coverage_objects report) (all.has [] c.new-listing.ensures)
+    c.into_text.ensures (coverage_objects report) ((extends_then parts sheets).has [] c.new-listing.ensures)
