@@ -1,10 +1,10 @@
 #!/usr/bin/env python3
-"""Draws scenarios of one script, and compares the rows of `PROGRAM least --csv` with what
+"""Draws scenarios of one script, and compares the rows of `PROGRAM least --json` with what
 `PROGRAM run` answers under many budgets: all page counts, the bytes at, one below and one above each row's ends, and
 capabilities from 0 to 20. Of a session the donation varies, and every other account has enough. The same scenario with names for
 its selectors has the same rows, also on a list whose budgets rarely suffice. The safe budget of each account is computed a second
 time from its rows."""
-import csv, io, json, os, random, re, subprocess, tempfile
+import json, os, random, re, subprocess, tempfile
 
 from command import PROGRAM, SEED, number, run
 
@@ -112,14 +112,12 @@ class Nethrywel:
         return done.stdout
 
     def rows(self, *words):
-        printed = csv.DictReader(io.StringIO(self.printed("least", *words, "--machine", self.list, "--csv", self.scenario)))
+        printed = json.loads(self.printed("least", *words, "--machine", self.list, "--json", self.scenario))
         found, safe = {}, {}
-        for row in printed:
-            key = (row["component"], row["line"] and int(row["line"]))
-            found.setdefault(key, []).append(
-                (int(row["ram_from"]), int(row["ram_below"]) if row["ram_below"] else None, int(row["caps_from"]))
-            )
-            safe[key] = (int(row["safe_ram"]), int(row["safe_caps"])) if row["safe_ram"] else None
+        for row in printed[:-1]:
+            key = (row["component"], row["line"])
+            found.setdefault(key, []).append((row["ram_from"], row["ram_below"], row["caps_from"]))
+            safe[key] = None if row["safe_ram"] is None else (row["safe_ram"], row["safe_caps"])
         for key, rows in found.items():
             if safe[key] != safe_of(rows):
                 raise SystemExit(f"{words}: {key} has the rows {rows}, and {safe[key]} is said to be safe")
@@ -257,13 +255,13 @@ def check(nethrywel, draw):
     differs = check_names(nethrywel, draw, calls, least, reserve)
     if differs:
         return differs, looked
-    for rows, said in ((donated[("s0", "")] if ("s0", "") in donated else [], calls), (least.get(("s0", ""), []), [line[3:] for line in rewritten])):
+    for rows, said in ((donated.get(("s0", None), []), calls), (least.get(("s0", None), []), [line[3:] for line in rewritten])):
         differs, more = check_account(nethrywel, draw, said, rows, reserve, most)
         looked += more
         if differs:
             return "\n".join(["of the script:", *said, str(rows), f"reserve {reserve}", differs]), looked
     for (name, line), rows in donated.items():
-        if name == "s0" and line != "" and reserve is None:
+        if name == "s0" and line and reserve is None:
             differs, more = check_session(nethrywel, draw, calls, rows, line - 1, most)
             looked += more
             if differs:

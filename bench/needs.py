@@ -1,9 +1,9 @@
 #!/usr/bin/env python3
-"""Draws scenarios of one script, and takes from `accounts --plain` what its account and its
+"""Draws scenarios of one script, and takes from `accounts --json` what its account and its
 sessions need. From just that budget, or that opening donation, `PROGRAM run` has to answer each line as before, except for the
 limits that STAT reports; of a session while its client has enough. It ends with how many budgets of a byte or a capability less
 are answered otherwise: all but those that a growth with two sizes was tested at, which no reply shows."""
-import random, re, tempfile
+import json, random, tempfile
 
 from command import PROGRAM, SEED, number, run
 from least import PAGE, Nethrywel, amount, calls_of, donating, machine
@@ -15,17 +15,16 @@ def needs_of(nethrywel, made, calls):
     """What the script needs, and whether it is gone; each open session, by its selector; and those that were closed, in order."""
     nethrywel.write(made, [f"s0 {call}" for call in calls])
     own, opened, closed = None, {}, []
-    for line in nethrywel.printed("accounts", "--plain", "--machine", nethrywel.list, nethrywel.scenario).splitlines():
-        found = re.match(r"(account|session) s0(?: (\d+))?(?: ram \S+ caps \S+)?( gone| closed)? need ram (\d+) caps (\d+)", line)
-        if not found:
+    for row in json.loads(nethrywel.printed("accounts", "--json", "--machine", nethrywel.list, nethrywel.scenario)):
+        if row.get("name") != "s0" or row["kind"] == "reserve":
             continue
-        need = (int(found[4]), int(found[5]))
-        if found[1] == "account":
-            own = (need, found[3] is not None)
-        elif found[3]:
-            closed.append((found[2], need))
+        need = (row["ram_need"], row["caps_need"])
+        if row["kind"] == "account":
+            own = (need, "state" in row)
+        elif "state" in row:
+            closed.append((str(row["session"]), need))
         else:
-            opened[found[2]] = need
+            opened[str(row["session"])] = need
     return own, opened, closed
 
 

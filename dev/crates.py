@@ -12,6 +12,28 @@ def text_of(path):
     return (TOP / path).read_text(encoding="utf-8")
 
 
+def believed_files():
+    """Returns the files of definitions on which the statement of `boot_and_run` rests, each after those that it uses, with the number
+    of their lines that are neither blank nor comments; and the modules of the toolchain's libraries that these files use."""
+    lines, modules, begun = {}, set(), set()
+
+    def visit(path):
+        begun.add(path)
+        text = text_of(f"crates/{path}")
+        for crate, module in re.findall(r"^(?:pub )?use Rattle\.(\w+)\.specs\.([\w.]*\w)", text, re.M):
+            parts = module.split(".")
+            files = (f"{crate}/specs/{'/'.join(parts[:count])}.antt" for count in range(len(parts), 0, -1))
+            file = next((it for it in files if (TOP / "crates" / it).exists()), None)
+            if file and file not in begun:
+                visit(file)
+            elif not file and parts[0] != "declared":
+                modules.add(f"{crate}.{module}")
+        lines[path] = sum(1 for it in text.split("\n") if it.strip() and not it.strip().startswith("--"))
+
+    visit("cli_engine/specs/Program.antt")
+    return lines, sorted(modules)
+
+
 def crate_graph():
     """Returns the graph of crates.txt: from each crate to those in its line, without libraries of the toolchain."""
     from networkx import DiGraph

@@ -3,6 +3,7 @@ import contextlib
 import importlib.util
 import os
 import pty
+import re
 import resource
 import shutil
 import subprocess
@@ -13,6 +14,7 @@ import pytest
 
 TOP = Path(__file__).resolve().parent.parent
 CASES, ENGINE_CASES, EXAMPLES = TOP / "cases", TOP / "cases/engine", TOP / "examples"
+COMMANDS = "run record check tree reach route trace accounts alone least test diff".split()
 PYTHON = "/usr/bin/python3"
 CRAWLER = ("--machine", "friendly/crawler.json")
 SENSORS = ("--machine", "friendly/sensors.json")
@@ -105,8 +107,8 @@ def crawler_files(folder):
 
 
 def swept_scenario(folder, name="swept.scenario"):
-    """Writes the crawler's scenario with a parameter D, and returns its path."""
-    (folder / name).write_text((EXAMPLES / "friendly/crawler.scenario").read_text().replace("1M", "$D"))
+    """Writes the crawler's scenario with a parameter D, the size of its buffer, and returns its path."""
+    (folder / name).write_text((EXAMPLES / "friendly/crawler.scenario").read_text().replace("BUFFER 8K", "BUFFER $D"))
     return folder / name
 
 
@@ -114,3 +116,13 @@ def machine_of(scenario) -> list[str]:
     """Returns the option that names a scenario's start list, if it has one."""
     path = Path(scenario).with_suffix(".json")
     return ["--machine", str(path)] if (EXAMPLES / path).exists() else []
+
+
+def forms_of(program, *command):
+    """Returns the arguments of a command, those that may be left out in brackets, and its options, each with the kind of its
+    value or an empty text, as its help has them."""
+    text = program(*["help"] * bool(command), *command, *["--help"] * (not command)).ok()
+    usage = text.split("Usage: ")[1].split("\n")[0]
+    options = re.findall(r"^ +(?:-\w, )?(--[\w-]+)(?: <([^>]*)>)?", text, re.M)
+    arguments = [it.strip("<>") for it in re.findall(r"<[A-Z]+>|\[[A-Z]+\]", usage) if it != "[OPTIONS]"]
+    return arguments, [it for it in options if it[0] not in ("--help", "--version")]

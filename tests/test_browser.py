@@ -50,7 +50,7 @@ def opened(page, path):
 SHOWN = {
     "strange": lambda page, _: SCRIPT in page.text(),
     "long": lambda page, took: "lines are shown, and" in page.text() and took < 20,
-    "none": lambda page, _: any("no budget serves" in it for it in page.texts("#verdict .bad")),
+    "none": lambda page, _: any("no budget serves: even the largest" in it for it in page.texts("#verdict .bad")),
     "tenants": lambda page, _: any("acme/batch: given 48K and 10: " in it for it in page.texts("#verdict .bad"))
     and page.texts("#policy-kept") == ["✓ the policy is kept"],
     "crawler": lambda page, _: page.call("isSplit"),
@@ -123,10 +123,10 @@ def test_desk_edits(page):
     page.find("#pin").click()
     page.wait(lambda: "nothing" in "".join(page.texts("#since")))
     for i in range(5):
-        printed = page.edit(f"desk.scenario.replaceRange('reader quota\\n', {{line: {47 + i}, ch: 0}})")[2]
+        printed = page.edit(f"desk.scenario.replaceRange('reader quota\\n', {{line: {29 + i}, ch: 0}})")[2]
         assert printed.startswith("answered in ")
     assert "→ ram 0/98304 caps 0/16" in page.texts(".printed.reply")
-    assert any(it.startswith("+ 48: reader quota") for it in page.texts("#since li"))
+    assert any(it.startswith("+ 30: reader quota") for it in page.texts("#since li"))
     page.edit("desk.list.setValue(desk.list.getValue().replace('\"caps\": 16}', '\"caps\": 15}'))")
     assert any(it.startswith("~ reader: script, 98304 bytes, 15 caps (was") for it in page.texts("#since li"))
 

@@ -65,7 +65,8 @@ class Ported:
     def __init__(self, folder, inner, *words, costs=None):
         (folder / "config.xml").write_bytes(inner if isinstance(inner, bytes) else f"<config>{inner}</config>".encode())
         if costs is not None:
-            (folder / "costs.json").write_text(costs if isinstance(costs, str) else json.dumps(costs))
+            text = costs if isinstance(costs, (str, bytes)) else json.dumps(costs)
+            (folder / "costs.json").write_bytes(text if isinstance(text, bytes) else text.encode())
             words += ("--costs", "costs.json")
         made = folder / "list.json"
         made.unlink(missing_ok=True)
@@ -232,6 +233,8 @@ def starting(inner):
 LEFT, TIME = "isn't carried over", "isn't carried over: time isn't modelled"
 ACCEPTS, NO_SERVICE = "isn't carried over: a server accepts each session that is routed to it", "an init provides no service here"
 NO_LABEL = "isn't carried over: a route can't replace a label"
+FIRST, LAST, ALL = (f"{it} here\n" for it in ("the first one counts", "the last one counts", "all of them count"))
+DECIDES = "`<service>` with 2 targets: the first that provides `LOG` decides here"
 
 
 @pytest.mark.parametrize("inner, text", [
@@ -242,6 +245,24 @@ NO_LABEL = "isn't carried over: a route can't replace a label"
     ("<heartbeat rate_ms='1'/>", f"1:9: note: `<heartbeat>` of `<config>` {TIME}"),
     ("<resource name='RAM' preserve='1M'/>", f"1:9: note: budgets: `<resource>` of `<config>` {LEFT}"),
     ("<service name='LOG'/>", f"1:9: note: routing: `<service>` of `<config>` {LEFT}: {NO_SERVICE}"),
+    ("<include rom='x'/>", f"1:9: note: routing: `<include>` of `<config>` {LEFT}: its text isn't in this file"),
+    ("<default-route/><default-route/>", f"1:25: note: routing: one more `<default-route>`: {FIRST}"),
+    ("<default/><default/>", f"1:19: note: budgets: one more `<default>`: {FIRST}"),
+    ("<parent-provides/><parent-provides/>", f"1:27: note: routing: one more `<parent-provides>`: {ALL}"),
+    ("<alias name='b' child='a'/><alias name='b' child='c'/>", f"1:36: note: routing: one more `<alias>` of the name `b`: {LAST}"),
+    (starting("<route/><route/>"), f"1:50: note: routing: one more `<route>`: {FIRST}"),
+    (starting("<binary name='b'/><binary name='init'/>"), f"1:60: note: routing: one more `<binary>`: {FIRST}"),
+    (starting("<config/><config/>"), f"1:51: note: one more `<config>`: {FIRST}"),
+    (starting("<binary name='init'/><config/><config/>"), f"1:72: note: routing: one more `<config>`: {FIRST}"),
+    (server("log", "LOG", "<config/><config/>"), f" note: routing: one more `<config>`: {FIRST}"),
+    (starting("<provides/><provides/>"), f"1:53: note: routing: one more `<provides>`: {ALL}"),
+    (starting("<provides><srevice name='LOG'/></provides>"), f"1:52: note: routing: `<srevice>` of `<provides>` {LEFT}"),
+    (starting("<resource name='RAM' quantum='2'/>"), f"1:42: note: budgets: one more amount of RAM: {LAST}"),
+    ("<start name='a' caps='1'><resource name='RAM' quantum='1'/><resource name='RAM' quantum='2'/></start>",
+     f"1:68: note: budgets: one more amount of RAM: {LAST}"),
+    (SERVED + client(rule("LOG", child("files") + child("log"))), f" note: routing: {DECIDES}\n"),
+    (SERVED + client() + node("default-route", rule("LOG", "<parent/><any-child/>")), f" note: routing: {DECIDES}\n"),
+    (SERVED + client(rule("LOG", child("log") + "<any-child/>")), f" note: {DECIDES}\n"),
     (starting("<affinity/>"), f"1:42: note: `<affinity>` of `<start>` {TIME}"),
     (starting("<exit/>"), f"1:42: note: `<exit>` of `<start>` {LEFT}"),
     (starting("<configfile name='x'/>"), f"1:42: note: `<configfile>` of `<start>` {LEFT}: its text isn't in this file"),
@@ -328,8 +349,10 @@ NO_TYPE = "expected no document type and no entities, found some"
     (b"<config>&a;</config>", "invalid XML: undefined entity"),
     (b"<config>" + b"<start>" * 5000, "expected at most 64 nested elements, found more"),
     (b"<config>" + b"<start/>" * 10_000, "expected at most 10000 elements, found more"),
-    (b"<config>" + b" " * (1 << 20), "expected at most 1048576 bytes, found 1048584"),
     (b'<?xml version="1.0" encoding="x"?><config/>', "invalid XML: unknown encoding"),
+    (b'<?xml version="1.0" encoding="gbk"?><config/>', "invalid XML: multi-byte encodings are not supported"),
+    (b'<?xml version="1.0" encoding="idna"?><config/>', "invalid XML: decoding with 'idna' codec failed"),
+    (b'<?xml version="1.0" encoding="punycode"?><config a="\x80"/>', "invalid XML: 'ascii' codec can't decode byte 0x80"),
     (b"<config \xff\xff/>", "invalid XML: not well-formed"),
     (b"\x00\x01", "invalid XML"),
 ], ids=short)
@@ -344,6 +367,7 @@ def test_control_characters(ported):
 
 
 KIND = {"kind": "a", "block": 112, "bytes": 0}
+TOO_LARGE = "invalid JSON: expected fewer nested values, and numbers of at most 4300 digits"
 
 
 @pytest.mark.parametrize("costs, text", [
@@ -359,10 +383,23 @@ KIND = {"kind": "a", "block": 112, "bytes": 0}
     ({"Gui": [{**KIND, "bytes": None}]}, "costs.json: error: Gui[0]: bytes: expected a whole number from 0 to 65535, found null"),
     ({"Gui": [{**KIND, "bytes": True}]}, "costs.json: error: Gui[0]: bytes: expected a whole number from 0 to 65535, found true"),
     ({"Gui": [KIND, KIND]}, "costs.json: error: Gui: expected kinds with different names"),
+    ("[" * 100_000, f"costs.json: error: {TOO_LARGE}"),
+    ('{"Gui": [{"kind": "a", "block": ' + "1" * 5000 + "}]}", f"costs.json: error: {TOO_LARGE}"),
+    (b'{"Gui": "\xe4"}', "costs.json: error: invalid JSON: expected utf-8, found invalid continuation byte at byte 9"),
 ], ids=short)
 def test_costs(ported, costs, text):
     made = ported(GUI, costs=costs)
     assert (made.status, made.text, made.err) == (2, None, f"{text}\n1 error\n")
+
+
+def test_unread_costs(ported):
+    """A member of a kind that nothing reads is a note on budgets, with its place."""
+    costs = '{"_about": {"a": 1},\n "Gui": [{"kind": "a", "block": 112, "bytes": 0,\n  "bites": 4, "_source": 1}]}'
+    made = ported(GUI, costs=costs)
+    assert made.status == 0 and made.err.startswith("costs.json:3:12: note: budgets: unknown member `bites` of `Gui[0]`\n")
+    assert made.err.count("unknown member") == 1 and "2 notes: 0 on routing, 1 on budgets\n" in made.err
+    strict = ported(GUI, "--strict", costs=costs)
+    assert (strict.status, strict.err, strict.text) == (3, made.err, made.text)
 
 
 def test_scale(ported):
@@ -373,6 +410,13 @@ def test_scale(ported):
     assert made.entry("b").items() >= {"quantum": "4K", "caps": 1}.items()
     assert ported(client(), "--scale", "1").value["machine"] == {"pages": 16, "caps": 20}
     assert "--scale 4 fits" in ported(client(ram="64M", caps="1"), "--scale", "2").err
+
+
+def test_scale_to_nothing(ported):
+    """A budget that becomes 0 is a note on budgets."""
+    made = ported(client(ram="12K", caps="3") + client(ram="16K", caps="4", name="b"), "--scale", "4", "--strict")
+    lines = [f"1:9: note: budgets: `app`: its {it} become 0, divided by 4" for it in ("12288 bytes", "3 capabilities")]
+    assert made.status == 3 and made.err.splitlines() == [*lines, "2 notes: 0 on routing, 2 on budgets"]
 
 
 @pytest.mark.parametrize("word", ["0", "-1", "x", "1.5", ""])

@@ -1,4 +1,4 @@
-"""The systems of examples/genode: they become start lists by one command, and docs/howto/genode.md has their answers. The
+"""The systems of examples/genode: they become start lists by one command, and docs/howto/genode.md has answers of two. The
 program keeps their policies and gives the replies of their scenarios."""
 import json
 import re

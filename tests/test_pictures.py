@@ -52,7 +52,7 @@ def test_many_accounts():
     assert len(set(re.findall(r"stroke: (#[0-9a-f]{6}); stroke-width: 1.6", ran.out))) == 180
     with open("/dev/full", "w") as full:
         ran = PICTURE(stdin=CALL, stdout=full)
-    assert ran.status == 1 and ran.err == "picture: No space left on device\n"
+    assert ran.status == 1 and ran.err == "picture: standard output: No space left on device\n"
 
 
 @pytest.mark.slow

@@ -1,4 +1,4 @@
-"""What pipelines call: the document of `nethrywel test`, and tables as JSON, which have the rows of CSV."""
+"""What pipelines call: the document of `nethrywel test`, and a trace as JSON, which has the rows of CSV."""
 import csv
 import io
 import json
@@ -73,39 +73,14 @@ def documents(nethrywel, *words, **options):
     return [json.loads(it) for it in ran.out.splitlines()] if words[0] == "trace" else json.loads(ran.out)
 
 
-def labels_of(shapes):
-    """Returns a set of labels in words, as text and CSV have it: labels, or how they begin and end, each with its exceptions."""
-
-    def pattern(it):
-        parts = [f'{word} "{it[word]}"' for word in ("exactly", "beginning", "ending") if it[word] is not None]
-        return " and ".join(parts) or "all"
-
-    def shape(it):
-        but = " but " if pattern(it) == "all" else " but not "
-        return pattern(it) + (but + ", ".join(map(pattern, it["except"])) if it["except"] else "")
-
-    return "; ".join(map(shape, shapes)) or "none"
-
-
 TRACE = ("line component call reply ram_used ram_limit caps_used caps_limit session session_ram_used session_ram_limit"
          " session_caps_used session_caps_limit text").split()
-REACH = "from service to reach label labels witness".split()
-LEAST = "component session line ram_from ram_below caps_from unmeasured safe_ram safe_caps count".split()
 
 
-@pytest.mark.parametrize("columns, words", [
-    (TRACE, ["trace", *SCENARIO]), (TRACE, ["trace", "friendly/notes.scenario"]), (LEAST, ["least", *SCENARIO]),
-    *((REACH, ["reach", f"{it}.json"]) for it in ("tenants", "reserves", "labels", "eight", "friendly/crawler")),
-], ids=lambda it: it[-1] if "/" in it[-1] or "." in it[-1] else it[0])
-def test_rows_as_json(nethrywel, columns, words):
-    """A table has the same rows as JSON and as comma-separated values."""
-    found = [it for it in documents(nethrywel, *words) if it.get("kind") != "machine"]
-    for it in found:
-        if columns is REACH:
-            it["labels"] = labels_of(it["labels"])
-        elif columns is LEAST:
-            it["unmeasured"] = " ".join(str(line["line"]) for line in it["unmeasured"])
-    assert cells_of(found, *columns) == rows_of(nethrywel(words[0], *["--csv"] * (columns is not TRACE), *words[1:]).out)
+@pytest.mark.parametrize("words", [SCENARIO, ["friendly/notes.scenario"]], ids=str)
+def test_trace_as_json(nethrywel, words):
+    """A trace has the same rows as JSON and as comma-separated values."""
+    assert cells_of(documents(nethrywel, "trace", *words), *TRACE) == rows_of(nethrywel("trace", *words).out)
 
 
 def ram_of(text):

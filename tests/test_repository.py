@@ -1,5 +1,6 @@
 """The documents, the command lines of all tools, and checkers of the sources: shellcheck and pyflakes."""
 import re
+import shutil
 
 import pytest
 from commands import CASES, EXAMPLES, PAGES, PYTHON, TOP, environment, needs, on_terminal, run, script, tool
@@ -46,9 +47,7 @@ def test_missing_package(tmp_path, name, package):
     (tmp_path / f"{package}.py").write_text("raise ModuleNotFoundError(name=__name__)\n")
     words = {"desk": [NOTES], "picture": [], "report": ["-o", tmp_path / "page.html", NOTES]}
     ran = tool(f"tools/{name}")(*words[name], stdin=CALL, env=environment(PYTHONPATH=tmp_path))
-    # (a program without a proof needs more memory than the desk gives it)
-    lines = [it for it in ran.err.splitlines() if "so its memory isn't limited" not in it]
-    assert (ran.status, ran.out, lines) == (1, "", [f"{name}: python3-{package} isn't here; run dev/setup"])
+    assert ran == (1, "", f"{name}: python3-{package} isn't here; run dev/setup\n")
     assert not (tmp_path / "page.html").exists()
 
 
@@ -97,6 +96,24 @@ def test_mutant(edit):
             before = text
         elif word == "new" or line == "new:":
             texts[path] = texts[path].replace(before, text)
+
+
+@pytest.mark.slow
+@needs("rt")
+def test_first_proof(tmp_path):
+    """The exercise of docs/maintain/first-proof.md in a copy of its crate: the function that it adds is proved."""
+    page, crate = (TOP / "docs/maintain/first-proof.md").read_text(), tmp_path / "crates/view_test_report"
+    shutil.copytree(TOP / "crates/view_test_report", crate, ignore=shutil.ignore_patterns("out"))
+    (tmp_path / "crates.txt").write_text("view_test_report: hex\n")
+    function, clause = re.search(r"`(pub fn passes.*?)` with `(ensures .*?)`", page).groups()
+    comment, body = re.search(r'"(Returns how many trials passed\.)"', page)[1], "trials.iter().filter(|it| it.result.passed).count()"
+    for name, change in (("specs/Trials.antt", lambda text: text + "\n" + "".join(
+            it.replace("failed", "passed").replace("not ", "") + "\n" for it in text.split("\n") if "failed_among" in it)),
+                         ("src/test_result.rt", lambda text: text.replace("{failed_among", "{failed_among, passed_among")
+                          + f"\n/// {comment}\n{function}\n    {clause}\n{{\n    {body}\n}}\n")):
+        (crate / name).write_text(change((crate / name).read_text()))
+    ran = run("rt", "check", "--only", "test_result::passes", cwd=crate)
+    assert ran.status == 0 and "\nfn view_test_report::test_result::passes: proved\n" in ran.out + ran.err
 
 
 @needs("jsonschema")

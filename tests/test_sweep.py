@@ -14,10 +14,10 @@ pytestmark = needs("parallel")
 
 
 def large(folder, *words):
-    """Returns the arguments of a sweep of 200 points over the crawler's budget and its last donation, into FOLDER/out."""
+    """Returns the arguments of a sweep of 200 points over the crawler's budget and its buffer, into FOLDER/out."""
     machine = folder / "swept.json"
     machine.write_text(CRAWLER.read_text().replace('"128K"', '"${Q}"').replace('"caps": 24', '"caps": ${C}'))
-    axes = [it for axis in ("Q=96K..132K:4K", "C=20..29", "D=1M,64K") for it in ("--set", axis)]
+    axes = [it for axis in ("Q=4K..40K:4K", "C=3..12", "D=1M,64K") for it in ("--set", axis)]
     return ["--machine", machine, "--scenario", swept_scenario(folder), *axes, "--out", folder / "out", *words, "accounts"]
 
 
@@ -43,8 +43,8 @@ def test_table(table):
     """A point that fails is a row with its line."""
     rows = list(csv.reader(table.splitlines()))
     assert len(rows) == 201
-    assert ["128K", "24", "1M", "0", "", ""] in [it[:6] for it in rows]
-    (failed,) = [it for it in rows if it[:3] == ["96K", "20", "1M"]]
+    assert ["40K", "12", "1M", "0", "", ""] in [it[:6] for it in rows]
+    (failed,) = [it for it in rows if it[:3] == ["4K", "3", "1M"]]
     assert failed[3] == "3" and failed[4].isdigit() and failed[5].startswith("expected `")
 
 

@@ -16,13 +16,13 @@ program() {
 # ready NAME: prints the path of a program that can be run: PROGRAMS's or the proved one, an installed one, or the unproved one
 # that tools/nethrywel keeps. It builds none.
 ready() {
-    local found
+    local found kept
     found=$(program "$1")
     if [ ! -x "$found" ] && [ -z "${PROGRAMS:-}" ]; then
         found=$(type -P "$1")
         [ "$(readlink -f "$found")" != "$(readlink -f "$top/tools/$1")" ] || found=
-        if [ -z "$found" ] && [ -d "$top/crates" ] && [ -x "$(unproved)/$1" ]; then
-            found=$(unproved)/$1
+        if [ -z "$found" ] && [ -d "$top/crates" ] && kept=$(unproved)/$1 && is_kept "$kept"; then
+            found=$kept
             echo "${0##*/}: $1 is unproved; tools/install proves it and installs it" >&2
         fi
     fi
@@ -31,21 +31,47 @@ ready() {
             "tools/nethrywel builds it without a proof and keeps it" >&2
         return 1
     fi
+    note_other_sources "$1"
     echo "$found"
 }
 
 # What the programs are built from: with proofs, and without them.
 with_proofs=(crates.txt "crates/*/src" "crates/*/specs" "crates/*/proofs") without_proofs=(crates.txt "crates/*/src")
 
-# sources_sum PLACE..: prints the sum of the files in places of the repository.
+# sources_sum NAME PLACE..: prints the sum of the files in places of the repository. It is kept by a name, and isn't taken again
+# if no file's name, size or time of change is another.
 sources_sum() {
+    local kept=$top/out/sums/$1 was='' now sum
+    shift
     # shellcheck disable=SC2068
-    (cd "$top" && find $@ -type f -print0 | LC_ALL=C sort -z | xargs -0 sha256sum | sha256sum | cut -d ' ' -f 1)
+    now=$(cd "$top" && find -L $@ -type f -printf '%p %s %C@\n')
+    [ ! -e "$kept" ] || was=$(<"$kept")
+    sum=${was%%$'\n'*}
+    if [ "${was#*$'\n'}" != "$now" ]; then
+        # shellcheck disable=SC2068
+        sum=$(cd "$top" && find -L $@ -type f -print0 | LC_ALL=C sort -z | xargs -0 sha256sum | sha256sum | cut -d ' ' -f 1)
+        { mkdir -p "${kept%/*}" && echo "$sum"$'\n'"$now" >"$kept.$$" && mv "$kept.$$" "$kept"; } 2>/dev/null
+    fi
+    echo "$sum"
+}
+
+# built_from NAME: prints the sums of the sources without proofs and of a program.
+built_from() {
+    echo "$(sources_sum code "${without_proofs[@]}") $(sha256sum "$(program "$1")" | cut -d ' ' -f 1)"
 }
 
 # sum_line NAME: prints what NAME.sources next to a program has: the sums of the sources and of the program itself.
 sum_line() {
-    echo "$(sources_sum "${with_proofs[@]}") $(sha256sum "$(program "$1")" | cut -d ' ' -f 1)"
+    echo "$(sources_sum proofs "${with_proofs[@]}") $(built_from "$1")"
+}
+
+# note_other_sources NAME: notes that the proved program isn't known to be built from the sources as they are.
+note_other_sources() {
+    local at=$top/crates/$1/out/$1 known=
+    [ -z "${PROGRAMS:-}" ] && [ -x "$at" ] || return 0
+    [ ! -e "$at.sources" ] || known=$(<"$at.sources")
+    [ "${known#* }" = "$(built_from "$1")" ] ||
+        echo "${0##*/}: note: $at isn't known to be built from these sources; tools/install builds it again" >&2
 }
 
 # unfit NAME: prints why a program isn't the proved one of the sources; it fails if it is.
@@ -63,13 +89,28 @@ unfit() {
     fi
 }
 
-# adopt NAME: writes NAME.sources for a program of crates/NAME/out that is newer than all sources, as a passed `rt ci` leaves it.
+# by_kit ARGUMENT..: runs nethrywel_tools/kit.py, and ends it if this tool is ended.
+by_kit() {
+    local status
+    PYTHONPATH=$top/tools/lib python3 -B -m nethrywel_tools.kit "$@" &
+    # shellcheck disable=SC2064
+    trap "kill $!; wait $!; exit 130" INT TERM HUP
+    wait $!
+    status=$?
+    trap - INT TERM HUP
+    return $status
+}
+
+# record_sources NAME: writes NAME.sources next to a program that has just been built of the sources as they are.
+record_sources() {
+    sum_line "$1" >"$(program "$1").sources"
+}
+
+# adopt NAME: writes NAME.sources for a program of crates/NAME/out if rt has recorded that it is of the sources as they are.
 adopt() {
-    local at
-    at=$(program "$1")
-    [ -z "${PROGRAMS:-}" ] && [ -d "$top/crates" ] && [ -x "$at" ] && ! [ "$at.sources" -nt "$at" ] || return 0
-    # shellcheck disable=SC2068
-    [ -n "$(cd "$top" && find ${with_proofs[@]} -type f -newer "$at" | head -c 1)" ] || sum_line "$1" >"$at.sources"
+    local at=$top/crates/$1/out/$1
+    [ -z "${PROGRAMS:-}" ] && [ -x "$at" ] && command -v rt >/dev/null && unfit "$1" >/dev/null && by_kit "$1" || return 0
+    record_sources "$1"
 }
 
 # build NAME: proves and builds a program, unless it is the proved one of the sources. NAME.sources is next to it then.
@@ -83,48 +124,43 @@ build() {
         return 1
     fi
     echo "${0##*/}: $why; building $1: a first proof of all crates takes long" >&2
-    before=$(sources_sum "${with_proofs[@]}")
+    before=$(sources_sum proofs "${with_proofs[@]}")
     # On a terminal the lines of the toolchain are the progress of the proof.
     [ ! -t 2 ] || said=/dev/stderr
     (cd "$top/crates/$1" && rt run </dev/null >"$said") || return 1
-    if [ "$(sources_sum "${with_proofs[@]}")" != "$before" ]; then
+    if [ "$(sources_sum proofs "${with_proofs[@]}")" != "$before" ]; then
         echo "${0##*/}: the sources were changed during the build; run it again" >&2
         return 1
     fi
-    sum_line "$1" >"$(program "$1").sources"
+    record_sources "$1"
     ! why=$(unfit "$1") || { echo "${0##*/}: $why" >&2 && return 1; }
 }
 
-# unproved: prints the folder of the programs that are built without a proof of the sources as they are. Git ignores it.
+# unproved: prints the folder of the programs that are built without a proof, by this kit, of the sources as they are. Git ignores
+# it.
 unproved() {
-    echo "$top/out/unproved/$(sources_sum "${without_proofs[@]}" | cut -c -16)"
+    local sum kit
+    sum=$(sources_sum unproved "${without_proofs[@]}" tools/lib/nethrywel_tools/kit.py)
+    kit=$(readlink -f "$(type -P rt)")
+    [ ! -e "${kit%/bin/rt}/WHAT" ] || kit=$(sha256sum <"${kit%/bin/rt}/WHAT")
+    echo "$top/out/unproved/${sum:0:16}-${kit:0:8}"
 }
 
-# build_unproved NAME: builds a program without a proof, as `rt try` does, and keeps it in the folder that `unproved` prints.
+# is_kept PROGRAM: whether an unproved program is kept, and whole.
+is_kept() {
+    [ -x "$1" ] && [ -e "$1.size" ] && [ "$(stat -c %s "$1")" = "$(<"$1.size")" ]
+}
+
+# build_unproved FOLDER NAME..: builds programs without a proof, side by side, and keeps them in the folder that `unproved` prints.
 build_unproved() {
-    local name=$1 to work copying counting options=(check)
-    to=$(unproved)
-    [ ! -x "$to/$name" ] || return 0
+    local to=$1 name missing=()
+    for name in "${@:2}"; do
+        is_kept "$to/$name" || missing+=("$name")
+    done
+    [ ${#missing[@]} != 0 ] || return 0
     if ! command -v rt >/dev/null; then
-        echo "$name can't be built: rt, the toolchain's command, isn't on the path" >&2
+        echo "${missing[*]} can't be built: rt, the toolchain's command, isn't on the path" >&2
         return 1
     fi
-    echo "building $name without a proof, once: some minutes" >&2
-    work=$(mktemp -d) && mkdir -p "$to" && mkfifo "$work/list" || return 1
-    [ "$name" = nethrywel ] || options=(--check)
-    # `rt try` removes the program at its end. So the program is copied while it waits for its start list, which is a pipe.
-    (
-        exec 9>"$work/list"
-        cp "$(find "$work" -name program -type f)" "$to/$name.$$" && mv "$to/$name.$$" "$to/$name"
-    ) &
-    copying=$!
-    (while [ -t 2 ] && sleep 1; do printf '\r%s: %s s' "$name" "$SECONDS" >&2; done) &
-    counting=$!
-    (cd "$top/crates/$name" && TMPDIR=$work rt try -- "${options[@]}" "$work/list") </dev/null >"$work/said" 2>&1
-    kill "$copying" "$counting" 2>/dev/null
-    wait "$copying" "$counting" 2>/dev/null
-    [ ! -t 2 ] || printf '\r\033[K' >&2
-    [ -x "$to/$name" ] || cat "$work/said" >&2
-    rm -rf "$work"
-    [ -x "$to/$name" ]
+    by_kit --keep "$to" "${missing[@]}"
 }

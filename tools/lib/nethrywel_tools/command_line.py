@@ -1,6 +1,8 @@
 """The command line of a tool, its faults and its progress."""
 import argparse
+import contextlib
 import os
+import signal
 import sys
 
 
@@ -29,6 +31,45 @@ class Help(argparse.RawDescriptionHelpFormatter):
         super().start_section({"positional arguments": "Arguments", "options": "Options"}.get(heading, heading))
 
 
+def seconds(text):
+    """Returns the limit of a run: more than 0 seconds, and at most a year."""
+    if not 0 < float(text) <= 366 * 86400:
+        raise ValueError(text)
+    return float(text)
+
+
+def escaped(text):
+    """Returns a text for a terminal, with escapes for control characters and for bytes that aren't UTF-8."""
+    return "".join(it if it.isprintable() else it.encode("unicode_escape").decode() for it in text)
+
+
+def complain(text):
+    """Prints a line on standard error."""
+    print(escaped(text), file=sys.stderr)
+
+
+@contextlib.contextmanager
+def naming(path):
+    """Gives a failure of the operating system the path of what is written."""
+    try:
+        yield
+    except OSError as fault:
+        raise OSError(fault.errno, fault.strerror, path) from fault
+
+
+def say(text):
+    """Prints a line on standard output at once."""
+    with naming("standard output"):
+        print(text, flush=True)
+
+
+def interrupt(*_):
+    """Ends a tool by a signal; a second one doesn't disturb what the tool removes then."""
+    for it in (signal.SIGHUP, signal.SIGTERM):
+        signal.signal(it, signal.SIG_IGN)
+    raise KeyboardInterrupt
+
+
 def argument(*names, **settings):
     """Returns an argument of a tool, as argparse takes it."""
     return names, settings
@@ -50,20 +91,28 @@ def given_in(usage, about, arguments):
 
 def main(usage, about, work, *arguments, at_interrupt=130):
     """Runs a tool with what its command line gives, and ends with the status that it returns. A fault is printed with the tool's
-    name, and so is a package of Python that isn't installed; an interrupt has a status of its own."""
+    name, and so is a package of Python that isn't installed; an interrupt, a hangup and SIGTERM have a status of their own."""
+    # (a stream that is closed is None)
+    sys.stdout, sys.stderr = (it or open(os.devnull, "w") for it in (sys.stdout, sys.stderr))
+    sys.stdout.reconfigure(errors="backslashreplace")
     name, given = given_in(usage, about, arguments)
+    for it in (signal.SIGHUP, signal.SIGTERM):
+        # (one that is ignored, as by nohup, stays so)
+        if signal.getsignal(it) == signal.SIG_DFL:
+            signal.signal(it, interrupt)
     try:
         status = work(given) or 0
     except (Fault, ModuleNotFoundError) as it:
         fault = it if isinstance(it, Fault) else Missing(f"python3-{it.name}")
-        print(f"{name}: {fault}", file=sys.stderr)
+        complain(f"{name}: {fault}")
         status = fault.status
-    except BrokenPipeError:
-        os.dup2(os.open(os.devnull, os.O_WRONLY), sys.stdout.fileno())
-        status = 141
     except OSError as it:
-        print(": ".join([name, *filter(None, (it.filename, it.strerror))]), file=sys.stderr)
-        status = 1
+        is_unread = isinstance(it, BrokenPipeError)
+        if not is_unread:
+            complain(": ".join([name, *map(os.fsdecode, filter(None, (it.filename, it.strerror)))]))
+        # (what is left of the output isn't tried again at the end)
+        os.dup2(os.open(os.devnull, os.O_WRONLY), sys.stdout.fileno())
+        status = 141 if is_unread else 1
     except KeyboardInterrupt:
         status = at_interrupt
     sys.exit(status)

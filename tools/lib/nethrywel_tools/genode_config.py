@@ -18,10 +18,13 @@ class Concern(Enum):
     BUDGETS = "budgets"
 
 
-CONCERNS = {**dict.fromkeys(("service", "local"), Concern.ROUTING), **dict.fromkeys(("preserve", "resource"), Concern.BUDGETS)}
+CONCERNS = {
+    **dict.fromkeys(("service", "local", "include"), Concern.ROUTING),
+    **dict.fromkeys(("preserve", "resource"), Concern.BUDGETS),
+}
 REASONS = {
     **dict.fromkeys(("priority", "prio_levels", "affinity", "affinity-space", "heartbeat"), ": time isn't modelled"),
-    "configfile": ": its text isn't in this file",
+    **dict.fromkeys(("configfile", "include"), ": its text isn't in this file"),
     "service": ": an init provides no service here",
 }
 
@@ -143,17 +146,39 @@ class Reader:
             text = f"{what} of `<{element.name}>` isn't carried over{REASONS.get(name, '')}"
             self.note(owner, place, text, CONCERNS.get(name, concern), service)
 
+    def again(self, owner, found: list[Element], which: str, concern: Concern):
+        """Notes each element after the first one of those that are expected once, with which of them counts."""
+        for it in found[1:]:
+            names = {"resource": "amount of RAM", "alias": f"`<alias>` of the name `{it.attributes.get('name')}`"}
+            self.note(owner, it.place, f"one more {names.get(it.name, f'`<{it.name}>`')}: {which} here", concern)
+
+    def first(self, owner, element: Element, name: str, concern=Concern.ROUTING) -> Element | None:
+        """Returns the first element of a name in an element; each further one is a note."""
+        found = element.all(name)
+        self.again(owner, found, "the first one counts", concern)
+        return found[0] if found else None
+
+    def services_in(self, owner, element: Element, name: str) -> list[Element]:
+        """Returns the services that elements of a name list together."""
+        found = element.all(name)
+        self.again(owner, found, "all of them count", Concern.ROUTING)
+        for it in found:
+            self.leave(owner, it, (), ("service",), Concern.ROUTING)
+        return element.all(name, "service")
+
     def init_of(self, config: Element, owner: Component | None, depth: int) -> Init:
         if depth > DEPTH:
             raise WrongText(f"expected inits nested at most {DEPTH} deep, found one more", owner.place)
         self.leave(owner, config, (), ("parent-provides", "default", "default-route", "alias", "start"))
-        default = config.first("default") or Element("default", {}, config.place)
+        default = self.first(owner, config, "default", Concern.BUDGETS) or Element("default", {}, config.place)
         self.leave(owner, default, ("caps", "ram"))
-        services = {it.text("name") for it in config.all("parent-provides", "service")}
-        made = Init(owner, services, {it.text("name"): it.text("child") for it in config.all("alias")})
+        services = {it.text("name") for it in self.services_in(owner, config, "parent-provides")}
+        made, aliases = Init(owner, services, {it.text("name"): it.text("child") for it in config.all("alias")}), config.all("alias")
+        for name in made.aliases:
+            self.again(owner, [it for it in aliases if it.text("name") == name], "the last one counts", Concern.ROUTING)
         for it in config.all("start"):
             self.start(it, made, default, depth)
-        route = config.first("default-route")
+        route = self.first(owner, config, "default-route")
         made.default_route = self.route_of(route, owner) if route else []
         routes = [(owner, made.default_route), *((it, it.route or []) for it in made.components)]
         for of, rule in ((it, rule) for it, route in routes for rule in route):
@@ -168,15 +193,17 @@ class Reader:
         home.components.append(made)
         self.leave(made, start, ("name", "caps", "ram"), ("binary", "resource", "provides", "route", "config"))
         self.budget(start, made, default)
-        for it in start.all("provides", "service"):
+        for it in self.services_in(made, start, "provides"):
             self.leave(made, it, ("name",))
             if not re.fullmatch(NAME, it.text("name")):
                 found = it.text("name")
                 raise WrongText(f"expected a service of 1 to 32 letters, digits, `_`, `-` and `.`, found `{found}`", it.place)
             made.provides += [it.text("name")] * (it.text("name") not in made.provides)
-        route, config, binary = start.first("route"), start.first("config"), start.first("binary")
+        route, binary = self.first(made, start, "route"), self.first(made, start, "binary")
         made.route = self.route_of(route, made) if route else None
-        if (binary.text("name") if binary else made.name) != "init":
+        is_init = (binary.text("name") if binary else made.name) == "init"
+        config = self.first(made, start, "config", Concern.ROUTING if is_init or made.provides else Concern.NOTHING)
+        if not is_init:
             self.leave_config(made, config)
         elif config:
             for it in made.provides:
@@ -189,6 +216,8 @@ class Reader:
     def budget(self, start: Element, made: Component, default: Element):
         """Reads RAM and capabilities: those of the start node, or the defaults of its init."""
         ram, caps = number_of(start, "ram", True), number_of(start, "caps", False)
+        amounts = [it for it in start.all("resource") if it.text("name") == "RAM"]
+        self.again(made, [*[start] * (ram is not None), *amounts], "the last one counts", Concern.BUDGETS)
         for it in start.all("resource"):
             if it.text("name") == "RAM":
                 self.leave(made, it, ("name", "quantum"), (), Concern.BUDGETS)

@@ -77,6 +77,9 @@ class Port:
     def client(self, it: Component, route: list[ListRule] | None) -> Entry:
         ram = it.ram if self.scale == 1 else it.ram // self.scale // PAGE * PAGE
         made = Entry(self.names[it.home].clients[it], "init" if it.inner else "script", ram, it.caps // self.scale, route=route)
+        for old, new, unit in ((it.ram, made.ram, "bytes"), (it.caps, made.caps, "capabilities")):
+            if old and not new:
+                self.note(it, f"`{it.name}`: its {old} {unit} become 0, divided by {self.scale}", Concern.BUDGETS)
         if it.inner:
             self.fill(made, it.inner)
             ram, caps = sum(one.ram for one in made.entries), sum(one.caps for one in made.entries)

@@ -131,6 +131,8 @@ class Routes:
         for rule in client.rules:
             if rule.service not in (None, *self.services):
                 self.left[rule] = client
+            elif rule.service and len(rule.targets) > 1:
+                self.read_on(client, rule)
             asked = [it for it in self.services if it not in decided and rule.service in (None, it)]
             found = {it: to for it in asked if (to := self.member(client, rule, it))}
             is_wide = rule.service is None and found and len(found) == len(asked) and len(set(found.values())) == 1
@@ -143,6 +145,12 @@ class Routes:
         while made and not client.home.owner and made[-1].target[0] == TargetKind.PARENT.value:
             made.pop()
         return made
+
+    def read_on(self, client: Component, rule: RouteRule):
+        """Notes which of several targets of a node of one service decides. It is one on routing if the first target doesn't."""
+        is_later = target_of(rule, client.home, rule.service) not in (None, rule.targets[0])
+        text = f"`<service>` with {len(rule.targets)} targets: the first that provides `{rule.service}` decides here"
+        self.note(client, rule, text, Concern.ROUTING if is_later else Concern.NOTHING)
 
     def member(self, client: Component, rule: RouteRule, service: str) -> tuple[str, str | bool] | None:
         """Returns the member of a rule that has a target, with its value."""
@@ -164,8 +172,8 @@ class Routes:
             return "child", names.servers[child, child.provides[0]] if child.provides else names.clients[child]
         return "child", nobody if unknown in names.taken else unknown or nobody
 
-    def note(self, client: Component, rule: RouteRule, text: str):
-        self.notes.append(Note(client, rule.place, text, Concern.ROUTING))
+    def note(self, client: Component, rule: RouteRule, text: str, concern=Concern.ROUTING):
+        self.notes.append(Note(client, rule.place, text, concern))
 
     def here(self, it: Component) -> str:
         """Returns the name that labels of a component have in the start list."""

@@ -7,7 +7,7 @@ from xml.sax.handler import ContentHandler
 
 from .command_line import Fault
 
-MOST_BYTES, MOST_ELEMENTS, MOST_DEPTH = 1 << 20, 10_000, 64
+MOST_ELEMENTS, MOST_DEPTH = 10_000, 64
 
 
 class Place(NamedTuple):
@@ -75,13 +75,11 @@ class Builder(ContentHandler):
 
 
 def parse(data: bytes) -> Element:
-    """Returns the outermost element of a text. A text of over 1 MiB is refused, and so are over 10,000 elements, over 64 nested
-    ones, a document type, and XML that isn't well-formed."""
+    """Returns the outermost element of a text. Over 10,000 elements are refused, and so are over 64 nested ones, a document type,
+    an encoding that the parser doesn't have, and XML that isn't well-formed."""
     from defusedxml.common import DefusedXmlException
     from defusedxml.sax import make_parser
 
-    if len(data) > MOST_BYTES:
-        raise WrongText(f"expected at most {MOST_BYTES} bytes, found {len(data)}")
     parser = make_parser()
     parser.forbid_dtd, builder = True, Builder(parser)
     parser.setContentHandler(builder)
@@ -91,6 +89,6 @@ def parse(data: bytes) -> Element:
         raise WrongText("expected no document type and no entities, found some", builder.place()) from fault
     except SAXParseException as fault:
         raise WrongText(f"invalid XML: {fault.getMessage()}", builder.place()) from fault
-    except LookupError as fault:
-        raise WrongText(f"invalid XML: {fault}") from fault
+    except (LookupError, ValueError) as fault:
+        raise WrongText(f"invalid XML: {fault}", builder.place()) from fault
     return builder.root

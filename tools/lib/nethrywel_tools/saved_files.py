@@ -4,8 +4,9 @@ import fcntl
 import os
 import re
 
-from .files import bytes_at, sum_of, write_whole
+from .files import SCENARIO_BYTES, TEXT_BYTES, bytes_at, sum_of, write_whole
 
+MOST = {"list": TEXT_BYTES, "policy": TEXT_BYTES, "scenario": SCENARIO_BYTES}
 END = re.compile(r"\r\n?|\n")
 
 
@@ -32,10 +33,10 @@ def with_ends_of(old, new):
     return text if END.split(text) == lines else usual.join(lines)
 
 
-def bytes_of(path):
-    """Returns what a file has, or None if there is none."""
+def bytes_of(path, name):
+    """Returns what a file has of the text of a name, or None if there is none."""
     with contextlib.suppress(FileNotFoundError):
-        return bytes_at(path)
+        return bytes_at(path, MOST[name])
 
 
 def sum_or_none(data):
@@ -62,7 +63,7 @@ class Files:
     def read(self):
         """Returns the texts of the files, and the sums of those that can be saved; one that isn't UTF-8 would be another
         afterwards."""
-        found = {name: bytes_of(path) or b"" for name, path in self.paths.items()}
+        found = {name: bytes_of(path, name) or b"" for name, path in self.paths.items()}
         texts = {name: data.decode(errors="replace") for name, data in found.items()}
         return texts, {name: sum_of(data) for name, data in found.items() if texts[name].encode() == data}
 
@@ -70,7 +71,7 @@ class Files:
         """Saves each file whose sum is given, or none of them, and returns their sums. A file that has another sum and another
         text than the new one was changed by somebody else."""
         with locked({os.path.dirname(self.paths[name]) for name in sums}):
-            now = {name: bytes_of(self.paths[name]) for name in sums}
+            now = {name: bytes_of(self.paths[name], name) for name in sums}
             old = {name: (data or b"").decode(errors="replace") for name, data in now.items()}
             new = {name: with_ends_of(old[name], texts[name]).encode(errors="replace") for name in sums}
             other = [name for name in sums if now[name] != new[name]]

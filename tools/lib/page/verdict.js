@@ -33,7 +33,10 @@
     if (!least.accounts.length) return [line("note", "which budgets suffice isn't known", "budgets")];
     const short = least.accounts.filter((it) => it.short);
     if (!short.length) return [line("good", "each budget and each donation suffices", "budgets")];
-    return short.slice(0, 12).map((it) => line("bad", `${it.session ? `${it.name}/${it.session} (line ${it.line})` : it.name}: ${it.printed.find((one) => one.startsWith("given ")) || it.printed[0]}`, "budgets"))
+    const name = (it) => (it.session ? `${it.name}/${it.session} (line ${it.line})` : it.name);
+    const why = (it) => (it.rows.length ? it.printed.find((one) => one.startsWith("given ")) || it.printed[0]
+      : `${it.printed[0]}: even the largest machine refuses a call, which is right for an attacker`);
+    return short.slice(0, 12).map((it) => line("bad", `${name(it)}: ${why(it)}`, "budgets"))
       .concat(short.length > 12 ? [line("bad", `${short.length - 12} more budgets fall short`, "budgets")] : []);
   };
 
