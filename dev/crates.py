@@ -12,6 +12,17 @@ def text_of(path):
     return (TOP / path).read_text(encoding="utf-8")
 
 
+def page_text(crate):
+    """Returns the text of a crate's `lib.rt` or `main.rt`."""
+    files = (f"crates/{crate}/src/{name}.rt" for name in ("lib", "main"))
+    return text_of(next(it for it in files if (TOP / it).exists()))
+
+
+def page_of(text):
+    """Returns the page of a crate: the lines `//!` with which its text begins."""
+    return "\n".join(it[3:].removeprefix(" ") for it in re.match(r"(?://!.*\n)*", text)[0].splitlines())
+
+
 def believed_files():
     """Returns the files of definitions on which the statement of `boot_and_run` rests, each after those that it uses, with the number
     of their lines that are neither blank nor comments; and the modules of the toolchain's libraries that these files use."""

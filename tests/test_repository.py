@@ -74,11 +74,21 @@ def test_version(nethrywel):
 
 
 @needs("jinja2", "networkx")
-@pytest.mark.parametrize("words", ["check-documents {}", "steps", "crate-graph --check", "theorems --check"])
+@pytest.mark.parametrize("words", ["check-documents {}", "steps", "crate-graph --check", "theorems"])
 def test_documents(nethrywel, words):
     """Links, words, quotes and scenarios of documents, step lists, the picture of the crates, and the places of the theorems."""
     name, *words = words.format(nethrywel.path).split()
     tool(f"dev/{name}")(*words).ok()
+
+
+@needs("networkx")
+def test_theorems():
+    """A name has its place, its clauses, its definitions, its callers and its promises; a crate its page, items and users."""
+    for name, shown in (("boot_and_run", ["crates/cli_engine/src/program.rt:", "    done :", "IsDone (crates/", "scenario_run: ",
+                                          "promise docs/reference/promises.md:"]),
+                        ("quota_core", ["crate quota_core:\n    The books", "Books (crates/quota_core/src/books.rt:", "\nused by:\n"])):
+        found = tool("dev/theorems")(name).ok()
+        assert all(it in found for it in shown)
 
 
 @pytest.mark.parametrize("edit", [*TOP.glob("attacks/*/*.edit"), *TOP.glob("crates/*/must-fail/*.edit")],
