@@ -1,4 +1,5 @@
-//! What the commands of `nethrywel` share: files and streams, settings, machines, diagnostics and exit statuses.
+//! What the commands of `nethrywel` share: files and streams, settings, machines, diagnostics and exit statuses. A command is given
+//! its `Host`; a proof may use one that states its arguments and the bytes of its files.
 //!
 //! The crates `cli_lists`, `cli_runs`, `cli_budgets` and `cli_tests` and the program `nethrywel` call it.
 //! `scenario_text(host, form, path)` reads a scenario, or prints why it can't and returns the exit status.

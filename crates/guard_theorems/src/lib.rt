@@ -1,7 +1,8 @@
 //! Theorems about servers that pay for their sessions from accounts of their own, as servers do in Genode.
 //!
-//! The theorems are about the one-client model of `own_model` and do nothing at run time. A server with a guard and a heap
-//! for each session answers as the model does: `guarded_servers_answer_alike`.
+//! The theorems are about the one-client model of `own_model` and do nothing at run time; no crate uses them. A server with a guard
+//! and a heap for each session answers as the model does: `guarded_servers_answer_alike`. One heap for all sessions of a server isn't
+//! modelled.
 #![tactic(auto)]
 
 mod debts;

@@ -1,7 +1,8 @@
-//! Names in a scenario: their values, the filling of lines, the bindings of replies, and the lines that begin with `@`.
+//! Names in a scenario: their values, the filling of lines, the bindings of replies, and the lines that begin with `@`. How much a
+//! reply has bound after the host refused memory isn't stated.
 //!
-//! `line_steps`, `run_scenario`, `budget_least` and `run_record` call it for each line. For example `fill(line, known, room)?` makes `alice
-//! free 3` of `alice free $page`, if the value of `page` is 3.
+//! `line_steps`, `run_scenario`, `budget_least` and `run_record` call it for each line. For example `fill(line, known, room)?` makes
+//! `alice free 3` of `alice free $page`, if the value of `page` is 3.
 #![tactic(auto)]
 
 mod bound_names;

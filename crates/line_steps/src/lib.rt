@@ -1,9 +1,9 @@
-//! The steps of a run through the lines of a scenario: the position of the run, and each line with the values of its names. The run
-//! of a scenario, its recording and the search for its minimum budgets call this crate.
+//! The steps of a run through a scenario: the position, and each line with the values of its names. The run of a scenario, its
+//! recording and the search for its minimum budgets call it.
 //!
-//! `RunPosition::new(known, marks)?` is the position before the first line. For each line, `resolve(None, position.known(), line,
-//! buffers)` returns what the line is, `position.pass()` returns its number, and after the line `position.arrive()?` enters and
-//! leaves the rounds there.
+//! Example: `RunPosition::new(known, marks)?` is before the first line. For each line, `resolve(None, position.known(), line,
+//! buffers)` returns what the line is, `position.pass()` its number, and then `position.arrive()?` enters and leaves the rounds
+//! there.
 #![tactic(auto)]
 
 mod line_resolution;

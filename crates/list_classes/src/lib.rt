@@ -1,4 +1,5 @@
-//! Classes of labels that no rule separates, and a set of classes in words. `list_reach` calls it, for example
+//! Classes of labels that no rule separates, and a set of classes in words. A class is one label that a rule distinguishes, or all
+//! other labels with the same longest beginning and the same longest ending that rules ask for. `list_reach` calls it, for example
 //! `LabelClasses::of(alloc, Some(requests), None)?`, and then `described(alloc, &classes, inside)?`.
 #![tactic(auto)]
 

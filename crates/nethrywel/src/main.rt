@@ -1,5 +1,5 @@
-//! The program for people: reads the arguments, calls the function of the command, and ends with the exit status that this
-//! returns.
+//! The program for people: reads the arguments, calls the function of the command, and ends with the exit status that this returns.
+//! Example: `nethrywel run SCENARIO` is `run_scenario` of `cli_runs`.
 #![tactic(auto)]
 
 ghost use Rattle.std.specs.Prelude.{◌≡◌, ◌≢◌, ◌⊎◌, ◌&&◌, ℕ, List, IfSome, is_none, is_some, map, string_bytes};

@@ -1,7 +1,8 @@
 //! The one-client model: what each component observes of the machine, stated over lists and finite maps.
 //!
-//! The definitions are in `specs/`. The functions of this crate state theorems about them and do nothing at run time.
-//! Proofs of other crates use them; for example, `lines_are_independent` states isolation.
+//! The definitions are in `specs/`, and contracts of nearly all crates cite them. The functions of this crate state theorems about
+//! them and do nothing at run time; for example, `lines_are_independent` states isolation. Worked inputs that compute are in
+//! `src/rows.rt`.
 #![tactic(auto)]
 
 mod accounts;

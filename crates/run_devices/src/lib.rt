@@ -1,5 +1,6 @@
-//! The devices of a run: sources and sinks, readers and writers as devices, and the buffer of bytes that are still to be
-//! written.
+//! The devices of a run: sources and sinks, readers and writers as devices, and the buffer of bytes that are still to be written.
+//! Every run and every command that prints uses it. A device that failed isn't asked again. Example: `Input::new(reader)` is a
+//! reader as a source.
 #![tactic(auto)]
 
 mod bytes;

@@ -1,4 +1,5 @@
-//! The program `scenario_run`: reads a scenario's lines from standard input and prints each reply on standard output.
+//! The program `scenario_run`: reads a scenario's lines from standard input and prints each reply on standard output. Example:
+//! `scenario_run LIST <SCENARIO`. Its root exports what a user of the engine as a library needs, all of it from `cli_engine`.
 #![tactic(auto)]
 
 pub use cli_engine::{

@@ -1,4 +1,5 @@
-//! Values that people read, as documents of JSON for programs.
+//! Values that people read, as documents of JSON for programs. Members of an object are in the order of their names, and bytes that
+//! aren't UTF-8 are U+FFFD.
 //!
 //! The commands with `--json` call it: `listing.add(&[("line", JsonField::Number(3))])` adds an object to a list.
 #![tactic(auto)]
