@@ -45,6 +45,12 @@ def believed_files():
     return lines, sorted(modules)
 
 
+def layers():
+    """Returns each layer of crates.txt with its crates; its headlines are `## LAYER: ..`."""
+    parts = re.split(r"^## (.*?):.*$", text_of("crates.txt"), flags=re.M)
+    return [(layer, re.findall(r"^(\w+):", rows, re.M)) for layer, rows in zip(parts[1::2], parts[2::2])]
+
+
 def crate_graph():
     """Returns the graph of crates.txt: from each crate to those in its line, without libraries of the toolchain."""
     from networkx import DiGraph
