@@ -33,9 +33,12 @@ def test_unknown_argument(name, word):
     assert documents() == before
 
 
+@needs("git")
 def test_nethrywel_tool(nethrywel):
-    """tools/nethrywel runs the built program, with its status."""
-    assert tool("tools/nethrywel")("--version").out == nethrywel("--version").out
+    """tools/nethrywel runs the built program, with its status. Its version has that of the sources next to it."""
+    shown, commit = nethrywel("--version").out.strip(), run("git", "rev-parse", "--short=12", "HEAD", cwd=TOP)
+    known = rf"\+g{commit.out.strip()}(\.changed)?" if (TOP / ".git").exists() and commit.status == 0 else ""
+    assert re.fullmatch(rf"{shown} \(sources {shown.split()[1]}{known}\)\n", tool("tools/nethrywel")("--version").out)
     assert tool("tools/nethrywel")("check", "/missing").status == 2
 
 
@@ -69,7 +72,7 @@ def test_progress(nethrywel, tmp_path, name, shown):
 
 
 def test_version(nethrywel):
-    version = re.search(r"^## (.*)$", (TOP / "CHANGELOG.md").read_text(), re.M)[1]
+    version = re.search(r"^## (\d[\d.]*)", (TOP / "CHANGELOG.md").read_text(), re.M)[1]
     assert nethrywel("--version") == (0, f"nethrywel {version}\n", "")
 
 

@@ -35,6 +35,18 @@ ready() {
     echo "$found"
 }
 
+# sources_version: prints the last version in CHANGELOG.md, with the commit (1.0+gSHA) if the repository has one, and `.changed` if
+# a file differs from it.
+sources_version() {
+    local version commit
+    version=$(sed -n '/^## \([0-9][0-9.]*\).*/{s//\1/p;q}' "$top/CHANGELOG.md")
+    if [ -e "$top/.git" ] && commit=$(git -C "$top" rev-parse --short=12 HEAD 2>/dev/null); then
+        version+=+g$commit
+        git -C "$top" diff --quiet HEAD -- || version+=.changed
+    fi
+    echo "$version"
+}
+
 # What the programs are built from: with proofs, and without them.
 with_proofs=(crates.txt "crates/*/src" "crates/*/specs" "crates/*/proofs") without_proofs=(crates.txt "crates/*/src")
 
