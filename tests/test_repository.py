@@ -77,11 +77,20 @@ def test_version(nethrywel):
 
 
 @needs("jinja2", "networkx")
-@pytest.mark.parametrize("words", ["check-documents {}", "steps", "crate-graph --check", "theorems"])
+@pytest.mark.parametrize("words", ["check-documents {}", "crate-graph --check", "theorems"])
 def test_documents(nethrywel, words):
-    """Links, words, quotes and scenarios of documents, step lists, the picture of the crates, and the places of the theorems."""
+    """Links, words, quotes and scenarios of documents, the picture of the crates, and the places of the theorems."""
     name, *words = words.format(nethrywel.path).split()
     tool(f"dev/{name}")(*words).ok()
+
+
+@needs("networkx")
+def test_steps():
+    """The files that a new call joins are in the order of work."""
+    found = [it.split(" ")[0] for it in tool("dev/steps")("Call::Detach").ok().splitlines()]
+    crates = "own_model/specs/OwnStep.antt own_model/proofs/StepTableLemmas.antt core_calls/src/call.rt pd_core/src/script.rt"
+    places = [found.index(f"crates/{it}") for it in [*crates.split(), "line_grammar/src/line.rt"]]
+    assert places == sorted(places) and len(found) == len(set(found))
 
 
 @needs("networkx")
