@@ -96,7 +96,7 @@ def test_steps():
 @needs("networkx")
 def test_theorems():
     """A name has its place, its clauses, its definitions, its callers and its promises; a crate its page, items and users."""
-    for name, shown in (("boot_and_run", ["crates/cli_engine/src/program.rt:", "    done :", "IsDone (crates/", "scenario_run: ",
+    for name, shown in (("boot_and_run", ["crates/cli_engine/src/program.rt:", "    ensures done {", "IsDone (crates/", "scenario_run: ",
                                           "promise docs/reference/promises.md:"]),
                         ("quota_core", ["crate quota_core:\n    The books", "Books (crates/quota_core/src/books.rt:", "\nused by:\n"])):
         found = tool("dev/theorems")(name).ok()
