@@ -163,8 +163,9 @@ def test_commands_of_page(page):
 def test_pictures(tmp_path):
     """The pictures of the documents are drawn again, each whole."""
     tool("dev/pictures")(tmp_path).ok()
-    assert sorted(it.name for it in tmp_path.iterdir()) == ["crawler.svg", "desk.png", "labels.svg"]
-    assert (tmp_path / "labels.svg").read_text() == (EXAMPLES / "pictures/labels.svg").read_text()
+    assert sorted(it.name for it in tmp_path.iterdir()) == ["crawler.svg", "desk.png", "labels.svg", "machine.svg", "theorem.svg"]
+    for name in ("labels.svg", "machine.svg", "theorem.svg"):
+        assert (tmp_path / name).read_text() == (EXAMPLES / "pictures" / name).read_text()
     assert "PNG image data, 1500 x 1187" in run("file", tmp_path / "desk.png").out
 
 
