@@ -4,9 +4,10 @@ ghost use Rattle.cli_base.specs.Files.{IsFrontAt, IsTextAt, IsTooLong, IsUnknown
 ghost use Rattle.cli_base.specs.declared.host.ReadFailure.TheVariants.{NoMemory as NoRoom};
 
 use crate::host::{Host, ReadFailure};
-use crate::reports::{Spot, SystemReason, report_error};
-use crate::status::{OUT_OF_MEMORY, REFUSED, UNWRITTEN};
+use crate::reports::{Spot, SystemReason, report_error, summarize_errors};
+use crate::status::{OUT_OF_MEMORY, REFUSED, StopMessage, UNWRITTEN};
 use list_parser::LONGEST_TEXT;
+use run_lines::{LineRunFault, MAX_LINES};
 use std::alloc::AllocError;
 use std::fmt;
 use view_diagnostics::DiagnosticForm;
@@ -71,28 +72,67 @@ pub fn read_whole<H: Host>(host: &H, path: &str) -> Result<Option<Vec<u8>>, Allo
         IsTextAt (H.text_at host.now) path.now text.items)) }
     ensures unread { IfOk result (λ found. IfNone found (IsTooLong (H.text_at host.now) path.now)) }
 {
-    match host.read(path, Some(LONGEST_WHOLE + 1)) {
-        Ok(text) if text.len() > LONGEST_WHOLE => Ok(None),
-        Ok(text) => Ok(Some(text)),
+    match read_bounded(host, path) {
+        Ok(found) => Ok(found),
         Err(ReadFailure::NoMemory) => Err(AllocError),
         Err(ReadFailure::Closed(_) | ReadFailure::Broken) => Ok(None),
     }
 }
 
-/// Reads the text of a scenario to its end. If that fails, prints why, and returns the exit status: 2 if the file can't be
-/// opened, else 1.
+/// Reads the text of a scenario to its end: at most 64 MiB, and as many lines as a run may have. If that fails, prints why, and
+/// returns the exit status: 2 if the file can't be opened, else 1.
 pub fn scenario_text<H: Host>(host: &H, form: DiagnosticForm, path: &str) -> Result<Vec<u8>, u8>
     ensures text { IfOk result (λ text. IsTextAt (H.text_at host.now) path.now text.items) }
     ensures failed { IfErr result
         (λ status. (status ≡ 1) ⊎ (status ≡ 2) × IsUnknown (H.text_at host.now) path.now) }
 {
-    match host.read(path, None) {
-        Ok(text) => Ok(text),
+    let rt = host.rt();
+    match read_bounded(host, path) {
+        Ok(Some(text)) if has_most_lines(&text) => Ok(text),
+        Ok(Some(_)) => {
+            let spot = Spot::line(path, MAX_LINES + 1);
+            Err(refuse_long(rt, form, spot, &StopMessage(LineRunFault::TooManyLines)))
+        }
+        Ok(None) => Err(refuse_long(rt, form, Spot::file(path), &"more than 64M bytes")),
         Err(why) => {
-            report_error(host.rt(), form, Spot::nowhere(), &why.about(path));
+            report_error(rt, form, Spot::nowhere(), &why.about(path));
             Err(failure_status(why))
         }
     }
+}
+
+// Reads a file to its end. Returns none if it has more than 64 MiB.
+fn read_bounded<H: Host>(host: &H, path: &str) -> Result<Option<Vec<u8>>, ReadFailure>
+    ensures text { IfOk result (λ found. IfSome found (λ text.
+        IsTextAt (H.text_at host.now) path.now text.items)) }
+    ensures long { IfOk result (λ found. IfNone found (IsTooLong (H.text_at host.now) path.now)) }
+    ensures failed { IfErr result (λ why. IfSome (H.text_at host.now path.now) (λ _. why ≡ NoRoom)) }
+{
+    match host.read(path, Some(LONGEST_WHOLE + 1)) {
+        Ok(text) if text.len() > LONGEST_WHOLE => Ok(None),
+        Ok(text) => Ok(Some(text)),
+        Err(why) => Err(why),
+    }
+}
+
+// Returns whether a text has at most as many lines as a run may have.
+fn has_most_lines(text: &[u8]) -> bool {
+    let lines = text.strip_suffix(b"\n").unwrap_or(text);
+    lines.split(|byte| *byte == b'\n').count() as u64 <= MAX_LINES
+}
+
+// Prints what a scenario has too much of, and the number of errors. Returns the exit status 1.
+fn refuse_long<D: fmt::Display>(
+    rt: &HostRuntime,
+    form: DiagnosticForm,
+    spot: Spot<'_>,
+    message: &D,
+) -> u8
+    ensures { result ≡ 1 }
+{
+    report_error(rt, form, spot, message);
+    summarize_errors(rt, form, 1);
+    UNWRITTEN
 }
 
 // Returns the exit status of a scenario that isn't read: 2 if its file can't be opened, else 1.
