@@ -1,7 +1,7 @@
-pub mod BreachTexts
-pub mod DifferenceTexts
+pub mod BreachObjects
+pub mod DifferenceObjects
 pub mod Documents
 pub mod LabelObjects
-pub mod NeedTexts
-pub mod ReachTexts
-pub mod ReplyTexts
+pub mod NeedObjects
+pub mod ReachObjects
+pub mod ReplyObjects

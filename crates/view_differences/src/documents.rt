@@ -2,7 +2,7 @@
 ghost use Rattle.std.specs.Prelude.{◌≡◌, ◌∷◌, ◌++◌, [], List, IfOk, OnOk};
 ghost use Rattle.std.specs.List.{flat_map};
 ghost use Rattle.view_json.specs.Documents.{Member, list_text, members_data};
-ghost use Rattle.view_differences.specs.DifferenceTexts.{difference_objects};
+ghost use Rattle.view_differences.specs.DifferenceObjects.{difference_objects};
 ghost use Rattle.view_differences.specs.Documents.{change_objects, front, machine_objects};
 ghost use Rattle.view_json.specs.Listings.{Extends};
 

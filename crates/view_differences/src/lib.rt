@@ -2,15 +2,14 @@
 //! `difference_lines(alloc, &found)?`.
 #![tactic(auto)]
 
-mod breach_texts;
+mod breach_documents;
 mod documents;
 mod entry_documents;
-mod entry_texts;
 mod label_sets;
 mod lines;
-mod need_texts;
-mod reach_texts;
-mod reply_texts;
+mod need_documents;
+mod reach_documents;
+mod reply_documents;
 
 pub use documents::difference_documents;
 pub use label_sets::label_documents;

@@ -1,25 +1,12 @@
-//! Breaches of a policy that one list alone has, as lines and as documents for programs.
+//! Breaches of a policy that one list alone has, as documents for programs.
 ghost use Rattle.std.specs.Prelude.{◌≡◌};
 ghost use Rattle.list_diff.specs.Breaches.{change_at};
-ghost use Rattle.view_differences.specs.BreachTexts.{breach_line, breach_objects, breach_sign};
+ghost use Rattle.view_differences.specs.BreachObjects.{breach_objects, breach_sign};
 
 use crate::documents::DifferenceDocument;
-use crate::lines::DifferenceLine;
 use list_diff::BreachChange;
 use std::alloc::{AllocError, Global};
 use view_json::{JsonField, Listing};
-
-/// A line with the number of the policy's line and the message of the breach.
-impl DifferenceLine for BreachChange<'_> {
-    ghost line = { breach_line };
-
-    fn add_line(&self, alloc: Global, out: &mut Vec<u8>) -> Result<(), AllocError> {
-        let (sign, breach) = (sign_of(self), self.breach());
-        let (line, message) = (breach.line, breach.text.as_str());
-        let text = format!(in alloc; "{sign} policy {line}: {message}\n")?;
-        out.extend_from_slice(text.as_bytes())
-    }
-}
 
 /// A document of the kind `breach` with its place in the policy.
 impl DifferenceDocument for BreachChange<'_> {
@@ -37,8 +24,8 @@ impl DifferenceDocument for BreachChange<'_> {
     }
 }
 
-// Returns the sign of the change.
-fn sign_of(change: &BreachChange<'_>) -> &'static str
+/// Returns the sign of the change.
+pub(crate) fn sign_of(change: &BreachChange<'_>) -> &'static str
     ensures { result.now ≡ breach_sign (change_at change.now).is_new }
 {
     match change {

@@ -1,12 +1,10 @@
--- Labels that are routed elsewhere, as an object of JSON and as a line.
-use Rattle.std.specs.Prelude.{◌≡◌, ℕ, Bool, List, [], ◌∷◌, ◌++◌, codes, is_some, not, String, string_bytes, ◌&&◌, if◌then◌else◌, Option, Some, None}
+-- Labels that are routed elsewhere, as an object of JSON.
+use Rattle.std.specs.Prelude.{ℕ, List, [], ◌∷◌, ◌++◌, codes, String, string_bytes, Option, Some, None}
 use Rattle.std.specs.Global.{Global}
 use Rattle.std.specs.List.{slice_get}
 use Rattle.std.specs.Option.{option_and_then, option_copied, option_map}
 use Rattle.serde_json.specs.Data.{Data}
 use Rattle.own_model.specs.Listed.{ListedEntry}
-use Rattle.list_labels.specs.Words.{is_one, labels_text}
-use Rattle.list_labels.specs.declared.pattern.LabelSet.{LabelSet}
 use Rattle.list_reach.specs.RuleTexts.{summary_text}
 use Rattle.list_reach.specs.declared.client_reach.Reach.{Reach}
 use Rattle.list_reach.specs.declared.client_reach.Reach.TheVariants.{Always, By, Never}
@@ -16,8 +14,8 @@ use Rattle.view_differences.specs.Documents.{front}
 use Rattle.view_differences.specs.LabelObjects.{labels_data}
 use Rattle.list_diff.specs.declared.moved_labels.MovedLabels.{MovedLabels}
 use Rattle.list_diff.specs.declared.reach_changes.ReachChange.{ReachChange}
-use Rattle.view_differences.specs.declared.reach_texts.MovedNames.{MovedNames}
-use Rattle.view_differences.specs.declared.reach_texts.MovedTexts.{MovedTexts}
+use Rattle.view_differences.specs.declared.reach_documents.MovedNames.{MovedNames}
+use Rattle.view_differences.specs.declared.reach_documents.MovedTexts.{MovedTexts}
 
 -- how many labels are routed to the server, and one of them if not all are
 abbrev pub reach_word : Option Reach → List ℕ
@@ -131,45 +129,3 @@ reach_object change = reach_members change (texts_of change.gained) (texts_of ch
 
 abbrev pub reach_objects : ReachChange → List (List Member)
 reach_objects change = reach_object change ∷ []
-
--- ---- the line
-
-abbrev pub witness_text : Bool → List ℕ → List ℕ
-witness_text shown witness = if shown then codes " (as \"" ++ (witness ++ codes "\")") else []
-
--- the rules, and the server to which they route or that they deny the request
-abbrev pub target_text : List ℕ → Option (List ℕ) → List ℕ
-target_text rules (Some path) = rules ++ (codes " -> " ++ path)
-target_text rules None = codes "denied by " ++ rules
-
--- a list without a route path hasn't the script
-abbrev pub route_text : Option RoutePath → List ℕ
-route_text None = codes "no such script"
-route_text (Some course) = target_text (summary_text course) (target_path course)
-
--- the words for a set of labels after a word, and a witness unless the set is one label
-abbrev pub set_words : List ℕ → LabelSet → List ℕ → List ℕ
-set_words word set witness = word ++ (codes " " ++ (labels_text set ++ witness_text (not (is_one set)) witness))
-
-abbrev pub routes_text : MovedLabels → List ℕ
-routes_text moved = codes ": " ++ (route_text moved.now ++ (codes " (was: " ++ (route_text moved.was ++ codes ")")))
-
--- nothing without a witness
-abbrev pub moved_text : List ℕ → MovedLabels → Option (List ℕ) → List ℕ
-moved_text word moved None = []
-moved_text word moved (Some witness) = set_words word moved.set.labels witness ++ routes_text moved
-
-abbrev pub lost_word : Bool → List ℕ
-lost_word is_both = if is_both then codes ", lost" else codes " lost"
-
-abbrev pub pair_text : ReachChange → List ℕ
-pair_text change =
-    codes "~ " ++ (change.client.now.path ++ (codes " " ++ (change.service.now ++ (codes " " ++ (change.server.now.path ++ codes ":")))))
-
-abbrev pub is_both : ReachChange → Bool
-is_both change = is_some change.gained.set.witness && is_some change.lost.set.witness
-
-abbrev pub reach_line : ReachChange → List ℕ
-reach_line change =
-    pair_text change ++ (moved_text (codes " gained") change.gained change.gained.set.witness
-    ++ (moved_text (lost_word (is_both change)) change.lost change.lost.set.witness ++ codes "\n"))

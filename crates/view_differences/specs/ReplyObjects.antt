@@ -1,5 +1,5 @@
--- A line that is answered differently, as an object of JSON and as a line.
-use Rattle.std.specs.Prelude.{ℕ, List, [], ◌∷◌, ◌++◌, codes, decimal, Option, Some, None}
+-- A line that is answered differently, as an object of JSON.
+use Rattle.std.specs.Prelude.{ℕ, List, [], ◌∷◌, ◌++◌, codes, Option, Some, None}
 use Rattle.std.specs.Str.Lossy.{utf8_lossy}
 use Rattle.serde_json.specs.Data.{null}
 use Rattle.run_exchanges.specs.Exchange.{Exchange}
@@ -74,38 +74,3 @@ objects_by change (Some was) (Some now) = reply_object (codes "~") change now �
 
 abbrev pub reply_objects : ReplyChange → List (List Member)
 reply_objects change = objects_by change (answer_in change.was) (answer_in change.now)
-
--- ---- the line
-
--- a call with its reply
-abbrev pub made_text : Exchange → List ℕ
-made_text made = made.name ++ (codes " " ++ (made.call ++ (codes " => " ++ made.reply)))
-
--- after a sign and the number of its line
-abbrev pub call_text : List ℕ → ℕ → Exchange → List ℕ
-call_text sign number made = (sign ++ (codes " " ++ (decimal number ++ codes ": "))) ++ made_text made
-
--- the other reply, or the reason, in parentheses
-abbrev pub other_text : List ℕ → List ℕ → List ℕ
-other_text word text = word ++ (text ++ codes ")\n")
-
--- a call that both machines answer, and one that a machine alone answers
-abbrev pub changed_line : ReplyChange → Exchange → Exchange → List ℕ
-changed_line change was now = call_text (codes "~") (number_of change.now change.was) now ++ other_text (codes " (was: ") was.reply
-
-abbrev pub added_line : ReplyChange → Exchange → List ℕ
-added_line change now =
-    call_text (codes "+") (number_of change.now change.was) now ++ other_text (codes " (was: ") (reason_in change.was)
-
-abbrev pub removed_line : ReplyChange → Exchange → List ℕ
-removed_line change was =
-    call_text (codes "-") (number_of change.now change.was) was ++ other_text (codes " (now: ") (reason_in change.now)
-
-abbrev pub line_by : ReplyChange → Option Exchange → Option Exchange → List ℕ
-line_by change None None = []
-line_by change None (Some now) = added_line change now
-line_by change (Some was) None = removed_line change was
-line_by change (Some was) (Some now) = changed_line change was now
-
-abbrev pub reply_line : ReplyChange → List ℕ
-reply_line change = line_by change (answer_in change.was) (answer_in change.now)

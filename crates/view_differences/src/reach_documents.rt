@@ -1,141 +1,16 @@
-//! Labels that are routed elsewhere, as lines and as documents for programs.
-ghost use Rattle.std.specs.Prelude.{◌≡◌, ◌∷◌, ◌++◌, [], string_bytes, IfOk, OnOk};
+//! Labels that are routed elsewhere, as documents for programs.
+ghost use Rattle.std.specs.Prelude.{◌≡◌, ◌++◌, string_bytes, IfOk};
 ghost use Rattle.std.specs.Option.{option_and_then, option_copied, option_map};
 ghost use Rattle.list_reach.specs.RuleTexts.{summary_text};
 ghost use Rattle.view_json.specs.Documents.{field_data, members_data, text_or_null};
-ghost use Rattle.view_differences.specs.ReachTexts.{is_both, lost_word, moved_members, moved_text, names_in, pair_members, pair_text, reach_front, reach_label, reach_line, reach_members, reach_objects, reach_word, reach_words, route_text, routes_text, set_words, target_path, texts_in, texts_of, witness_text};
+ghost use Rattle.view_differences.specs.ReachObjects.{moved_members, names_in, pair_members, reach_front, reach_label, reach_members, reach_objects, reach_word, reach_words, target_path, texts_in, texts_of};
 
 use crate::documents::{DifferenceDocument, front};
 use crate::label_sets::label_documents;
-use crate::lines::DifferenceLine;
 use list_diff::{MovedLabels, ReachChange};
-use list_labels::LabelSet;
 use list_reach::{Reach, RoutePath, RouteSummary};
 use std::alloc::{AllocError, Global};
 use view_json::{JsonField, JsonMember, Listing, ObjectList};
-
-/// A line with the labels that the server gains and those that it loses, each with the routes of their witness.
-impl DifferenceLine for ReachChange<'_> {
-    ghost line = { reach_line };
-
-    fn add_line(&self, alloc: Global, out: &mut Vec<u8>) -> Result<(), AllocError> {
-        add_pair(alloc, out, self)?;
-        add_moved(alloc, out, " gained", &self.gained)?;
-        add_moved(alloc, out, lost_word(is_both(self)), &self.lost)?;
-        out.extend_from_slice(b"\n")
-    }
-}
-
-// Adds the script, the service and the server.
-fn add_pair(alloc: Global, out: &mut Vec<u8>, change: &ReachChange<'_>) -> Result<(), AllocError>
-    ensures { OnOk result (out.new.items ≡ out.old.items ++ pair_text change.entry.now) }
-{
-    let (client, server) = (change.client.to_path(), change.server.to_path());
-    let (client, service, server) = (client.as_str(), change.service, server.as_str());
-    let text = format!(in alloc; "~ {client} {service} {server}:")?;
-    out.extend_from_slice(text.as_bytes())
-}
-
-// Returns whether labels are gained and others are lost.
-fn is_both(change: &ReachChange<'_>) -> bool
-    ensures { result ≡ is_both change.entry.now }
-{
-    change.gained.set.witness.is_some() && change.lost.set.witness.is_some()
-}
-
-// Returns the word before the labels that are lost.
-fn lost_word(is_both: bool) -> &'static str
-    ensures { result.now ≡ lost_word is_both }
-{
-    if is_both { ", lost" } else { " lost" }
-}
-
-// Adds labels after a word, with one of the shortest unless there is one label, and how both lists route a request with it. Adds
-// nothing if there is none.
-fn add_moved(
-    alloc: Global,
-    out: &mut Vec<u8>,
-    word: &str,
-    moved: &MovedLabels<'_>,
-) -> Result<(), AllocError>
-    ensures { OnOk result (out.new.items
-        ≡ out.old.items ++ moved_text word.now moved.entry.now moved.entry.now.set.witness) }
-{
-    let Some(witness) = &moved.set.witness else {
-        return Ok(());
-    };
-    add_labels(alloc, out, word, &moved.set.labels, witness.as_bytes())?;
-    add_routes(alloc, out, moved)
-}
-
-// Adds labels after a word, with a witness unless there is one label.
-fn add_labels(
-    alloc: Global,
-    out: &mut Vec<u8>,
-    word: &str,
-    set: &LabelSet,
-    witness: &[u8],
-) -> Result<(), AllocError>
-    ensures { OnOk result
-        (out.new.items ≡ out.old.items ++ set_words word.now set.now witness.now) }
-{
-    let labels = set.to_string(alloc)?;
-    out.extend_from_slice(word.as_bytes())?;
-    out.extend_from_slice(b" ")?;
-    out.extend_from_slice(labels.as_bytes())?;
-    add_witness(out, !set.is_one(), witness)
-}
-
-// Adds how both lists route a request with the witness of labels.
-fn add_routes(alloc: Global, out: &mut Vec<u8>, moved: &MovedLabels<'_>) -> Result<(), AllocError>
-    ensures { OnOk result (out.new.items ≡ out.old.items ++ routes_text moved.entry.now) }
-{
-    out.extend_from_slice(b": ")?;
-    add_route(alloc, out, moved.now.as_ref())?;
-    out.extend_from_slice(b" (was: ")?;
-    add_route(alloc, out, moved.was.as_ref())?;
-    out.extend_from_slice(b")")
-}
-
-// Adds a witness in parentheses, if it is shown.
-fn add_witness(out: &mut Vec<u8>, is_shown: bool, witness: &[u8]) -> Result<(), AllocError>
-    ensures { OnOk result
-        (out.new.items ≡ out.old.items ++ witness_text is_shown witness.now) }
-{
-    if !is_shown {
-        return Ok(());
-    }
-    out.extend_from_slice(b" (as \"")?;
-    out.extend_from_slice(witness)?;
-    out.extend_from_slice(b"\")")
-}
-
-// Adds the rules of a route path and the server to which they route, or the rules that deny the request. Without a path the list
-// doesn't have the script.
-fn add_route(
-    alloc: Global,
-    out: &mut Vec<u8>,
-    course: Option<&RoutePath<'_>>,
-) -> Result<(), AllocError>
-    ensures { OnOk result
-        (out.new.items ≡ out.old.items ++ route_text (option_copied course.entry)) }
-{
-    let Some(course) = course else {
-        return out.extend_from_slice(b"no such script");
-    };
-    let rules = RouteSummary::of(course).to_string(alloc)?;
-    match target_path(course) {
-        Some(path) => {
-            out.extend_from_slice(rules.as_bytes())?;
-            out.extend_from_slice(b" -> ")?;
-            out.extend_from_slice(path)
-        }
-        None => {
-            out.extend_from_slice(b"denied by ")?;
-            out.extend_from_slice(rules.as_bytes())
-        }
-    }
-}
 
 // Returns the path of the component to which a request is routed, if it is routed to one.
 fn target_path<'a>(course: &'a RoutePath<'_>) -> Option<&'a [u8]>

@@ -1,32 +1,16 @@
-//! Replies that differ, as lines and as documents for programs.
+//! Replies that differ, as documents for programs.
 ghost use Rattle.std.specs.Prelude.{◌≡◌, ◌∷◌, ◌++◌, [], IfOk, OnOk};
 ghost use Rattle.std.specs.Option.{option_copied};
 ghost use Rattle.view_json.specs.Documents.{members_data};
 ghost use Rattle.view_json.specs.Listings.{Extends};
-ghost use Rattle.view_differences.specs.ReplyTexts.{added_line, answer_in, call_members, call_text, changed_line, fault_text, made_text, number_of, other_text, reason_in, removed_line, reply_line, reply_members, reply_object, reply_objects, side_members};
+ghost use Rattle.view_differences.specs.ReplyObjects.{answer_in, call_members, fault_text, number_of, reason_in, reply_members, reply_object, reply_objects, side_members};
 
 use crate::documents::{DifferenceDocument, front};
-use crate::lines::DifferenceLine;
 use line_names::token_at;
 use list_diff::{LineOutcome, LineResult, ReplyChange, ResolutionFault};
 use run_exchanges::Exchange;
 use std::alloc::{AllocError, Global};
 use view_json::{JsonField, JsonMember, Listing};
-
-/// A line with a sign, the number of the scenario's line, the call, its reply, and the other reply. If one machine alone answers the
-/// call, the reason of the other machine is in place of the other reply.
-impl DifferenceLine for ReplyChange<'_> {
-    ghost line = { reply_line };
-
-    fn add_line(&self, alloc: Global, out: &mut Vec<u8>) -> Result<(), AllocError> {
-        match (answer_to(self.was), answer_to(self.now)) {
-            (Some(was), Some(now)) => add_changed(alloc, out, self, was, now),
-            (None, Some(now)) => add_added(alloc, out, self, now),
-            (Some(was), None) => add_removed(alloc, out, self, was),
-            (None, None) => Ok(()),
-        }
-    }
-}
 
 /// A document with the line's number, the call and both replies. If a machine doesn't answer the call, its reply is null, and its
 /// reason is a member.
@@ -42,51 +26,6 @@ impl DifferenceDocument for ReplyChange<'_> {
             (None, None) => Ok(()),
         }
     }
-}
-
-// Adds the line of a call that both machines answer.
-fn add_changed(
-    alloc: Global,
-    out: &mut Vec<u8>,
-    change: &ReplyChange<'_>,
-    was: &Exchange,
-    now: &Exchange,
-) -> Result<(), AllocError>
-    ensures { OnOk result
-        (out.new.items ≡ out.old.items ++ changed_line change.entry.now was.now now.now) }
-{
-    add_call(alloc, out, "~", number_of(change.now, change.was), now)?;
-    add_other(out, b" (was: ", was.answer().text)
-}
-
-// Adds the line of a call that the machine after alone answers.
-fn add_added(
-    alloc: Global,
-    out: &mut Vec<u8>,
-    change: &ReplyChange<'_>,
-    now: &Exchange,
-) -> Result<(), AllocError>
-    ensures { OnOk result
-        (out.new.items ≡ out.old.items ++ added_line change.entry.now now.now) }
-{
-    let reason = reason_of(alloc, change.was)?;
-    add_call(alloc, out, "+", number_of(change.now, change.was), now)?;
-    add_other(out, b" (was: ", reason.as_slice())
-}
-
-// Adds the line of a call that the machine before alone answers.
-fn add_removed(
-    alloc: Global,
-    out: &mut Vec<u8>,
-    change: &ReplyChange<'_>,
-    was: &Exchange,
-) -> Result<(), AllocError>
-    ensures { OnOk result
-        (out.new.items ≡ out.old.items ++ removed_line change.entry.now was.now) }
-{
-    let reason = reason_of(alloc, change.now)?;
-    add_call(alloc, out, "-", number_of(change.now, change.was), was)?;
-    add_other(out, b" (now: ", reason.as_slice())
 }
 
 // Adds the document of a call with a sign.
@@ -107,8 +46,8 @@ fn add_document_as(
     listing.add(members.as_slice())
 }
 
-// Returns the number of the line in the scenario after, or in the one before if that alone has the line.
-fn number_of(now: Option<LineResult<'_>>, was: Option<LineResult<'_>>) -> u64
+/// Returns the number of the line in the scenario after, or in the one before if that alone has the line.
+pub(crate) fn number_of(now: Option<LineResult<'_>>, was: Option<LineResult<'_>>) -> u64
     ensures { result ≡ number_of now.entry was.entry }
 {
     match (now, was) {
@@ -117,8 +56,8 @@ fn number_of(now: Option<LineResult<'_>>, was: Option<LineResult<'_>>) -> u64
     }
 }
 
-// Returns the answered call of a line, if there is one.
-fn answer_to<'a>(line: Option<LineResult<'a>>) -> Option<&'a Exchange>
+/// Returns the answered call of a line, if there is one.
+pub(crate) fn answer_to<'a>(line: Option<LineResult<'a>>) -> Option<&'a Exchange>
     ensures { option_copied result ≡ answer_in line.entry }
 {
     match line {
@@ -128,42 +67,6 @@ fn answer_to<'a>(line: Option<LineResult<'a>>) -> Option<&'a Exchange>
         },
         None => None,
     }
-}
-
-// Adds a sign with the number of a line, its call and the reply.
-fn add_call(
-    alloc: Global,
-    out: &mut Vec<u8>,
-    sign: &str,
-    number: u64,
-    made: &Exchange,
-) -> Result<(), AllocError>
-    ensures { OnOk result
-        (out.new.items ≡ out.old.items ++ call_text sign.now number made.now) }
-{
-    let place = format!(in alloc; "{sign} {number}: ")?;
-    out.extend_from_slice(place.as_bytes())?;
-    add_made(out, made)
-}
-
-// Adds a call with its reply.
-fn add_made(out: &mut Vec<u8>, made: &Exchange) -> Result<(), AllocError>
-    ensures { OnOk result (out.new.items ≡ out.old.items ++ made_text made.now) }
-{
-    out.extend_from_slice(made.name())?;
-    out.extend_from_slice(b" ")?;
-    out.extend_from_slice(made.call())?;
-    out.extend_from_slice(b" => ")?;
-    out.extend_from_slice(made.answer().text)
-}
-
-// Adds the other reply, or a reason, after a word, and ends the line.
-fn add_other(out: &mut Vec<u8>, word: &[u8], text: &[u8]) -> Result<(), AllocError>
-    ensures { OnOk result (out.new.items ≡ out.old.items ++ other_text word.now text.now) }
-{
-    out.extend_from_slice(word)?;
-    out.extend_from_slice(text)?;
-    out.extend_from_slice(b")\n")
 }
 
 // Returns the members of a call with a sign, by the reasons of the machine after and of the machine before.
@@ -221,8 +124,8 @@ fn with_side<'a>(
     Ok(members)
 }
 
-// Returns why a machine doesn't answer a line.
-fn reason_of(alloc: Global, line: Option<LineResult<'_>>) -> Result<Vec<u8>, AllocError>
+/// Returns why a machine doesn't answer a line.
+pub(crate) fn reason_of(alloc: Global, line: Option<LineResult<'_>>) -> Result<Vec<u8>, AllocError>
     ensures { IfOk result (λ reason. reason.items ≡ reason_in line.entry) }
 {
     match line {

@@ -2,8 +2,8 @@
 use Rattle.std.proofs.Common.{◌≡◌, ◌∙◌, ◌∷◌, [], OnOk, ap, subst}
 use Rattle.view_json.specs.Documents.{members_data}
 use Rattle.view_json.specs.Listings.{Extends}
-use Rattle.view_differences.specs.ReachTexts.{reach_members, reach_object, texts_in, texts_of}
-use Rattle.view_differences.proofs.reach_texts.ReachChangeDifferenceDocument.add_document.Goals as goal
+use Rattle.view_differences.specs.ReachObjects.{reach_members, reach_object, texts_in, texts_of}
+use Rattle.view_differences.proofs.reach_documents.ReachChangeDifferenceDocument.add_document.Goals as goal
 
 pub returns : goal.returns
 returns c =

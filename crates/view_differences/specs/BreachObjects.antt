@@ -1,5 +1,5 @@
--- A breach that one list alone has, as an object of JSON and as a line.
-use Rattle.std.specs.Prelude.{ℕ, Bool, List, [], ◌∷◌, ◌++◌, codes, decimal, if◌then◌else◌}
+-- A breach that one list alone has, as an object of JSON.
+use Rattle.std.specs.Prelude.{ℕ, Bool, List, [], ◌∷◌, ◌++◌, codes, if◌then◌else◌}
 use Rattle.view_json.specs.Documents.{Member, number_data, text_data}
 use Rattle.list_diff.specs.Breaches.{ChangeAt, change_at}
 use Rattle.list_diff.specs.declared.policy_breaches.BreachChange.{BreachChange}
@@ -16,11 +16,3 @@ breach_object change =
 
 abbrev pub breach_objects : BreachChange → List (List Member)
 breach_objects change = breach_object (change_at change) ∷ []
-
-abbrev pub line_of : ChangeAt → List ℕ
-line_of change =
-    breach_sign change.is_new
-    ++ (codes " policy " ++ (decimal change.breach.place.line ++ (codes ": " ++ (change.breach.text ++ codes "\n"))))
-
-abbrev pub breach_line : BreachChange → List ℕ
-breach_line change = line_of (change_at change)
