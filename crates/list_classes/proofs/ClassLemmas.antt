@@ -1,28 +1,28 @@
 -- What holds of the classes of labels that are made of all that rules ask for.
-use Rattle.std.proofs.Common.{◌≡◌, ℕ, zero, suc, ◌<◌, ◌≤◌, Bool, true, false, ◌&&◌, ◌||◌, List, [], ◌∷◌, ◌++◌, length, nat_eq, get_or, Option, Some, None, refl, sym, subst, ap, ◌∙◌, arith, inl, inr}
-use Rattle.std.specs.Prelude.{Contains, map, not, if◌then◌else◌}
+use Rattle.std.proofs.Common.{◌≡◌, ℕ, ◌<◌, ◌≤◌, Bool, true, false, ◌&&◌, ◌||◌, List, [], ◌∷◌, length, nat_eq, get_or, Option, Some, None, refl, sym, subst, ap, ◌∙◌, arith, inl, inr}
+use Rattle.std.specs.Prelude.{not, if◌then◌else◌}
 use Rattle.std.specs.List.{slice_get}
 use Rattle.std.specs.Global.{Vec}
 use Rattle.std.specs.Str.{bytes_eq}
-use Rattle.std.proofs.lemmas.Bool.{and_from, and_parts, both_ways, cases_lt, eqb-true, false_from_ne_true, or_cases, or_left, or_right}
+use Rattle.std.proofs.lemmas.Bool.{and_from, and_parts, both_ways, cases_lt, eqb-true, false_from_ne_true}
 use Rattle.std.proofs.lemmas.Bool.Decides.{nat_tests}
 use Rattle.std.proofs.lemmas.List.{get_or_default}
-use Rattle.std.proofs.lemmas.List.Elements.{Contains-append_cases}
-use Rattle.std.proofs.lemmas.List.Folds.{Any-from_list_any, list_any-append}
+use Rattle.std.proofs.lemmas.List.Folds.{Any-from_list_any}
 use Rattle.std.proofs.lemmas.Option.{get_or_from_slice_get, slice_get-get_or, slice_get_within}
 use Rattle.std.proofs.lemmas.Slice.Eq.{bytes_eq-Decides}
 use Rattle.list_labels.specs.Alike.{IsAlike, IsOfTexts}
-use Rattle.list_labels.specs.Asked.{is_given, known}
+use Rattle.list_labels.specs.Asked.{known}
 use Rattle.list_labels.specs.GivenLabels.{IsGiven}
-use Rattle.list_labels.specs.KnownLabels.{AddsLabels, is_among, is_filled}
-use Rattle.list_labels.specs.LabelRanges.{AskedLabel}
+use Rattle.list_labels.specs.KnownLabels.{is_among, is_filled}
+use Rattle.list_labels.specs.LabelRanges.{AskedLabel, fits}
 use Rattle.list_labels.specs.declared.session_requests.SessionRequests.{SessionRequests}
 use Rattle.list_labels.proofs.AlikeLemmas.{texts_alike}
 use Rattle.list_labels.proofs.AskedLemmas.{given_is}
-use Rattle.list_classes.proofs.TreeLemmas.{has_longest}
+use Rattle.list_labels.proofs.TextLemmas.{same_tests}
+use Rattle.list_classes.proofs.TreeLemmas.{has_longest, has_order, has_then}
 use Rattle.list_classes.specs.Trees.{IsLongest, has_at, text_at}
 use Rattle.list_classes.specs.Classes.{AreClasses, AreListed, IsLongestIn, IsOf, is_own, is_single}
-use Rattle.list_classes.specs.Making.{AreApart, AreGiven, AreLeast, AreMade, AreRoutedAlike, AreSingle, HaveAsked, HaveEach, HaveSeveral, HaveWitnesses, IsMade, asked_for, has_several, has_single, is_same_class, is_several, known_for}
+use Rattle.list_classes.specs.Making.{AreApart, AreLeast, AreMade, AreRoutedAlike, AreSingle, HaveAsked, HaveEach, HaveSeveral, HaveWitnesses, IsMade, has_several, has_single, is_same_class, is_several}
 use Rattle.list_classes.specs.declared.text_tree.TextTree.{TextTree}
 use Rattle.list_classes.specs.declared.text_tree.LabelSide.{LabelSide}
 use Rattle.list_classes.specs.declared.text_tree.LabelSide.TheVariants.{Front, End}
@@ -308,61 +308,46 @@ classes_alike (Some wishes) fronts ends front_texts end_texts known classes fron
     (subst (λ (c : LabelClass). IsLongestIn ends other c.end) same other_is.end)
     is.own (subst (λ (c : LabelClass). is_own classes c other ≡ true) same other_is.own)
 
--- ---- all that rules ask for
+-- ---- ranges
 
-among_append : (some others : List (List ℕ)) (text : List ℕ) → is_among (some ++ others) text ≡ (is_among some text || is_among others text)
-among_append some others text = list_any-append (λ other. bytes_eq other text) some others
+-- labels with the same longest text have the same text that is no longer
+keeps_text : (side : LabelSide) (texts : List (List ℕ)) (label other text : List ℕ) (place : ℕ) → IsLongest side texts label place
+    → IsLongest side texts other place → is_among texts text ≡ true → has_at side label text ≡ true → has_at side other text ≡ true
+keeps_text side texts label other text place one two there has =
+    has_then side other (text_at texts place) text two.has
+    (has_order side label (text_at texts place) text one.has has (among_short side texts label text place one there has))
 
-only : (x one : AskedLabel) (k : ℕ) → k < 1 → get_or (x ∷ []) k one ≡ one → x ≡ one
-only x one zero within is = is
-only x one (suc k) within is = absurd (omega (arith, within))
+in_range : (fronts ends : TextTree) (classes : List LabelClass) (range : AskedLabel) (place : ℕ) (label other : List ℕ) → fronts.side ≡ Front
+    → ends.side ≡ End → is_among fronts.texts.items range.front ≡ true → is_among ends.texts.items range.end ≡ true
+    → IsOf fronts ends classes place label → IsOf fronts ends classes place other → fits label range ≡ true → fits other range ≡ true
+in_range fronts ends classes range place label other front_side end_side front end one two fit =
+    let same : two.class ≡ one.class = some_same one.class two.class (slice_get classes place) one.there two.there in
+    let both = and_parts (has_at Front label range.front) (has_at End label range.end) fit in
+    and_from _ _
+    (subst (λ s. has_at s other range.front ≡ true) front_side
+    (keeps_text fronts.side fronts.texts.items label other range.front one.class.front one.front
+    (subst (λ (c : LabelClass). IsLongestIn fronts other c.front) same two.front) front
+    (subst (λ s. has_at s label range.front ≡ true) (sym front_side) both.0)))
+    (subst (λ s. has_at s other range.end ≡ true) end_side
+    (keeps_text ends.side ends.texts.items label other range.end one.class.end one.end
+    (subst (λ (c : LabelClass). IsLongestIn ends other c.end) same two.end) end
+    (subst (λ s. has_at s label range.end ≡ true) (sym end_side) both.1)))
 
-among_map : (f : AskedLabel → List ℕ) (all : List AskedLabel) (one : AskedLabel) → Contains all one → is_among (map f all) (f one) ≡ true
-among_map f [] one there = absurd (let less = there.1 in omega (arith, less))
-among_map f (x ∷ all) one there =
-    elim (Contains-append_cases (x ∷ []) all one there) [
-      | inl here ↦ or_left _ _ ((bytes_eq-Decides (f x) (f one)).1 (ap f (only x one here.0 here.1 here.2)))
-      | inr later ↦ or_right (bytes_eq (f x) (f one)) _ (among_map f all one later)
-    ]
+-- all or none of the labels of a class match a range whose texts are there
+pub range_kept : (fronts ends : TextTree) (classes : List LabelClass) (range : AskedLabel) → fronts.side ≡ Front → ends.side ≡ End
+    → is_among fronts.texts.items range.front ≡ true → is_among ends.texts.items range.end ≡ true
+    → (place : ℕ) (label other : List ℕ) → IsOf fronts ends classes place label → IsOf fronts ends classes place other
+    → fits label range ≡ fits other range
+range_kept fronts ends classes range front_side end_side front end place label other one two =
+    same_tests _ _
+    (in_range fronts ends classes range place label other front_side end_side front end one two)
+    (in_range fronts ends classes range place other label front_side end_side front end two one)
 
-empty_given : (label : List ℕ) → is_among ([] ∷ []) label ≡ true → is_given label ≡ true
-empty_given [] there = refl
-empty_given (b ∷ label) there = cc
-
--- what both lists' rules ask for
-pub asked_all : (one other : Option SessionRequests) (front_one end_one known_one fronts ends all : List (List ℕ))
-    → front_one ≡ map (λ (asked : AskedLabel). asked.front) (asked_for one) → end_one ≡ map (λ (asked : AskedLabel). asked.end) (asked_for one)
-    → AddsLabels (known_for one) ([] ∷ []) known_one
-    → fronts ≡ front_one ++ map (λ (asked : AskedLabel). asked.front) (asked_for other)
-    → ends ≡ end_one ++ map (λ (asked : AskedLabel). asked.end) (asked_for other)
-    → AddsLabels (known_for other) known_one all → HaveAsked one fronts ends all × HaveAsked other fronts ends all × AreGiven all
-asked_all one other front_one end_one known_one fronts ends all front_is end_is first fronts_are ends_are second = (
-  record {
-    empty = second [] ∙ or_left (is_among known_one []) (is_filled [] && known_for other [])
-        (first [] ∙ or_left (is_among ([] ∷ []) []) (is_filled [] && known_for one []) refl);
-    fronts = λ asked there. ap (λ t. is_among t asked.front) fronts_are ∙ (among_append front_one _ asked.front
-        ∙ or_left _ _ (ap (λ t. is_among t asked.front) front_is ∙ among_map (λ (a : AskedLabel). a.front) (asked_for one) asked there));
-    ends = λ asked there. ap (λ t. is_among t asked.end) ends_are ∙ (among_append end_one _ asked.end
-        ∙ or_left _ _ (ap (λ t. is_among t asked.end) end_is ∙ among_map (λ (a : AskedLabel). a.end) (asked_for one) asked there));
-    known = λ label filled is. second label ∙ or_left _ _ (first label ∙ or_right (is_among ([] ∷ []) label) _ (and_from _ _ filled is));
-  },
-  record {
-    empty = second [] ∙ or_left (is_among known_one []) (is_filled [] && known_for other [])
-        (first [] ∙ or_left (is_among ([] ∷ []) []) (is_filled [] && known_for one []) refl);
-    fronts = λ asked there. ap (λ t. is_among t asked.front) fronts_are ∙ (among_append front_one _ asked.front
-        ∙ or_right (is_among front_one asked.front) _ (among_map (λ (a : AskedLabel). a.front) (asked_for other) asked there));
-    ends = λ asked there. ap (λ t. is_among t asked.end) ends_are ∙ (among_append end_one _ asked.end
-        ∙ or_right (is_among end_one asked.end) _ (among_map (λ (a : AskedLabel). a.end) (asked_for other) asked there));
-    known = λ label filled is. second label ∙ or_right (is_among known_one label) _ (and_from _ _ filled is);
-  },
-  λ label there. elim (or_cases (is_among known_one label) _ (sym (second label) ∙ there)) [
-    | inl before ↦ elim (or_cases (is_among ([] ∷ []) label) _ (sym (first label) ∙ before)) [
-      | inl empty ↦ empty_given label empty
-      | inr filled ↦ (and_parts (is_given label) _ (and_parts (is_filled label) _ filled).0).0
-    ]
-    | inr filled ↦ (and_parts (is_given label) _ (and_parts (is_filled label) _ filled).0).0
-  ],
-)
+-- the same texts have them
+pub among_as : (some same texts : List (List ℕ)) → some ≡ same
+    → ((text : List ℕ) → is_among some text ≡ true → is_among texts text ≡ true)
+    → (text : List ℕ) → is_among same text ≡ true → is_among texts text ≡ true
+among_as some same texts is has text there = has text (ap (λ t. is_among t text) is ∙ there)
 
 -- each given text is in a tree that has the text at each place
 pub tree_has : (given texts : List (List ℕ)) → ((k : ℕ) → k < length given → is_among texts (get_or given k []) ≡ true)
@@ -372,17 +357,3 @@ tree_has given texts each text there =
     subst (λ t. is_among texts t ≡ true)
     (get_or_default given one.0 [] one.1 one.2 ∙ (one.3 ∙ (bytes_eq-Decides one.1 text).0 one.4))
     (each one.0 one.2)
-
--- the same of texts that are added to none, and of labels that are added to the empty one
-pub asked_them : (one other : Option SessionRequests) (front_zero end_zero known_zero front_one end_one known_first known_one fronts ends all : List (List ℕ)) (empty : List ℕ)
-    → front_zero ≡ [] → end_zero ≡ [] → known_zero ≡ [] → empty ≡ [] → known_first ≡ known_zero ++ empty ∷ []
-    → front_one ≡ front_zero ++ map (λ (asked : AskedLabel). asked.front) (asked_for one)
-    → end_one ≡ end_zero ++ map (λ (asked : AskedLabel). asked.end) (asked_for one) → AddsLabels (known_for one) known_first known_one
-    → fronts ≡ front_one ++ map (λ (asked : AskedLabel). asked.front) (asked_for other)
-    → ends ≡ end_one ++ map (λ (asked : AskedLabel). asked.end) (asked_for other) → AddsLabels (known_for other) known_one all
-    → HaveAsked one fronts ends all × HaveAsked other fronts ends all × AreGiven all
-asked_them one other front_zero end_zero known_zero front_one end_one known_first known_one fronts ends all empty f0 e0 k0 is first front_is end_is adds fronts_are ends_are more =
-    asked_all one other front_one end_one known_one fronts ends all (front_is ∙ ap (λ t. t ++ map (λ (asked : AskedLabel). asked.front) (asked_for one)) f0)
-    (end_is ∙ ap (λ t. t ++ map (λ (asked : AskedLabel). asked.end) (asked_for one)) e0)
-    (subst (λ t. AddsLabels (known_for one) t known_one) (first ∙ (ap (λ t. t ++ empty ∷ []) k0 ∙ ap (λ t. t ∷ []) is)) adds)
-    fronts_are ends_are more

@@ -3,5 +3,7 @@ pub mod WitnessLemmas
 pub mod MakingLemmas
 pub mod RowLemmas
 pub mod ClassLemmas
+pub mod AskedTextLemmas
 pub mod PartLemmas
 pub mod UnionLemmas
+pub mod RepresentativeLemmas

@@ -11,7 +11,7 @@ use Rattle.std.proofs.lemmas.Option.{slice_get-get_or, slice_get_within}
 use Rattle.std.proofs.Math.ListN.{get_or-append}
 use Rattle.std.proofs.lemmas.List.{get_or_push, length-append}
 use Rattle.std.proofs.Math.Seq.{take-suc}
-use Rattle.list_labels.proofs.KeyLemmas.{same_tests}
+use Rattle.list_labels.proofs.TextLemmas.{same_tests}
 use Rattle.list_classes.specs.Trees.{has_place, places_of, row_at}
 use Rattle.list_classes.specs.Classes.{ends_of, is_between, places_at}
 use Rattle.list_classes.specs.Rows.{has_end, has_front}

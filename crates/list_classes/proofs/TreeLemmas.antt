@@ -9,9 +9,7 @@ use Rattle.std.proofs.lemmas.Bool.{and_from, and_parts, or_cases, or_left, or_ri
 use Rattle.std.proofs.lemmas.List.{append-nil, get_or_push, length-append}
 use Rattle.std.proofs.lemmas.List.Folds.{list_any-append, list_any_at}
 use Rattle.std.proofs.lemmas.Slice.Eq.{bytes_eq-Decides}
-use Rattle.list_labels.proofs.AskedLemmas.{begins_by, ends_by, ends_order, fronts_order}
-use Rattle.list_labels.proofs.FirstLemmas.{end_then, front_then}
-use Rattle.list_labels.proofs.KeyLemmas.{begins_from, ends_from, same_tests}
+use Rattle.list_labels.proofs.TextLemmas.{begins_by, begins_from, end_then, ends_by, ends_from, ends_order, front_then, fronts_order, same_tests}
 use Rattle.list_labels.specs.KnownLabels.{is_among}
 use Rattle.list_classes.specs.Trees.{AreTexts, IsLongest, IsTree, has_at, has_place, row_at, text_at}
 use Rattle.list_classes.specs.declared.text_tree.LabelSide.{LabelSide}

@@ -11,7 +11,7 @@ use Rattle.std.proofs.lemmas.Slice.Eq.{bytes_eq-Decides}
 use Rattle.list_labels.specs.LabelSets.{has_label, set_has}
 use Rattle.list_labels.specs.declared.pattern.LabelSet.{LabelSet}
 use Rattle.list_labels.specs.declared.pattern.Pattern.TheVariants.{Exactly, Between}
-use Rattle.list_labels.proofs.KeyLemmas.{same_tests}
+use Rattle.list_labels.proofs.TextLemmas.{same_tests}
 use Rattle.list_classes.specs.Trees.{has_at, has_place, row_at, text_at}
 use Rattle.list_classes.specs.Classes.{AreClasses, IsLongestIn, IsOf, is_between, is_own, is_single, places_at}
 use Rattle.list_classes.specs.Parts.{IsPart, ServeAll, covers, excepts, has_pattern, is_below, is_for_ends, is_in_class, is_in_part, is_inside, is_within, is_within_any, is_within_class, pattern_of, serves, text_unless}

@@ -8,8 +8,7 @@ use Rattle.std.proofs.lemmas.Bool.Decides.{nat_tests}
 use Rattle.std.proofs.lemmas.List.{append_assoc, get_or_default, length-append, length-drop, length-take, take-append-drop}
 use Rattle.std.proofs.lemmas.List.Folds.{Any-from_list_any, list_all-append}
 use Rattle.own_model.specs.SessionArgs.{is_quotable}
-use Rattle.list_labels.proofs.AskedLemmas.{begins_by, ends_by}
-use Rattle.list_labels.proofs.KeyLemmas.{begins_from, ends_from}
+use Rattle.list_labels.proofs.TextLemmas.{begins_by, begins_from, ends_by, ends_from}
 use Rattle.list_labels.specs.Asked.{is_given}
 use Rattle.list_labels.specs.GivenLabels.{IsGiven}
 use Rattle.list_classes.proofs.TreeLemmas.{below_longer, has_short}

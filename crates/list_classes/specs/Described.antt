@@ -1,5 +1,6 @@
 -- Classes of labels as a whole, and sets of labels in words that are unions of classes.
 use Rattle.std.specs.Prelude.{◌≡◌, ℕ, Bool, false, List, slice_index_or, Option}
+use Rattle.list_labels.specs.LabelRanges.{AskedLabel, fits}
 use Rattle.list_labels.specs.LabelSets.{set_has}
 use Rattle.list_labels.specs.declared.pattern.LabelSet.{LabelSet}
 use Rattle.list_labels.specs.declared.session_requests.SessionRequests.{SessionRequests}
@@ -26,3 +27,7 @@ IsUnionOf classes inside set =
 -- requests with given labels of one class are routed alike
 abbrev pub RouteAlike : Option SessionRequests → LabelClasses → Type 0
 RouteAlike wishes classes = AreRoutedAlike wishes classes.fronts classes.ends classes.classes.items
+
+-- of two labels of one class both match a condition, or neither
+abbrev pub KeepRange : AskedLabel → LabelClasses → Type 0
+KeepRange range classes = (place : ℕ) (label other : List ℕ) → IsIn classes place label → IsIn classes place other → fits label range ≡ fits other range

@@ -1,7 +1,9 @@
 pub mod Trees
 pub mod Classes
 pub mod Parts
+pub mod Representatives
 pub mod Described
 pub mod Making
+pub mod AskedTexts
 pub mod Rows
 pub mod Witnesses

@@ -16,7 +16,7 @@ use Rattle.list_classes.specs.declared.label_class.LabelClass.{LabelClass}
 -- the conditions of the rules for requests, if there are requests
 abbrev pub asked_for : Option SessionRequests → List AskedLabel
 asked_for None = []
-asked_for (Some wishes) = asked_of (record { front = []; end = [] }) wishes.list.now wishes.client wishes.service.now
+asked_for (Some wishes) = asked_of wishes.list.now wishes.client wishes.service.now
 
 -- a rule for requests knows a label by itself
 abbrev pub known_for : Option SessionRequests → List ℕ → Bool

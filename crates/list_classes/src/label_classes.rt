@@ -1,20 +1,22 @@
 //! Classes of labels: no rule separates two labels of a class. A class is one label that a rule distinguishes. Or it is all other
 //! labels with the same longest beginning and the same longest ending that rules ask for.
-ghost use Rattle.std.specs.Prelude.{◌≡◌, List, ℕ, true, IfOk};
+ghost use Rattle.std.specs.Prelude.{◌≡◌, List, ℕ, Option, true, IfOk};
 ghost use Rattle.list_labels.specs.KnownLabels.{is_among};
+ghost use Rattle.list_labels.specs.LabelRanges.{AskedLabel};
+ghost use Rattle.list_labels.specs.declared.session_requests.SessionRequests.{SessionRequests};
 ghost use Rattle.list_classes.specs.Trees.{row_at};
 ghost use Rattle.list_classes.specs.Classes.{places_at};
-ghost use Rattle.list_classes.specs.Described.{AreWhole, RouteAlike};
+ghost use Rattle.list_classes.specs.Described.{AreWhole, KeepRange, RouteAlike};
 ghost use Rattle.list_classes.specs.Making.{AreGiven, HaveAsked};
 ghost use Rattle.list_classes.specs.Parts.{pattern_of, text_unless};
 
-use crate::asked_texts::asked_texts;
+use crate::asked_texts::{AskedTexts, asked_texts};
 use crate::class_maker::classes_of;
 use crate::class_parts::ClassParts;
 use crate::class_rows::class_rows;
 use crate::label_class::LabelClass;
 use crate::text_tree::{LabelSide, TextTree};
-use list_labels::{ClientLabel, Pattern, SessionRequests};
+use list_labels::{ClientLabel, LabelCondition, Pattern, SessionRequests};
 use std::alloc::{AllocError, Global};
 
 /// The classes of all labels that can be given, each with a label.
@@ -28,51 +30,41 @@ pub struct LabelClasses {
 }
 
 impl LabelClasses {
-    /// Returns the classes of labels that no rule for the requests on either list separates: on each list, requests with labels of
-    /// one class are routed alike, and each label is of one class. Fails if the host is out of memory.
+    /// Returns the classes of labels that neither a rule for the requests on either list separates nor a range: on each list,
+    /// requests with labels of one class are routed alike, all or none of the labels of a class match the range, and each label is
+    /// of one class. Fails if the host is out of memory.
     pub fn of(
         alloc: Global,
+        range: &LabelCondition,
         one: Option<SessionRequests<'_>>,
         other: Option<SessionRequests<'_>>,
     ) -> Result<LabelClasses, AllocError>
         ensures whole { IfOk result AreWhole }
         ensures one { IfOk result (RouteAlike one.entry) }
         ensures other { IfOk result (RouteAlike other.entry) }
+        ensures range { IfOk result (KeepRange range.now) }
     {
-        let texts = asked_texts(alloc, one, other)?;
-        let fronts = texts.fronts.as_slice();
-        LabelClasses::with(
-            alloc,
-            one,
-            other,
-            fronts,
-            texts.ends.as_slice(),
-            texts.known.as_slice(),
-        )
+        let texts = asked_texts(alloc, range, one, other)?;
+        LabelClasses::of_texts(alloc, &texts)
     }
 
     // The classes of known labels, and of all others by some beginnings and endings.
-    fn with(
-        alloc: Global,
-        one: Option<SessionRequests<'_>>,
-        other: Option<SessionRequests<'_>>,
-        fronts: &[ClientLabel],
-        ends: &[ClientLabel],
-        known: &[ClientLabel],
-    ) -> Result<LabelClasses, AllocError>
-        requires given { AreGiven known.now }
-        requires one { HaveAsked one fronts.now ends.now known.now }
-        requires other { HaveAsked other fronts.now ends.now known.now }
+    fn of_texts(alloc: Global, texts: &AskedTexts) -> Result<LabelClasses, AllocError>
+        requires given { AreGiven texts.now.known.items }
         ensures whole { IfOk result AreWhole }
-        ensures one { IfOk result (RouteAlike one.entry) }
-        ensures other { IfOk result (RouteAlike other.entry) }
+        ensures alike { IfOk result (λ classes. (wishes : Option SessionRequests)
+            → HaveAsked wishes texts.now.fronts.items texts.now.ends.items texts.now.known.items
+            → RouteAlike wishes classes) }
+        ensures range { IfOk result (λ classes. (range : AskedLabel)
+            → is_among texts.now.fronts.items range.front ≡ true
+            → is_among texts.now.ends.items range.end ≡ true → KeepRange range classes) }
     {
-        let fronts = tree_of(alloc, LabelSide::Front, fronts)?;
-        let ends = tree_of(alloc, LabelSide::End, ends)?;
+        let fronts = tree_of(alloc, LabelSide::Front, texts.fronts.as_slice())?;
+        let ends = tree_of(alloc, LabelSide::End, texts.ends.as_slice())?;
         let parts = ClassParts {
             fronts: &fronts,
             ends: &ends,
-            known,
+            known: texts.known.as_slice(),
         };
         let classes = classes_of(alloc, parts)?;
         let at = class_rows(alloc, fronts.len(), ends.len(), classes.as_slice())?;

@@ -5,7 +5,7 @@ use Rattle.std.specs.Str.{bytes_eq}
 use Rattle.std.proofs.lemmas.Bool.Decides.{nat_tests}
 use Rattle.std.proofs.lemmas.Slice.Eq.{bytes_eq-Decides}
 use Rattle.std.proofs.lemmas.Bool.{and_parts, and_from}
-use Rattle.list_labels.proofs.FirstLemmas.{front_then, end_then}
+use Rattle.list_labels.proofs.TextLemmas.{front_then, end_then}
 use Rattle.own_model.specs.Routes.{as_asked}
 use Rattle.list_parts.specs.Texts.{has}
 use Rattle.list_findings.specs.UnreachableRules.{covers, UnreachableNeverDecide}

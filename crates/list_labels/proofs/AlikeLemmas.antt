@@ -1,15 +1,16 @@
 -- Two labels with the same longest texts, which no rule knows by itself, are routed alike.
-use Rattle.std.proofs.Common.{◌≡◌, ℕ, ◌<◌, ◌≤◌, suc, ◌-◌, false, true, List, [], ◌∷◌, length, take, drop, Option, Some, None, refl, arith}
+use Rattle.std.proofs.Common.{◌≡◌, ℕ, ◌-◌, true, List, [], ◌∷◌, length, take, drop, refl, arith}
 use Rattle.std.specs.Prelude.{Contains}
 use Rattle.std.specs.List.{slice_get}
 use Rattle.std.specs.Option.{option_map, unwrap_or}
 use Rattle.std.proofs.lemmas.List.Elements.{Contains-append_left, Contains-append_right}
-use Rattle.own_model.specs.Listed.{Listed, ListedEntry, most_lists}
+use Rattle.own_model.specs.Listed.{Listed, most_lists}
 use Rattle.list_labels.specs.Alike.{IsAlike, IsOfTexts, IsUpTo}
 use Rattle.list_labels.specs.Asked.{agrees, asked_of, asked_within, known}
 use Rattle.list_labels.specs.LabelRanges.{AskedLabel, fits}
-use Rattle.list_labels.proofs.AskedLemmas.{Within, begins_by, ends_by, entry_agreeing, leads_alike}
+use Rattle.list_labels.proofs.AskedLemmas.{Within, entry_agreeing, leads_alike}
 use Rattle.list_labels.proofs.FollowLemmas.{decided_alike}
+use Rattle.list_labels.proofs.TextLemmas.{begins_by, ends_by}
 
 -- bounds of all conditions, one after another
 within_all : (label front end : List ℕ) (asked : List AskedLabel)
@@ -29,7 +30,7 @@ texts_agree list client service front end label is =
     (slice_get list.entries client) is.given is.unknown (begins_by label front is.begins) (ends_by label end is.closes)
     (within_all label front end
     (unwrap_or (option_map (λ entry. asked_within most_lists list entry service []) (slice_get list.entries client)) [])
-    (λ one there fit. is.longest one (Contains-append_right (record { front = []; end = [] } ∷ []) _ one there) fit))
+    is.longest)
 
 -- labels with the same texts are routed alike
 pub texts_alike : (list : Listed) (client : ℕ) (service front end label other : List ℕ) → IsOfTexts list client service front end label

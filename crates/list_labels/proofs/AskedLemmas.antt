@@ -1,22 +1,22 @@
--- Labels that agree with what rules ask lead alike, and each label that no rule knows by itself agrees with two rules' texts.
-use Rattle.std.proofs.Common.{◌≡◌, ℕ, ◌<◌, ◌≤◌, zero, suc, ◌-◌, Bool, true, false, ◌&&◌, ◌||◌, List, [], ◌∷◌, ◌++◌, length, get_or, take, drop, Option, Some, None, refl, sym, subst, ap, ◌∙◌, nat_eq, nat_le, arith, ◌⊎◌, inl, inr}
+-- Labels that agree with what rules ask are routed alike, and each label that no rule knows by itself agrees with what the rules ask.
+use Rattle.std.proofs.Common.{◌≡◌, ℕ, ◌<◌, ◌≤◌, zero, suc, ◌-◌, Bool, true, false, ◌&&◌, ◌||◌, List, [], ◌∷◌, ◌++◌, length, take, drop, Option, Some, None, refl, sym, subst, ap, ◌∙◌, nat_eq, nat_le, arith, inl, inr}
 use Rattle.std.specs.Prelude.{codes, if◌then◌else◌}
 use Rattle.std.specs.List.{list_all, list_any, starts_with, ends_with, slice_get}
 use Rattle.std.specs.Option.{option_and_then, option_map, unwrap_or}
 use Rattle.std.specs.Str.{bytes_eq}
-use Rattle.std.proofs.lemmas.Bool.Decides.{Decides-eqb, nat_tests}
-use Rattle.std.proofs.lemmas.Slice.Eq.{bytes_eq-Decides, starts_is, ends_is}
+use Rattle.std.proofs.lemmas.Bool.Decides.{nat_tests}
+use Rattle.std.proofs.lemmas.Slice.Eq.{bytes_eq-Decides}
 use Rattle.std.proofs.lemmas.List.{append_assoc, append-nil, length-append, drop_all}
 use Rattle.std.proofs.lemmas.List.Folds.{list_all-append}
-use Rattle.std.proofs.lemmas.Bool.{and_parts, and_from, or_left, or_parts, or_right, both_ways, or_cases}
+use Rattle.std.proofs.lemmas.Bool.{and_parts, and_from, or_left, or_parts, or_right, both_ways}
 use Rattle.std.proofs.Math.Seq.{drop-append_seam}
 use Rattle.own_model.specs.SessionArgs.{is_quotable}
 use Rattle.own_model.specs.Routes.{as_asked, label_with}
 use Rattle.own_model.specs.Listed.{Listed, ListedEntry, ListedRule, asks_for, end_of, init_entry, most_lists, route_within, rules_for, way_by, way_to}
 use Rattle.list_labels.specs.GivenLabels.{IsGiven, leads_to}
-use Rattle.list_labels.specs.Asked.{agrees, agrees_within, asked_by, asked_of, asked_of_rule, asked_texts, asked_within, asks_nothing, behind, can_begin, is_given, is_known, is_open, is_tail, is_whole, known, known_within, rule_agrees, same_as, text_of}
-use Rattle.list_labels.specs.LabelRanges.{AskedLabel, IsInRange, fits}
-use Rattle.list_labels.proofs.KeyLemmas.{begins_from, ends_from, same_tests}
+use Rattle.list_labels.specs.Asked.{agrees, agrees_within, asked_by, asked_of_rule, asked_texts, asked_within, asks_nothing, behind, can_begin, is_given, is_known, is_open, is_tail, is_whole, known_within, rule_agrees, same_as, text_of}
+use Rattle.list_labels.specs.LabelRanges.{AskedLabel, fits}
+use Rattle.list_labels.proofs.TextLemmas.{begins_by, begins_from, ends_by, ends_from, ends_order, fronts_order, parted, same_tests, take_front}
 
 -- ---- tests
 
@@ -31,62 +31,6 @@ is_as true true same = refl
 is_as true false same = cc
 is_as false true same = cc
 is_as false false same = refl
-
--- ---- two ways to part one text
-
-pub parted : (front rest head end : List ℕ) → front ++ rest ≡ head ++ end
-    → ((cut : List ℕ) × (front ≡ head ++ cut) × (end ≡ cut ++ rest))
-    ⊎ ((byte : ℕ) × (more : List ℕ) × (head ≡ front ++ byte ∷ more) × (rest ≡ byte ∷ (more ++ end)))
-parted [] rest [] end same = inl ([], refl, sym same)
-parted [] rest (d ∷ more) end same = inr (d, more, refl, same)
-parted (f ∷ front) rest [] end same = inl (f ∷ front, refl, sym same)
-parted (f ∷ front) rest (g ∷ head) end same =
-    let first : f ≡ g = cc in
-    let others : front ++ rest ≡ head ++ end = cc in
-    elim (parted front rest head end others) [
-      | inl way ↦ inl (way.0, ap (λ bs. f ∷ bs) way.1 ∙ ap (λ b. b ∷ (head ++ way.0)) first, way.2)
-      | inr way ↦ inr (way.0, way.1, ap (λ b. b ∷ head) (sym first) ∙ ap (λ bs. f ∷ bs) way.2, way.3)
-    ]
-
-pub take_front : (a b : List ℕ) → take (length a) (a ++ b) ≡ a
-take_front [] b = refl
-take_front (x ∷ a) b = ap (λ xs. x ∷ xs) (take_front a b)
-
-pub begins_by : (text front : List ℕ) → starts_with nat_eq text front ≡ true → text ≡ front ++ drop (length front) text
-begins_by text front begins = (starts_is Decides-eqb text front _ refl).0 begins
-
-pub ends_by : (text end : List ℕ) → ends_with nat_eq text end ≡ true → text ≡ take (length text - length end) text ++ end
-ends_by text end ends = (ends_is Decides-eqb text end _ refl).0 ends
-
--- nothing more stands there
-no_more_behind : (text cut : List ℕ) → length (text ++ cut) ≤ length text → text ++ cut ≡ text
-no_more_behind text [] less = append-nil text
-no_more_behind text (c ∷ cut) less = absurd (omega (arith, length-append text (c ∷ cut)))
-
-no_more_before : (cut text : List ℕ) → length (cut ++ text) ≤ length text → cut ++ text ≡ text
-no_more_before [] text less = refl
-no_more_before (c ∷ cut) text less = absurd (omega (arith, length-append (c ∷ cut) text))
-
--- of two fronts of one text the longer begins with the other
-pub fronts_order : (text longer shorter : List ℕ) → starts_with nat_eq text longer ≡ true → starts_with nat_eq text shorter ≡ true
-    → length shorter ≤ length longer → starts_with nat_eq longer shorter ≡ true
-fronts_order text longer shorter first second less =
-    elim (parted shorter (drop (length shorter) text) longer (drop (length longer) text) (sym (begins_by text shorter second) ∙ begins_by text longer first)) [
-      | inl way ↦ begins_from longer shorter []
-          (sym (way.1 ∙ no_more_behind longer way.0 (subst (λ s. length s ≤ length longer) way.1 less)) ∙ sym (append-nil shorter))
-      | inr way ↦ begins_from longer shorter (way.0 ∷ way.1) way.2
-    ]
-
--- and of two ends the longer ends with the other
-pub ends_order : (text longer shorter : List ℕ) → ends_with nat_eq text longer ≡ true → ends_with nat_eq text shorter ≡ true
-    → length shorter ≤ length longer → ends_with nat_eq longer shorter ≡ true
-ends_order text longer shorter first second less =
-    elim (parted (take (length text - length longer) text) longer (take (length text - length shorter) text) shorter
-    (sym (ends_by text longer first) ∙ ends_by text shorter second)) [
-      | inl way ↦ ends_from longer [] shorter
-          (sym (way.2 ∙ no_more_before way.0 longer (subst (λ s. length s ≤ length longer) way.2 less)))
-      | inr way ↦ ends_from longer (way.0 ∷ way.1) shorter way.3
-    ]
 
 -- ---- fronts of what is seen
 
@@ -419,150 +363,6 @@ unfolding agrees leads_to
 leads_alike list client service front label other end some more one two =
     entry_alike list service front label other end (slice_get list.entries client) some more one two
 
--- ---- the longest that fit a label
-
--- one of them stands at a place
-abbrev IsAt : AskedLabel → List AskedLabel → Type 0
-IsAt one asked = (k : ℕ) × (k < length asked) × ((d : AskedLabel) → get_or asked k d ≡ one)
-
--- all that fit a label are so long at most, by a size
-abbrev UpTo : List ℕ → (AskedLabel → ℕ) → ℕ → List AskedLabel → Type 0
-UpTo label size most [] = Unit {0}
-UpTo label size most (asked ∷ others) = (fits label asked ≡ true → size asked ≤ most) × UpTo label size most others
-
-abbrev NoneFits : List ℕ → List AskedLabel → Type 0
-NoneFits label [] = Unit {0}
-NoneFits label (asked ∷ others) = (fits label asked ≡ false) × NoneFits label others
-
-abbrev HasLongest : List ℕ → (AskedLabel → ℕ) → List AskedLabel → Type 0
-HasLongest label size asked =
-    (one : AskedLabel) × (fits label one ≡ true) × IsAt one asked × UpTo label size (size one) asked
-
-upto_none : (label : List ℕ) (size : AskedLabel → ℕ) (most : ℕ) (asked : List AskedLabel) → NoneFits label asked → UpTo label size most asked
-upto_none label size most [] none = tt
-upto_none label size most (one ∷ asked) none = ((λ is. absurd (both_ways _ none.0 is)), upto_none label size most asked none.1)
-
-upto_more : (label : List ℕ) (size : AskedLabel → ℕ) (most more : ℕ) (asked : List AskedLabel) → most ≤ more → UpTo label size most asked
-    → UpTo label size more asked
-upto_more label size most more [] less upto = tt
-upto_more label size most more (one ∷ asked) less upto =
-    ((λ is. let here : size one ≤ most = upto.0 is in omega arith), upto_more label size most more asked less upto.1)
-
-at_later : (first one : AskedLabel) (asked : List AskedLabel) → IsAt one asked → IsAt one (first ∷ asked)
-at_later first one asked at = (suc at.0, (let within : at.0 < length asked = at.1 in omega arith), at.2)
-
-at_first : (one : AskedLabel) (asked : List AskedLabel) → IsAt one (one ∷ asked)
-at_first one asked = (0, omega arith, λ d. refl)
-
-either_way : (m n : ℕ) → (m ≤ n) ⊎ (n ≤ m)
-either_way zero n = inl (omega arith)
-either_way (suc m) zero = inr (omega arith)
-either_way (suc m) (suc n) = elim (either_way m n) [ inl less ↦ inl (omega arith) | inr less ↦ inr (omega arith) ]
-
-longest_more : (label : List ℕ) (size : AskedLabel → ℕ) (first : AskedLabel) (asked : List AskedLabel) (b : Bool) → fits label first ≡ b
-    → NoneFits label asked ⊎ HasLongest label size asked → NoneFits label (first ∷ asked) ⊎ HasLongest label size (first ∷ asked)
-longest_more label size first asked false is (inl none) = inl (is, none)
-longest_more label size first asked true is (inl none) =
-    inr (first, is, at_first first asked, ((λ _. omega arith), upto_none label size (size first) asked none))
-longest_more label size first asked false is (inr best) =
-    inr (best.0, best.1, at_later first best.0 asked best.2, ((λ fit. absurd (both_ways _ is fit)), best.3))
-longest_more label size first asked true is (inr best) =
-    elim (either_way (size best.0) (size first)) [
-      | inl less ↦ inr (first, is, at_first first asked, ((λ _. omega arith), upto_more label size (size best.0) (size first) asked less best.3))
-      | inr more ↦ inr (best.0, best.1, at_later first best.0 asked best.2, ((λ _. more), best.3))
-    ]
-
-longest : (label : List ℕ) (size : AskedLabel → ℕ) (asked : List AskedLabel) → NoneFits label asked ⊎ HasLongest label size asked
-longest label size [] = inl tt
-longest label size (first ∷ asked) = longest_more label size first asked (fits label first) refl (longest label size asked)
-
-the_longest : (label : List ℕ) (size : AskedLabel → ℕ) (first : AskedLabel) (asked : List AskedLabel) → fits label first ≡ true
-    → NoneFits label (first ∷ asked) ⊎ HasLongest label size (first ∷ asked) → HasLongest label size (first ∷ asked)
-the_longest label size first asked is (inl none) = absurd (both_ways _ none.0 is)
-the_longest label size first asked is (inr best) = best
-
-upto_at : (label : List ℕ) (size : AskedLabel → ℕ) (most : ℕ) (one : AskedLabel) (asked : List AskedLabel) (k : ℕ)
-    → UpTo label size most asked → k < length asked → get_or asked k one ≡ one → fits label one ≡ true → size one ≤ most
-upto_at label size most one [] k upto within is fit = absurd (omega arith)
-upto_at label size most one (first ∷ asked) zero upto within is fit =
-    subst (λ o. fits label o ≡ true → size o ≤ most) is upto.0 fit
-upto_at label size most one (first ∷ asked) (suc k) upto within is fit =
-    upto_at label size most one asked k upto.1 (omega arith) is fit
-
-within_both : (label : List ℕ) (front end : ℕ) (asked : List AskedLabel) → UpTo label (λ a. length a.front) front asked
-    → UpTo label (λ a. length a.end) end asked → Within label front end asked
-within_both label front end [] fronts ends = tt
-within_both label front end (one ∷ asked) fronts ends =
-    ((λ is. (fronts.0 is, ends.0 is)), within_both label front end asked fronts.1 ends.1)
-
--- what a label of a range that no rule knows by itself has: of two texts that go together, of rules or of the range, it begins with the
--- one and ends with the other, these are as the range asks, and every rule matches the label exactly where it is open to these
-pub record IsBetween (range : AskedLabel) (list : Listed) (client : ℕ) (service label : List ℕ) (asked : List AskedLabel) (first last : AskedLabel) : Type 0 where
-  pub first_at : IsAt first asked
-  pub last_at : IsAt last asked
-  pub fronts : starts_with nat_eq first.front last.front ≡ true
-  pub ends : ends_with nat_eq last.end first.end ≡ true
-  pub opens : starts_with nat_eq first.front range.front ≡ true
-  pub stops : ends_with nat_eq last.end range.end ≡ true
-  pub begins : starts_with nat_eq label first.front ≡ true
-  pub closes : ends_with nat_eq label last.end ≡ true
-  pub agreeing : agrees list client service first.front label last.end ≡ true
-
-fits_parts : (label : List ℕ) (one : AskedLabel) → fits label one ≡ true
-    → (starts_with nat_eq label one.front ≡ true) × (ends_with nat_eq label one.end ≡ true)
-fits_parts label one fit = and_parts (starts_with nat_eq label one.front) (ends_with nat_eq label one.end) fit
-
-between_of : (range : AskedLabel) (list : Listed) (client : ℕ) (service label : List ℕ) (others : List AskedLabel) → fits label range ≡ true
-    → HasLongest label (λ a. length a.front) (range ∷ others)
-    → HasLongest label (λ a. length a.end) (range ∷ others)
-    → ((front end rest head : List ℕ) → label ≡ front ++ rest → label ≡ head ++ end → Within label (length front) (length end) others
-    → agrees list client service front label end ≡ true)
-    → (first : AskedLabel) × (last : AskedLabel) × IsBetween range list client service label (range ∷ others) first last
-between_of range list client service label others inside front end each =
-    let begins = fits_parts label front.0 front.1 in
-    let ends = fits_parts label end.0 end.1 in
-    let both = fits_parts label range inside in
-    let front_short = upto_at label (λ a. length a.front) (length front.0.front) end.0 (range ∷ others) end.2.0 front.3 end.2.1 (end.2.2 end.0) end.1 in
-    let end_short = upto_at label (λ a. length a.end) (length end.0.end) front.0 (range ∷ others) front.2.0 end.3 front.2.1 (front.2.2 front.0) front.1 in (
-      front.0,
-      end.0,
-      record {
-        first_at = front.2;
-        last_at = end.2;
-        fronts = fronts_order label front.0.front end.0.front begins.0 ends.0 front_short;
-        ends = ends_order label end.0.end front.0.end ends.1 begins.1 end_short;
-        opens = fronts_order label front.0.front range.front begins.0 both.0 (front.3.0 inside);
-        stops = ends_order label end.0.end range.end ends.1 both.1 (end.3.0 inside);
-        begins = begins.0;
-        closes = ends.1;
-        agreeing = each front.0.front end.0.end (drop (length front.0.front) label) (take (length label - length end.0.end) label)
-            (begins_by label front.0.front begins.0) (ends_by label end.0.end ends.1)
-            (within_both label (length front.0.front) (length end.0.end) others front.3.1 end.3.1);
-      },
-    )
-
-between_all : (range : AskedLabel) (list : Listed) (client : ℕ) (service label : List ℕ) (others : List AskedLabel) → fits label range ≡ true
-    → ((front end rest head : List ℕ) → label ≡ front ++ rest → label ≡ head ++ end → Within label (length front) (length end) others
-    → agrees list client service front label end ≡ true)
-    → (first : AskedLabel) × (last : AskedLabel) × IsBetween range list client service label (range ∷ others) first last
-between_all range list client service label others inside each =
-    between_of range list client service label others inside
-    (the_longest label (λ a. length a.front) range others inside (longest label (λ a. length a.front) (range ∷ others)))
-    (the_longest label (λ a. length a.end) range others inside (longest label (λ a. length a.end) (range ∷ others)))
-    each
-
-pub between : (range : AskedLabel) (list : Listed) (client : ℕ) (service label : List ℕ) (asked : List AskedLabel) → asked ≡ asked_of range list client service
-    → IsInRange range label → known list client service label ≡ false
-    → (first : AskedLabel) × (last : AskedLabel) × IsBetween range list client service label asked first last
-unfolding asked_of known agrees
-between range list client service label asked is given lost =
-    subst (λ a. (first : AskedLabel) × (last : AskedLabel) × IsBetween range list client service label a first last) (sym is)
-    (between_all range list client service label
-    (unwrap_or (option_map (λ entry. asked_within most_lists list entry service []) (slice_get list.entries client)) [])
-    given.inside
-    (λ front end rest head begins ends within.
-    entry_agreeing list service label front end rest head (slice_get list.entries client) given.given lost begins ends within))
-
 -- ---- as the code goes from list to list
 
 pub asked_goes_on : (lists less : ℕ) (list : Listed) (entry init : ListedEntry) (service before outer : List ℕ) (old middle new : List AskedLabel)
@@ -591,100 +391,6 @@ asked_ends (suc lists) list entry service before old new some none asked =
     ∙ ap (λ o. asked_by service before (rules_for list entry)
     ++ unwrap_or (option_map (λ i. asked_within lists list i service (behind entry.name before)) o) []) (sym none))
 
-and_of : (a b c : Bool) → a ≡ true → b ≡ c → b ≡ (a && c)
-and_of true b c is same = same
-and_of false b c is same = cc
-
-pub agrees_goes_on : (lists less : ℕ) (list : Listed) (entry init : ListedEntry) (service opened seen end outer_opened outer_seen : List ℕ) (b : Bool)
-    → lists ≡ suc less → init_entry list entry.home ≡ Some init → outer_opened ≡ behind entry.name opened → outer_seen ≡ behind entry.name seen
-    → list_all (rule_agrees service opened seen end) (rules_for list entry) ≡ true
-    → b ≡ agrees_within less list init service outer_opened outer_seen end
-    → b ≡ agrees_within lists list entry service opened seen end
-agrees_goes_on zero less list entry init service opened seen end outer_opened outer_seen b more found opens sees here goes = absurd (omega arith)
-agrees_goes_on (suc lists) less list entry init service opened seen end outer_opened outer_seen b more found opens sees here goes =
-    let same : less ≡ lists = omega arith in
-    and_of (list_all (rule_agrees service opened seen end) (rules_for list entry)) b _ here
-    (goes
-    ∙ (ap (λ n. agrees_within n list init service outer_opened outer_seen end) same
-    ∙ (ap (λ o. agrees_within lists list init service o outer_seen end) opens
-    ∙ (ap (λ s. agrees_within lists list init service (behind entry.name opened) s end) sees
-    ∙ ap (λ o. unwrap_or (option_map (λ i. agrees_within lists list i service (behind entry.name opened) (behind entry.name seen) end) o) true)
-    (sym found)))))
-
-pub agrees_ends : (lists : ℕ) (list : Listed) (entry : ListedEntry) (service opened seen end : List ℕ) → 0 < lists
-    → init_entry list entry.home ≡ None → list_all (rule_agrees service opened seen end) (rules_for list entry) ≡ true
-    → true ≡ agrees_within lists list entry service opened seen end
-agrees_ends zero list entry service opened seen end some none here = absurd (omega arith)
-agrees_ends (suc lists) list entry service opened seen end some none here =
-    and_of (list_all (rule_agrees service opened seen end) (rules_for list entry)) true _ here
-    (ap (λ o. unwrap_or (option_map (λ i. agrees_within lists list i service (behind entry.name opened) (behind entry.name seen) end) o) true) (sym none))
-
-and_false : (a c : Bool) → a ≡ false → false ≡ (a && c)
-and_false true c is = cc
-and_false false c is = refl
-
-pub agrees_not : (lists : ℕ) (list : Listed) (entry : ListedEntry) (service opened seen end : List ℕ) → 0 < lists
-    → list_all (rule_agrees service opened seen end) (rules_for list entry) ≡ false
-    → false ≡ agrees_within lists list entry service opened seen end
-agrees_not zero list entry service opened seen end some here = absurd (omega arith)
-agrees_not (suc lists) list entry service opened seen end some here =
-    and_false (list_all (rule_agrees service opened seen end) (rules_for list entry)) _ here
-
-pub known_goes_on : (lists less : ℕ) (list : Listed) (entry init : ListedEntry) (service before outer label : List ℕ) → lists ≡ suc less
-    → init_entry list entry.home ≡ Some init → outer ≡ behind entry.name before → known_within lists list entry service before label ≡ true
-    → (list_any (is_known service before label) (rules_for list entry) ≡ true) ⊎ (known_within less list init service outer label ≡ true)
-known_goes_on zero less list entry init service before outer label more found sees is = absurd (omega arith)
-known_goes_on (suc lists) less list entry init service before outer label more found sees is =
-    let same : less ≡ lists = omega arith in
-    let there = ap (λ n. known_within n list init service outer label) same
-    ∙ (ap (λ o. known_within lists list init service o label) sees
-    ∙ ap (λ o. unwrap_or (option_map (λ i. known_within lists list i service (behind entry.name before) label) o) false) (sym found)) in
-    elim (or_cases (list_any (is_known service before label) (rules_for list entry)) _ is) [
-      | inl here ↦ inl here
-      | inr outward ↦ inr (there ∙ outward)
-    ]
-
-pub known_ends : (lists : ℕ) (list : Listed) (entry : ListedEntry) (service before label : List ℕ) → init_entry list entry.home ≡ None
-    → known_within lists list entry service before label ≡ true → list_any (is_known service before label) (rules_for list entry) ≡ true
-known_ends zero list entry service before label none is = cc
-known_ends (suc lists) list entry service before label none is =
-    elim (or_cases (list_any (is_known service before label) (rules_for list entry)) _ is) [
-      | inl here ↦ here
-      | inr outward ↦
-          (let lost = sym (ap (λ o. unwrap_or (option_map (λ i. known_within lists list i service (behind entry.name before) label) o) false) none) ∙ outward in
-          cc)
-    ]
-
-pub known_at : (list : Listed) (client : ℕ) (entry : ListedEntry) (service label : List ℕ) → Some entry ≡ slice_get list.entries client
-    → known list client service label ≡ true → known_within most_lists list entry service [] label ≡ true
-unfolding known
-known_at list client entry service label found is =
-    ap (λ o. unwrap_or (option_map (λ (e : ListedEntry). known_within most_lists list e service [] label) o) false) found ∙ is
-
-pub known_lost : (list : Listed) (client : ℕ) (service label : List ℕ) → None ≡ slice_get list.entries client → known list client service label ≡ true → ⊥
-unfolding known
-known_lost list client service label found is =
-    let lost = ap (λ o. unwrap_or (option_map (λ (e : ListedEntry). known_within most_lists list e service [] label) o) false) found ∙ is in
-    cc
-
 pub read_is : (text label : List ℕ) (b : Bool) → Some label ≡ (if b then Some text else None) → (label ≡ text) × (b ≡ true)
 read_is text label true is = (cc, refl)
 read_is text label false is = cc
-
-pub read_none : (text : List ℕ) (b : Bool) → None ≡ (if b then Some text else None) → b ≡ false
-read_none text true read = cc
-read_none text false read = refl
-
--- a text that is read as a label
-pub read_given : (text label : List ℕ) → Some label ≡ (if is_given text then Some text else None) → IsGiven label
-read_given text label read =
-    let is = read_is text label (is_given text) read in
-    subst IsGiven (sym is.0) (is_given_then text is.1)
-
-pub read_within : (text label : List ℕ) → Some label ≡ (if is_given text then Some text else None) → length label ≤ 64
-read_within text label read = let given = read_given text label read in given.short
-
-pub read_begins : (text start label : List ℕ) → Some label ≡ (if is_given text then Some text else None) → text ≡ start
-    → starts_with nat_eq label start ≡ true
-read_begins text start label read is =
-    begins_from label start [] ((read_is text label (is_given text) read).0 ∙ (is ∙ sym (append-nil start)))

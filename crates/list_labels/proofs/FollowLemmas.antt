@@ -1,6 +1,6 @@
 -- Labels that agree with what rules ask are decided by the same rules.
 use Rattle.std.proofs.Common.{◌≡◌, ℕ, ◌<◌, zero, suc, ◌+◌, Bool, true, false, List, [], ◌∷◌, ◌++◌, length, Option, Some, None, refl, sym, ap, ◌∙◌}
-use Rattle.std.specs.Prelude.{if◌then◌else◌, nat_lt, not, position}
+use Rattle.std.specs.Prelude.{flat_map, if◌then◌else◌, nat_lt, not, position}
 use Rattle.std.specs.List.{list_all, prefix_len, slice_get}
 use Rattle.std.specs.Option.{option_map, unwrap_or}
 use Rattle.std.proofs.lemmas.Bool.{and_parts}
@@ -8,9 +8,12 @@ use Rattle.own_model.specs.Routes.{label_with}
 use Rattle.own_model.specs.Listed.{Listed, ListedEntry, ListedRule, asks_for, init_entry, most_lists, rules_for}
 use Rattle.list_labels.specs.Asked.{agrees, agrees_within, behind, rule_agrees}
 use Rattle.list_labels.specs.DecidingRules.{decided, decision_of}
-use Rattle.list_labels.specs.RouteSteps.{route_steps_of, route_steps_within, leads_out}
+use Rattle.list_labels.specs.RouteSteps.{RouteStepAt, route_steps_of, route_steps_within, leads_out}
 use Rattle.list_labels.proofs.AskedLemmas.{as_is, behind_is, behind_long}
-use Rattle.list_labels.proofs.KeyLemmas.{places_of}
+
+-- the places of the rules that hops tell
+abbrev places_of : List RouteStepAt → List ℕ
+places_of hops = flat_map (λ (hop : RouteStepAt). decided hop.rule) hops
 
 before_alike : (service opened seen other end : List ℕ) (rules : List ListedRule)
     → list_all (rule_agrees service opened seen end) rules ≡ true → list_all (rule_agrees service opened other end) rules ≡ true

@@ -14,8 +14,7 @@ use Rattle.own_model.specs.Routes.{as_asked}
 use Rattle.own_model.specs.Listed.{Listed, ListedEntry, ListedRule, init_entry, most_lists, rules_for}
 use Rattle.list_labels.specs.Asked.{behind, is_given, is_known, is_tail, is_whole, known, known_within}
 use Rattle.list_labels.specs.KnownLabels.{AddsLabels, is_filled, is_among, is_tail_after, is_tail_below}
-use Rattle.list_labels.proofs.AskedLemmas.{begins_by, ends_by}
-use Rattle.list_labels.proofs.KeyLemmas.{begins_from, ends_from, same_tests}
+use Rattle.list_labels.proofs.TextLemmas.{begins_by, begins_from, ends_by, ends_from, same_tests}
 
 -- ---- tests
 

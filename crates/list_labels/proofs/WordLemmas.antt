@@ -1,5 +1,5 @@
 -- Pieces of text, one after another.
-use Rattle.std.proofs.Common.{Bool, true, false, nat_eq, codes, ◌≡◌, ◌∙◌, ◌+◌, ◌<◌, ℕ, List, [], ◌∷◌, ◌++◌, length, drop, get_or, append_assoc, encode_utf8, encode_utf8_all, sym, ap}
+use Rattle.std.proofs.Common.{false, nat_eq, codes, ◌≡◌, ◌∙◌, ◌+◌, ◌<◌, ℕ, List, [], ◌∷◌, ◌++◌, length, drop, get_or, append_assoc, encode_utf8, encode_utf8_all, sym, ap}
 use Rattle.std.proofs.lemmas.List.{drop_more}
 use Rattle.list_labels.specs.Words.{between_text, listed}
 

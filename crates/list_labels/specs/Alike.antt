@@ -1,5 +1,5 @@
 -- Labels that no rule separates.
-use Rattle.std.specs.Prelude.{◌≡◌, ℕ, ◌<◌, ◌≤◌, false, true, List, [], length, nat_eq, Contains}
+use Rattle.std.specs.Prelude.{◌≡◌, ℕ, ◌<◌, ◌≤◌, false, true, List, length, nat_eq, Contains}
 use Rattle.std.specs.List.{starts_with, ends_with}
 use Rattle.own_model.specs.Listed.{Listed}
 use Rattle.list_labels.specs.Asked.{asked_of, known}
@@ -24,5 +24,5 @@ pub record IsOfTexts (list : Listed) (client : ℕ) (service front end label : L
   pub unknown : known list client service label ≡ false
   pub begins : starts_with nat_eq label front ≡ true
   pub closes : ends_with nat_eq label end ≡ true
-  pub longest : (asked : AskedLabel) → Contains (asked_of (record { front = []; end = [] }) list client service) asked
+  pub longest : (asked : AskedLabel) → Contains (asked_of list client service) asked
       → fits label asked ≡ true → IsUpTo front end asked

@@ -1,16 +1,12 @@
 -- The conditions of a client's rules on a label that isn't empty: how it begins and ends, or the whole label.
-use Rattle.std.specs.Prelude.{◌≡◌, ℕ, ◌+◌, ◌-◌, ◌<◌, ◌≤◌, zero, suc, Bool, true, false, not, ◌&&◌, ◌||◌, List, [], ◌∷◌, ◌++◌, length, drop, take, codes, nat_eq, nat_le, nat_lt, if◌then◌else◌, Option, Some, None, All, Any}
+use Rattle.std.specs.Prelude.{ℕ, ◌-◌, zero, suc, Bool, true, false, not, ◌&&◌, ◌||◌, List, [], ◌∷◌, ◌++◌, length, drop, take, codes, nat_eq, nat_le, nat_lt, if◌then◌else◌, Option, Some, None}
 use Rattle.std.specs.List.{list_all, list_any, starts_with, ends_with, slice_get}
 use Rattle.std.specs.Option.{option_map, unwrap_or}
 use Rattle.std.specs.Str.{bytes_eq}
 use Rattle.own_model.specs.SessionArgs.{is_quotable}
 use Rattle.own_model.specs.Routes.{as_asked}
 use Rattle.own_model.specs.Listed.{Listed, ListedEntry, ListedRule, asks_for, init_entry, most_lists, rules_for}
-use Rattle.list_labels.specs.GivenLabels.{leads_to}
-use Rattle.list_labels.specs.LabelRanges.{AskedLabel, IsInRange}
-use Rattle.list_labels.specs.Closure.{IsGrown, KeptLabel}
-use Rattle.list_labels.specs.DecidingRules.{same_child, decision_of}
-use Rattle.list_labels.specs.Representatives.{GoesAlike}
+use Rattle.list_labels.specs.LabelRanges.{AskedLabel}
 
 -- a text before the text after the arrow
 abbrev pub behind : List ℕ → List ℕ → List ℕ
@@ -55,11 +51,10 @@ asked_within (suc lists) list entry service before =
     asked_by service before (rules_for list entry)
     ++ unwrap_or (option_map (λ init. asked_within lists list init service (behind entry.name before)) (init_entry list entry.home)) []
 
--- the same after the condition of a range
-unfoldable pub asked_of : AskedLabel → Listed → ℕ → List ℕ → List AskedLabel
-asked_of range list client service =
-    range
-    ∷ unwrap_or (option_map (λ entry. asked_within most_lists list entry service []) (slice_get list.entries client)) []
+-- the conditions of the rules for a client's requests
+unfoldable pub asked_of : Listed → ℕ → List ℕ → List AskedLabel
+asked_of list client service =
+    unwrap_or (option_map (λ entry. asked_within most_lists list entry service []) (slice_get list.entries client)) []
 
 -- ---- which rules match
 
@@ -117,79 +112,3 @@ known_within (suc lists) list entry service before label =
 unfoldable pub known : Listed → ℕ → List ℕ → List ℕ → Bool
 known list client service label =
     unwrap_or (option_map (λ entry. known_within most_lists list entry service [] label) (slice_get list.entries client)) false
-
--- ---- what is offered
-
--- a kept label is routed as another label by the same rules, and is no longer
-abbrev pub IsHeld : Listed → ℕ → List ℕ → List KeptLabel → List ℕ → Type 0
-IsHeld list client service kept label = Any (GoesAlike list client service label) kept
-
--- a kept label is of a range, and its target and its rules are kept with it
-pub record IsFollowed (range : AskedLabel) (list : Listed) (client : ℕ) (service : List ℕ) (kept : KeptLabel) : Type 0 where
-  pub asked : IsInRange range kept.label
-  pub leads : kept.child ≡ leads_to list client service kept.label
-  pub decided : kept.key ≡ decision_of list client service kept.label
-
--- the kept labels have their targets and rules, after those that were kept
-pub record Adds (range : AskedLabel) (list : Listed) (client : ℕ) (service : List ℕ) (old new : List KeptLabel) : Type 0 where
-  pub told : All (IsFollowed range list client service) new
-  pub grown : IsGrown old new
-
--- each end of a text whose rest is an end of the names before the label, with a front before it
-abbrev pub AreJoined : AskedLabel → Listed → ℕ → List ℕ → List ℕ → List ℕ → List ℕ → List KeptLabel → Type 0
-AreJoined range list client service before front end kept =
-    (cut rest : List ℕ) → end ≡ cut ++ rest → ends_with nat_eq before cut ≡ true → IsInRange range (front ++ rest)
-    → IsHeld list client service kept (front ++ rest)
-
--- a label of a range that represents all those between two texts, with something between them
-pub record IsFilled (range : AskedLabel) (list : Listed) (client : ℕ) (service front end label : List ℕ) : Type 0 where
-  pub asked : IsInRange range label
-  pub some : 0 < length label
-  pub short : length label ≤ length front + 1 + length end
-  pub agrees : agrees list client service front label end ≡ true
-
--- two conditions go together: one label can match both, and each label that begins as the first and ends as the last is of a range
-abbrev pub joins : AskedLabel → AskedLabel → AskedLabel → Bool
-joins range first last =
-    starts_with nat_eq first.front last.front
-    && (ends_with nat_eq last.end first.end && (starts_with nat_eq first.front range.front && ends_with nat_eq last.end range.end))
-
--- labels that begin as one asks and end as another does: joined, and with something between
-pub record AreOffered (range : AskedLabel) (list : Listed) (client : ℕ) (service front end : List ℕ) (kept : List KeptLabel) : Type 0 where
-  pub joined : AreJoined range list client service front front end kept
-  pub filled : length front + length end < 64 → (label : List ℕ) × IsFilled range list client service front end label × IsHeld list client service kept label
-
-abbrev pub IsOffered : AskedLabel → Listed → ℕ → List ℕ → List KeptLabel → AskedLabel → AskedLabel → Type 0
-IsOffered range list client service kept first last =
-    joins range first last ≡ true → AreOffered range list client service first.front last.end kept
-
--- the same for the end after so many bytes
-abbrev pub IsCut : AskedLabel → Listed → ℕ → List ℕ → List ℕ → List ℕ → List ℕ → ℕ → List KeptLabel → Type 0
-IsCut range list client service before front end cut kept =
-    ends_with nat_eq before (take cut end) ≡ true → IsInRange range (front ++ drop cut end) → IsHeld list client service kept (front ++ drop cut end)
-
--- a label with the end of a range after it is kept, if it is of the range
-abbrev pub IsEnded : AskedLabel → Listed → ℕ → List ℕ → List KeptLabel → KeptLabel → Type 0
-IsEnded range list client service kept stem =
-    IsInRange range (stem.label ++ range.end) → IsHeld list client service kept (stem.label ++ range.end)
-
--- ---- labels that are kept already
-
--- a label of at most so many bytes is routed there by the same rules
-abbrev pub goes_as_short : Option ℕ → List ℕ → ℕ → KeptLabel → Bool
-goes_as_short child rules most one =
-    nat_le (length one.label) most && (same_child one.child child && bytes_eq one.key rules)
-
--- ---- which have to be tried
-
--- an earlier condition has the front of another, and matches each label that the other matches
-abbrev pub is_first_for : AskedLabel → AskedLabel → Bool
-is_first_for one other = bytes_eq other.front one.front && ends_with nat_eq one.end other.end
-
--- the same for its end
-abbrev pub is_last_for : AskedLabel → AskedLabel → Bool
-is_last_for one other = bytes_eq other.end one.end && starts_with nat_eq one.front other.front
-
--- for each condition there is one of these
-abbrev pub Serve : (AskedLabel → AskedLabel → Bool) → List AskedLabel → List AskedLabel → Type 0
-Serve serves asked some = All (λ one. Any (λ other. serves one other ≡ true) some) asked

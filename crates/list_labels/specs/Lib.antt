@@ -1,13 +1,9 @@
 pub mod Alike
 pub mod Asked
-pub mod Closure
 pub mod DecidingRules
 pub mod GivenLabels
-pub mod Keys
 pub mod KnownLabels
 pub mod LabelRanges
 pub mod LabelSets
-pub mod Representatives
 pub mod RouteSteps
-pub mod Searches
 pub mod Words

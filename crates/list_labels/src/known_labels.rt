@@ -7,8 +7,7 @@ ghost use Rattle.std.specs.Str.{bytes_eq};
 ghost use Rattle.list_labels.specs.Asked.{is_known, is_tail, is_whole, known, known_within};
 ghost use Rattle.list_labels.specs.KnownLabels.{AddsLabels, is_tail_after};
 
-use crate::key::{MOST_LISTS, client_entry};
-use crate::label::{ClientLabel, behind};
+use crate::label::{ClientLabel, MOST_LISTS, behind};
 use crate::label_condition::text_behind;
 use crate::session_requests::SessionRequests;
 use list_parser::{ListEntry, Rule};
@@ -22,7 +21,7 @@ pub fn add_known(
     ensures { OnOk result (AddsLabels (known wishes.entry.list.now wishes.entry.client
         wishes.entry.service.now) labels.old.items labels.new.items) }
 {
-    match client_entry(wishes) {
+    match wishes.list.entries().get(wishes.client) {
         Some(entry) => add_within(labels, wishes, MOST_LISTS, entry, &[]),
         None => Ok(()),
     }

@@ -17,6 +17,9 @@ pub const LONGEST_GIVEN: usize = 64;
 /// The maximum number of bytes of a label after the names of all inits above a client.
 pub(crate) const LONGEST_SEEN: usize = 208;
 
+/// The maximum number of lists from a client's own list to the machine's list, both included.
+pub(crate) const MOST_LISTS: usize = 4;
+
 /// A label that a client can give: at most 64 bytes, each of which can be in quotes.
 #[derive(Drop)]
 pub struct ClientLabel {
@@ -32,8 +35,7 @@ impl Model for ClientLabel {
 }
 
 impl ClientLabel {
-    ghost use Rattle.std.specs.Prelude.{[], ◌∷◌, ◌++◌, ◌<◌};
-    ghost use Rattle.std.specs.Prelude.{None, if◌then◌else◌};
+    ghost use Rattle.std.specs.Prelude.{[], None, if◌then◌else◌};
     ghost use Rattle.list_labels.specs.Asked.{is_given};
 
     /// Returns a text as a label, or none if the text is longer than 64 bytes or has a byte that no label has.
@@ -64,16 +66,6 @@ impl ClientLabel {
         let mut text = ArrayVec::new();
         let _ = text.try_extend_from_slice(self.text.as_slice());
         ClientLabel { text }
-    }
-
-    /// Returns the label with a byte added at its end. The label must have fewer than 64 bytes.
-    pub(crate) fn with(&self, byte: u8) -> ClientLabel
-        requires { length self.now < 64 }
-        ensures { result ≡ self.now ++ byte ∷ [] }
-    {
-        let mut label = self.copy();
-        label.text.push(byte);
-        label
     }
 
     /// Returns the bytes of the label, at most 64.

@@ -1,11 +1,9 @@
 //! The conditions of a client's rules on a label that isn't empty.
 ghost use Rattle.std.specs.Prelude.{◌≡◌, ◌+◌, ◌*◌, ◌≤◌, ◌++◌, [], ◌∷◌, length, drop, if◌then◌else◌, Some, None, IfOk, OnOk};
 ghost use Rattle.std.specs.Option.{option_copied};
-ghost use Rattle.std.specs.List.{list_all};
-ghost use Rattle.list_labels.specs.Asked.{agrees, agrees_within, asked_by, asked_of, asked_of_rule, asked_texts, asked_within, asks_nothing, behind, can_begin, is_open, rule_agrees, text_of};
+ghost use Rattle.list_labels.specs.Asked.{asked_by, asked_of, asked_of_rule, asked_texts, asked_within, asks_nothing, behind, can_begin, text_of};
 
-use crate::key::MOST_LISTS;
-use crate::label::{ClientLabel, behind};
+use crate::label::{ClientLabel, MOST_LISTS, behind};
 use crate::session_requests::SessionRequests;
 use list_parser::{ListEntry, Rule, StartList};
 use std::alloc::{AllocError, Global};
@@ -70,31 +68,18 @@ impl LabelCondition {
     {
         label.starts_with(self.front.as_bytes()) && label.ends_with(self.end.as_bytes())
     }
-
-    /// Returns a copy of the condition, with the same texts.
-    pub(crate) fn copy(&self) -> LabelCondition
-        ensures { result ≡ self.now }
-    {
-        LabelCondition {
-            front: self.front.copy(),
-            end: self.end.copy(),
-        }
-    }
 }
 
-/// Returns the conditions of the rules that match a label by how it begins and ends, after the condition of the range. Fails if the
-/// host is out of memory.
+/// Returns the conditions of the rules that match a label by how it begins and ends. Fails if the host is out of memory.
 #[tactic(auto, unfolding(crate::specs::Asked::asked_of))]
 pub fn asked_of(
     alloc: Global,
     wishes: SessionRequests<'_>,
-    range: &LabelCondition,
 ) -> Result<Vec<LabelCondition>, AllocError>
     ensures { IfOk result (λ asked. asked.items
-        ≡ asked_of range.now wishes.entry.list.now wishes.entry.client wishes.entry.service.now) }
+        ≡ asked_of wishes.entry.list.now wishes.entry.client wishes.entry.service.now) }
 {
     let mut asked = Vec::new(alloc);
-    asked.push(range.copy())?;
     if let Some(entry) = wishes.list.entries().get(wishes.client) {
         add_asked(
             &mut asked,
@@ -215,86 +200,4 @@ pub(crate) fn text_behind(text: &[u8], before: usize) -> &[u8]
     } else {
         &[]
     }
-}
-
-/// Returns whether each rule that is asked matches a label just if it matches all long enough labels that begin and end so.
-#[tactic(auto, unfolding(crate::specs::Asked::agrees))]
-pub(crate) fn agrees(wishes: SessionRequests<'_>, front: &[u8], label: &[u8], end: &[u8]) -> bool
-    requires front { length front.now ≤ 64 }
-    requires label { length label.now ≤ 64 }
-    ensures { result ≡ agrees wishes.entry.list.now wishes.entry.client wishes.entry.service.now
-        front.now label.now end.now }
-{
-    match wishes.list.entries().get(wishes.client) {
-        Some(entry) => agrees_within(wishes, MOST_LISTS, entry, front, label, end),
-        None => true,
-    }
-}
-
-// The same for the rules for an entry and, through at most so many lists outward, for the inits above it.
-fn agrees_within(
-    wishes: SessionRequests<'_>,
-    lists: usize,
-    entry: &ListEntry,
-    opened: &[u8],
-    seen: &[u8],
-    end: &[u8],
-) -> bool
-    requires opened { length opened.now + lists * 36 ≤ 208 }
-    requires seen { length seen.now + lists * 36 ≤ 208 }
-    ensures { result ≡ agrees_within lists wishes.entry.list.now entry.now
-        wishes.entry.service.now opened.now seen.now end.now }
-{
-    if lists == 0 {
-        return true;
-    }
-    let rules = wishes.list.rules_of(entry);
-    if !agrees_by(rules, wishes.service, opened, seen, end) {
-        return false;
-    }
-    match wishes.list.init_entry(entry.home()) {
-        Some(init) => {
-            let opened = behind(entry.name(), opened);
-            let seen = behind(entry.name(), seen);
-            agrees_within(
-                wishes,
-                lists - 1,
-                init,
-                opened.as_slice(),
-                seen.as_slice(),
-                end,
-            )
-        }
-        None => true,
-    }
-}
-
-// The same for the rules of a list.
-fn agrees_by(rules: &[Rule], service: &[u8], opened: &[u8], seen: &[u8], end: &[u8]) -> bool
-    ensures { result ≡ list_all (rule_agrees service.now opened.now seen.now end.now) rules.now }
-{
-    rules
-        .iter()
-        .all(|rule| rule_agrees(rule, service, opened, seen, end))
-}
-
-// The same for a rule.
-fn rule_agrees(rule: &Rule, service: &[u8], opened: &[u8], seen: &[u8], end: &[u8]) -> bool
-    ensures { result ≡ rule_agrees service.now opened.now seen.now end.now rule.now }
-{
-    if rule.matches(service, seen) {
-        is_open(rule, service, opened, end)
-    } else {
-        !is_open(rule, service, opened, end)
-    }
-}
-
-// Whether a rule matches each long enough label that begins and ends so.
-fn is_open(rule: &Rule, service: &[u8], opened: &[u8], end: &[u8]) -> bool
-    ensures { result ≡ is_open rule.now service.now opened.now end.now }
-{
-    rule.asks_service(service)
-        && asks_nothing(rule.label())
-        && rule.labels().begins(opened)
-        && rule.labels().ends(end)
 }

@@ -3,8 +3,7 @@ ghost use Rattle.std.specs.Prelude.{◌≡◌, ◌+◌, ◌*◌, ◌≤◌, ◌+
 ghost use Rattle.own_model.specs.Listed.{asks_for};
 ghost use Rattle.list_labels.specs.RouteSteps.{route_steps_of, route_steps_within, leads_out};
 
-use crate::key::MOST_LISTS;
-use crate::label::{LONGEST_SEEN, label_with};
+use crate::label::{LONGEST_SEEN, MOST_LISTS, label_with};
 use arrayvec::ArrayVec;
 use list_parser::{ListEntry, Rule, StartList};
 use std::alloc::{AllocError, Global};

@@ -1,5 +1,5 @@
 -- What is kept of each label's trail, and what the trails tell of all given labels.
-use Rattle.std.proofs.Common.{◌≡◌, ◌≢◌, ℕ, ◌<◌, ◌≤◌, zero, suc, ◌+◌, Bool, true, List, [], ◌∷◌, ◌++◌, length, get_or, refl, sym, subst, ap, ◌∙◌, arith, ◌⊎◌, inl, inr, Option}
+use Rattle.std.proofs.Common.{◌≡◌, ◌≢◌, ℕ, ◌<◌, ◌≤◌, zero, suc, ◌+◌, Bool, true, List, [], ◌∷◌, ◌++◌, length, get_or, refl, sym, subst, ap, ◌∙◌, arith, ◌⊎◌, inl, inr, Option, Some, None}
 use Rattle.std.specs.Prelude.{All, Any, nat_le}
 use Rattle.std.specs.List.{list_all, list_any}
 use Rattle.std.specs.Str.{bytes_eq}
@@ -13,15 +13,28 @@ use Rattle.std.proofs.lemmas.List.Quantifiers.{Any-push}
 use Rattle.std.proofs.lemmas.Bool.{and_from, and_parts, or_left, or_right, or_cases}
 use Rattle.own_model.specs.Listed.{Listed}
 use Rattle.own_model.specs.SessionArgs.{is_quotable}
-use Rattle.list_labels.specs.Closure.{KeptLabel}
+use Rattle.list_classes.specs.Representatives.{GoesAlike, IsTold, KeptLabel, RepresentAll}
 use Rattle.list_reach.specs.Deciding.{AreDecisions, HasDecision, IsDecision, KeepsDecision, DecisionAt, for_some_label, is_same, some_byte, some_label}
 use Rattle.list_labels.specs.DecidingRules.{same_child, decision_of}
 use Rattle.list_labels.specs.GivenLabels.{IsGiven, leads_to}
 use Rattle.list_reach.specs.DecisionOrder.{AreSeen}
-use Rattle.list_labels.specs.Representatives.{GoesAlike, IsTold, RepresentAll}
-use Rattle.list_labels.proofs.CandidateLemmas.{same_end}
-use Rattle.list_labels.proofs.ClosureLemmas.{below_or_at, quotable_within}
-use Rattle.list_labels.proofs.KeyLemmas.{same_tests}
+use Rattle.list_labels.proofs.TextLemmas.{same_tests}
+
+below_or_at : (n most : ℕ) → n ≤ most → (n < most) ⊎ (n ≡ most)
+below_or_at zero zero within = inr refl
+below_or_at zero (suc most) within = inl (omega arith)
+below_or_at (suc n) zero within = absurd (omega arith)
+below_or_at (suc n) (suc most) within = elim (below_or_at n most (omega arith)) [ inl less ↦ inl (omega arith) | inr same ↦ inr (ap suc same) ]
+
+-- two targets that a test finds the same are the same
+same_end : (child other : Option ℕ) → same_child child other ≡ true → child ≡ other
+same_end None None is = refl
+same_end None (Some other) is = cc
+same_end (Some child) None is = cc
+same_end (Some child) (Some other) is = let same : child ≡ other = grind (arith, nat_tests) in ap Some same
+
+quotable_below : (byte : ℕ) → is_quotable byte ≡ true → byte < 127
+quotable_below byte plain = grind (arith, nat_tests)
 
 -- ---- one trail
 
@@ -200,7 +213,7 @@ label_in zero (b ∷ label) holds short plain is = absurd (omega arith)
 label_in (suc most) [] holds short plain is = or_left _ _ is
 label_in (suc most) (b ∷ label) holds short plain is =
     let both = and_parts (is_quotable b) (list_all is_quotable label) plain in
-    or_right _ _ (byte_in 127 b (λ byte. some_label most (λ label. holds (byte ∷ label))) (quotable_within b both.0).1 both.0
+    or_right _ _ (byte_in 127 b (λ byte. some_label most (λ label. holds (byte ∷ label))) (quotable_below b both.0) both.0
     (label_in most label (λ label. holds (b ∷ label)) (omega arith) both.1 is))
 
 -- a label of at most so many bytes of which it holds

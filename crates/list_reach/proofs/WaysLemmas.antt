@@ -7,10 +7,9 @@ use Rattle.std.proofs.lemmas.List.Elements.{All-contains}
 use Rattle.std.proofs.lemmas.List.Sums.{AllPass-from_list_all}
 use Rattle.own_model.specs.Listed.{Listed}
 use Rattle.list_reach.specs.Reach.{AllRouted, IsShortest, NoneRouted, SomeNotRouted}
-use Rattle.list_labels.specs.Closure.{KeptLabel}
+use Rattle.list_classes.specs.Representatives.{IsTold, IsToldIn, KeptLabel, RepresentAll, RepresentRange}
 use Rattle.list_reach.specs.ClientReach.{AreRoutes, IsBest, IsLeast, is_child, is_shorter, leads}
 use Rattle.list_labels.specs.LabelRanges.{AskedLabel}
-use Rattle.list_labels.specs.Representatives.{IsTold, IsToldIn, RepresentAll, RepresentRange}
 use Rattle.list_labels.specs.GivenLabels.{IsGiven}
 use Rattle.list_reach.specs.RangeReach.{IsShortestInRange, NoneRoutedInRange}
 

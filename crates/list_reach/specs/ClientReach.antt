@@ -3,8 +3,7 @@ use Rattle.std.specs.Prelude.{◌≡◌, ℕ, ◌<◌, ◌≤◌, ◌==◌, Bool
 use Rattle.own_model.specs.Listed.{Listed}
 use Rattle.list_labels.specs.GivenLabels.{IsGiven, leads_to}
 use Rattle.list_reach.specs.Reach.{IsShortest, AllRouted, NoneRouted, SomeNotRouted}
-use Rattle.list_labels.specs.Closure.{KeptLabel}
-use Rattle.list_labels.specs.Representatives.{IsTold}
+use Rattle.list_classes.specs.Representatives.{IsTold, KeptLabel}
 use Rattle.list_reach.specs.declared.client_reach.Reach.{Reach}
 use Rattle.list_reach.specs.declared.client_reach.Reach.TheVariants.{Always, By, Never}
 

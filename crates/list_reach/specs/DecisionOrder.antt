@@ -1,7 +1,7 @@
 -- The decisions on labels that represent all given ones, the shorter labels first.
 use Rattle.std.specs.Prelude.{◌≡◌, ℕ, ◌<◌, List, length, slice_index_or, All, Any}
 use Rattle.own_model.specs.Listed.{Listed}
-use Rattle.list_labels.specs.Closure.{KeptLabel}
+use Rattle.list_classes.specs.Representatives.{KeptLabel}
 use Rattle.list_reach.specs.Deciding.{HasDecision, IsDecision, DecisionAt}
 
 -- the decisions on all kept labels of fewer bytes are there, and those on the first labels of so many bytes

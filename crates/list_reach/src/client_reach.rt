@@ -3,14 +3,12 @@ ghost use Rattle.std.specs.Prelude.{◌≡◌, ◌<◌, ◌+◌, ℕ, List, leng
 ghost use Rattle.std.specs.List.{list_all};
 ghost use Rattle.own_model.specs.Listed.{Listed};
 ghost use Rattle.list_labels.specs.LabelRanges.{AskedLabel};
-ghost use Rattle.list_labels.specs.Representatives.{RepresentRange};
+ghost use Rattle.list_classes.specs.Representatives.{RepresentRange};
 ghost use Rattle.list_reach.specs.ClientReach.{AreRoutes, IsBest, DescribesReach, is_shorter, leads};
 ghost use Rattle.list_reach.specs.RangeReach.{IsShortestInRange, NoneRoutedInRange};
 
-use list_labels::{
-    ClientLabel, KeyedLabel, LabelCondition, SessionRequests, representatives_in,
-    representatives_of,
-};
+use list_classes::{RoutedLabel, representatives_in, representatives_of};
+use list_labels::{ClientLabel, LabelCondition, SessionRequests};
 use std::alloc::{AllocError, Global};
 use std::marker::Model;
 
@@ -28,12 +26,12 @@ pub enum Reach {
 /// The reach of a client's requests for a service: labels that represent all labels that the client can give, with their servers.
 #[derive(Drop)]
 pub struct ClientReach {
-    kept: Vec<KeyedLabel>,
+    kept: Vec<RoutedLabel>,
 }
 
 impl Model for ClientReach {
     ghost use Rattle.std.specs.Prelude.{List};
-    ghost use Rattle.list_labels.specs.Closure.{KeptLabel};
+    ghost use Rattle.list_classes.specs.Representatives.{KeptLabel};
 
     ghost Value = { List KeptLabel };
 
@@ -89,7 +87,7 @@ pub fn shortest_in_range(
 }
 
 // A shortest label that is routed to a server, if one is.
-fn shortest_of(kept: &[KeyedLabel], server: usize) -> Option<ClientLabel>
+fn shortest_of(kept: &[RoutedLabel], server: usize) -> Option<ClientLabel>
     ensures { (range : AskedLabel) (list : Listed) (client : ℕ) (service : List ℕ)
         → RepresentRange range list client service kept.now → MatchOption result
         (NoneRoutedInRange range list client service server)
@@ -105,7 +103,7 @@ fn shortest_of(kept: &[KeyedLabel], server: usize) -> Option<ClientLabel>
 }
 
 // The place of a shortest label that is routed to a server, if one is.
-fn shortest(kept: &[KeyedLabel], server: usize) -> Option<usize>
+fn shortest(kept: &[RoutedLabel], server: usize) -> Option<usize>
     ensures { IsBest kept.now server (length kept.now) result }
 {
     let mut best = None;
@@ -118,11 +116,11 @@ fn shortest(kept: &[KeyedLabel], server: usize) -> Option<usize>
 // The shorter one of the best so far and the next label, if the next is routed to a server.
 #[tactic(auto, using(crate::proofs::WaysLemmas::best_stays))]
 fn better(
-    kept: &[KeyedLabel],
+    kept: &[RoutedLabel],
     server: usize,
     best: Option<usize>,
     place: usize,
-    one: &KeyedLabel,
+    one: &RoutedLabel,
 ) -> Option<usize>
     requires place { place < length kept.now }
     requires here { one.now ≡ slice_index_or kept.now place one.now }
@@ -137,7 +135,7 @@ fn better(
 }
 
 // Whether a label is routed to a server.
-fn leads(one: &KeyedLabel, server: usize) -> bool
+fn leads(one: &RoutedLabel, server: usize) -> bool
     ensures { result ≡ leads server one.now }
 {
     match one.child {
@@ -147,7 +145,7 @@ fn leads(one: &KeyedLabel, server: usize) -> bool
 }
 
 // Whether a label is shorter than the one at a place, or there is none.
-fn is_shorter(kept: &[KeyedLabel], one: &KeyedLabel, best: Option<usize>) -> bool
+fn is_shorter(kept: &[RoutedLabel], one: &RoutedLabel, best: Option<usize>) -> bool
     requires within { IfSome best (λ place. place < length kept.now) }
     ensures { result ≡ is_shorter kept.now one.now best }
 {
@@ -161,7 +159,7 @@ fn is_shorter(kept: &[KeyedLabel], one: &KeyedLabel, best: Option<usize>) -> boo
 }
 
 // Whether all labels are routed to a server.
-fn all_lead(kept: &[KeyedLabel], server: usize) -> bool
+fn all_lead(kept: &[RoutedLabel], server: usize) -> bool
     ensures { result ≡ list_all (leads server) kept.now }
 {
     kept.iter().all(|one| leads(one, server))

@@ -5,7 +5,7 @@ ghost use Rattle.list_reach.specs.Comparisons.{Compares, IsSetBy};
 ghost use Rattle.list_reach.specs.RoutedLabels.{IsShortest, IsWitness, RoutedLabel, class_routes, is_gained, is_lost, is_moved, is_shorter, is_to, routed_on, routes_of};
 
 use list_classes::{LabelClass, LabelClasses, described};
-use list_labels::{ClientLabel, LabelSet, SessionRequests};
+use list_labels::{ClientLabel, LabelCondition, LabelSet, SessionRequests};
 use list_routes::route;
 use std::alloc::{AllocError, Global};
 use std::marker::Model;
@@ -66,7 +66,7 @@ impl RouteComparison {
         requires after { IfSome after (λ wishes. wishes.client < length wishes.list.now.entries) }
         ensures { IfOk result (Compares (routed_on before.entry) (routed_on after.entry)) }
     {
-        let classes = LabelClasses::of(alloc, before, after)?;
+        let classes = LabelClasses::of(alloc, &LabelCondition::none(), before, after)?;
         let mut routed = Vec::new(alloc);
         add_classes(&mut routed, before, after, classes.as_slice())?;
         Ok(RouteComparison { classes, routed })

@@ -3,12 +3,10 @@ ghost use Rattle.std.specs.Prelude.{◌≡◌, ◌+◌, ◌<◌, length, All, If
 ghost use Rattle.std.specs.List.{list_any};
 ghost use Rattle.list_reach.specs.Deciding.{AreDecisions, IsDecision, KeepsDecision, is_same};
 ghost use Rattle.list_reach.specs.DecisionOrder.{AreSeen};
-ghost use Rattle.list_labels.specs.Representatives.{IsTold, RepresentAll};
+ghost use Rattle.list_classes.specs.Representatives.{IsTold, RepresentAll};
 
-use list_labels::{
-    ClientLabel, KeyedLabel, LONGEST_GIVEN, SessionRequests, representatives_of, rules_for,
-    same_child,
-};
+use list_classes::{RoutedLabel, representatives_of};
+use list_labels::{ClientLabel, LONGEST_GIVEN, SessionRequests, rules_for, same_child};
 use std::alloc::{AllocError, Global};
 use std::marker::Model;
 
@@ -100,7 +98,7 @@ fn keep_all_of(
     alloc: Global,
     trails: &mut Vec<RouteDecision>,
     wishes: SessionRequests<'_>,
-    kept: &[KeyedLabel],
+    kept: &[RoutedLabel],
     size: usize,
 ) -> Result<(), AllocError>
     requires client { wishes.client < length wishes.list.now.entries }
@@ -121,7 +119,7 @@ fn keep_if(
     alloc: Global,
     trails: &mut Vec<RouteDecision>,
     wishes: SessionRequests<'_>,
-    kept: &[KeyedLabel],
+    kept: &[RoutedLabel],
     size: usize,
     place: usize,
 ) -> Result<(), AllocError>
@@ -147,7 +145,7 @@ fn keep(
     alloc: Global,
     trails: &mut Vec<RouteDecision>,
     wishes: SessionRequests<'_>,
-    one: &KeyedLabel,
+    one: &RoutedLabel,
 ) -> Result<(), AllocError>
     requires client { wishes.client < length wishes.list.now.entries }
     requires told { IsTold wishes.list.now wishes.client wishes.service.now one.now }

@@ -3,7 +3,7 @@ use Rattle.std.proofs.Common.{◌∙◌, ◌-◌, ◌||◌, ap, arith, sym}
 use Rattle.std.specs.List.{list_any}
 use Rattle.own_model.specs.Listed.{init_entry}
 use Rattle.list_labels.specs.Asked.{behind, is_known, known_within}
-use Rattle.list_labels.proofs.KeyLemmas.{ok_map}
+use Rattle.std.proofs.lemmas.Result.{on_ok_weaker}
 use Rattle.list_labels.proofs.KnownLemmas.{added_as, added_then, known_here, known_out}
 use Rattle.list_labels.proofs.known_labels.+add_within.Goals as goal
 
@@ -14,7 +14,7 @@ returns-in-Some t c =
     let before = c.args.before.now in
     let outer = c.as_slice.result.now in
     let rules = c.rules_of.result.now in
-    ok_map _ _ c.add_within.result
+    on_ok_weaker c.add_within.result
     (λ added. added_then (λ label. list_any (is_known service before label) rules)
     (known_within (c.args.lists - 1) list c.in-Some.init.now service outer)
     (known_within c.args.lists list c.args.entry.now service before)

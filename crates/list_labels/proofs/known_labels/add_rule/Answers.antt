@@ -2,7 +2,7 @@
 use Rattle.std.proofs.Common.{◌∙◌, sym}
 use Rattle.std.specs.Option.{option_copied}
 use Rattle.list_labels.specs.Asked.{is_known, is_tail, is_whole}
-use Rattle.list_labels.proofs.KeyLemmas.{ok_map}
+use Rattle.std.proofs.lemmas.Result.{on_ok_weaker}
 use Rattle.list_labels.proofs.KnownLemmas.{added_none, added_then, known_else, known_when}
 use Rattle.list_labels.proofs.known_labels.add_rule.Goals as goal
 
@@ -10,7 +10,7 @@ pub returns : goal.returns
 returns c =
     let service = c.args.service.now in
     let before = c.args.before.now in
-    ok_map _ _ c.add_tails.result
+    on_ok_weaker c.add_tails.result
     (λ added. added_then (λ label. is_whole before label (option_copied c.label.result))
     (λ label. is_tail before label (option_copied c.label_suffix.result)) (λ label. is_known service before label c.args.rule.now)
     c.args.known.now.items c.add_whole.new.known.items c.add_tails.new.known.items c.in_ok-add_whole.ensures added

@@ -1,4 +1,4 @@
-use Rattle.std.proofs.Common.{ℕ, ◌<◌}
+use Rattle.std.proofs.Common.{◌<◌}
 use Rattle.list_labels.specs.KnownLabels.{AddsLabels, is_tail_below}
 use Rattle.list_labels.proofs.known_labels.add_tails.Given as goal
 

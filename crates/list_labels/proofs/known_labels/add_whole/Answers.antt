@@ -4,7 +4,7 @@ use Rattle.std.specs.List.{starts_with}
 use Rattle.std.specs.Option.{option_copied}
 use Rattle.std.specs.Str.{bytes_eq}
 use Rattle.list_labels.specs.Asked.{is_whole}
-use Rattle.list_labels.proofs.KeyLemmas.{ok_map}
+use Rattle.std.proofs.lemmas.Result.{on_ok_weaker}
 use Rattle.list_labels.proofs.KnownLemmas.{added_as, added_none, whole_as, whole_lost}
 use Rattle.list_labels.proofs.known_labels.add_whole.Goals as goal
 
@@ -12,7 +12,7 @@ pub returns-in-Some : goal.returns-in-Some
 returns-in-Some c =
     let before = c.args.before.now in
     let asked = c.in-Some.label.now in
-    ok_map _ _ c.add.result
+    on_ok_weaker c.add.result
     (λ added. added_as _ (λ label. is_whole before label (option_copied c.args.asked)) c.args.known.now.items c.add.new.known.items added
     (λ label filled. ap (λ o. is_whole before label o) (ap option_copied c.in-Some.is)
     ∙ (whole_as before asked label

@@ -3,7 +3,7 @@ use Rattle.std.proofs.Common.{◌∙◌, ap, arith, inl, inr, sym}
 use Rattle.own_model.specs.Listed.{init_entry}
 use Rattle.own_model.specs.Routes.{label_with}
 use Rattle.list_labels.proofs.HopLemmas.{hops_end, hops_on}
-use Rattle.list_labels.proofs.KeyLemmas.{ok_map}
+use Rattle.std.proofs.lemmas.Result.{on_ok_weaker}
 use Rattle.list_labels.proofs.route_steps.+add_hops.Goals as goal
 
 pub returns-then-not-leads_out : goal.returns-then-not-leads_out
@@ -21,7 +21,7 @@ returns-in-None t c =
 
 pub returns-in-Some : goal.returns-in-Some
 returns-in-Some t c =
-    ok_map _ _ c.add_hops.result
+    on_ok_weaker c.add_hops.result
     (λ goes. hops_on c.args.lists _ c.args.list.now c.args.entry.now c.in-Some.init.now c.args.service.now c.args.seen.now
     c.copied.result.items c.as_slice.result.now c.rules_of-rules.result.now c.first_match-rule.result c.args.hops.now.items
     c.push.new.self.items c.add_hops.new.hops.items (omega arith) c.copied.ensures c.rules_of-rules.ensures c.first_match-rule.ensures

@@ -1,6 +1,6 @@
 -- A shortest label of those that represent all.
 use Rattle.std.proofs.Common.{◌≡◌, ◌∙◌, List, ℕ, ap, subst, sym}
-use Rattle.list_labels.specs.Closure.{KeptLabel}
+use Rattle.list_classes.specs.Representatives.{KeptLabel}
 use Rattle.list_reach.specs.RangeReach.{IsShortestInRange}
 use Rattle.list_reach.proofs.WaysLemmas.{range_never, range_shortest}
 use Rattle.list_reach.proofs.client_reach.shortest_of.Goals as goal

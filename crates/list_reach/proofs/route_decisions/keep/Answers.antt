@@ -1,6 +1,6 @@
 -- A trail that isn't there yet.
 use Rattle.std.proofs.Common.{◌≡◌, ◌∙◌, ap, subst, sym}
-use Rattle.list_labels.specs.Closure.{KeptLabel}
+use Rattle.list_classes.specs.Representatives.{KeptLabel}
 use Rattle.list_reach.specs.Deciding.{KeepsDecision, DecisionAt}
 use Rattle.list_labels.specs.DecidingRules.{decision_of}
 use Rattle.list_reach.proofs.TrailLemmas.{keeps_new}

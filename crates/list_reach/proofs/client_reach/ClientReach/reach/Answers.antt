@@ -1,6 +1,6 @@
 -- What is told of a server.
 use Rattle.std.proofs.Common.{◌≡◌, ◌∙◌, ap, subst, sym}
-use Rattle.list_labels.specs.Closure.{KeptLabel}
+use Rattle.list_classes.specs.Representatives.{KeptLabel}
 use Rattle.list_reach.specs.Reach.{IsShortest}
 use Rattle.list_reach.specs.ClientReach.{AreRoutes}
 use Rattle.list_reach.proofs.WaysLemmas.{always_leads, never_leads, shortest_leads, some_stray}
