@@ -1,4 +1,3 @@
 mod ServiceLemmas
 mod CoverLemmas
 mod PlaceLemmas
-mod LineLemmas

@@ -1,4 +1,3 @@
-pub mod Lines
 pub mod Names
 pub mod Rules
 pub mod Views

@@ -45,14 +45,15 @@ pub(crate) enum PartKind {
 
 impl CoveragePart {
     ghost use Rattle.std.specs.Prelude.{◌≡◌};
-    ghost use Rattle.view_coverage.specs.Lines.{is_of};
     ghost use Rattle.view_coverage.specs.Reported.{is_covered};
 
     /// Returns whether the part is of this kind, and of the start list at this place.
-    pub(crate) fn is_of(&self, list: usize, kind: PartKind) -> bool
-        ensures { result ≡ is_of list kind self.now }
-    {
-        self.list == list && self.name.is_of(kind)
+    pub(crate) fn is_of(&self, list: usize, kind: PartKind) -> bool {
+        self.list == list
+            && match kind {
+                PartKind::Rule => matches!(self.name, PartName::Rule(_)),
+                PartKind::Request => matches!(self.name, PartName::Request(_, _)),
+            }
     }
 
     /// Returns whether one of these scenarios is of the part's start list and meets the part's row.
@@ -70,21 +71,6 @@ pub(crate) enum PartName {
     Rule(String),
     /// The session requests of the script with the first path for the service with the second name.
     Request(String, String),
-}
-
-impl PartName {
-    ghost use Rattle.std.specs.Prelude.{◌≡◌};
-    ghost use Rattle.view_coverage.specs.Lines.{is_of_kind};
-
-    // Returns whether the name is of a part of this kind.
-    fn is_of(&self, kind: PartKind) -> bool
-        ensures { result ≡ is_of_kind kind self.now }
-    {
-        match kind {
-            PartKind::Rule => matches!(self, PartName::Rule(_)),
-            PartKind::Request => matches!(self, PartName::Request(_, _)),
-        }
-    }
 }
 
 /// The number of rules and session requests of all start lists, and the number of those that scenarios cover.
