@@ -8,8 +8,8 @@ ghost use Rattle.list_tree.specs.Documents.{budget_members, component_object, de
 ghost use Rattle.list_parts.specs.Kinds.{kinds_data};
 ghost use Rattle.view_json.specs.Listings.{Extends};
 
-use crate::node::{ExtraBudget, TreeNode};
-use crate::script_decision::ScriptDecision;
+use crate::node::{ExtraBudget, TreeNode, label_of, server_of};
+use crate::rules_text::RulesText;
 use list_labels::ClientLabel;
 use list_parser::{ListEntry, StartList};
 use list_parts::{StartQuota, binary_word, kinds_of};
@@ -223,43 +223,53 @@ fn add_decisions<'a>(
         (Extends listing.old listing.new (map (decision_object list.now one.now) decisions.now)) }
 {
     for trail in decisions {
-        add_decision(alloc, listing, &ScriptDecision::of(list, one, trail))?;
+        add_decision(alloc, listing, list, one, trail)?;
     }
     Ok(())
 }
 
 // Adds a decision.
-fn add_decision(
+fn add_decision<'a>(
     alloc: Global,
     listing: &mut Listing,
-    decision: &ScriptDecision<'_>,
+    list: &'a StartList,
+    one: &'a ScriptDecisions<'a>,
+    decision: &'a RouteDecision,
 ) -> Result<(), AllocError>
-    ensures { OnOk result (Extends listing.old listing.new
-        (decision_object decision.now.list.now decision.now.one.now decision.now.trail.now ∷ [])) }
+    ensures { OnOk result
+        (Extends listing.old listing.new (decision_object list.now one.now decision.now ∷ [])) }
 {
-    let by = decision.rules(false).to_string(alloc)?;
-    add_request(listing, *decision, by.as_str())
+    let places = decision.rules();
+    let client = one.entry;
+    let rules = RulesText {
+        list,
+        client,
+        places,
+    };
+    let by = rules.to_string(alloc)?;
+    add_request(listing, list, one, decision, by.as_str())
 }
 
 // Adds a decision by these rules.
 fn add_request<'a>(
     listing: &mut Listing,
-    decision: ScriptDecision<'a>,
+    list: &'a StartList,
+    one: &'a ScriptDecisions<'a>,
+    decision: &'a RouteDecision,
     by: &'a str,
 ) -> Result<(), AllocError>
-    requires { by.now ≡ rules_text false true decision.list.now
-        (Some decision.one.now.entry.now) decision.trail.now.rules }
-    ensures { OnOk result (Extends listing.old listing.new
-        (decision_object decision.entry.list.now decision.entry.one.now decision.entry.trail.now
-        ∷ [])) }
+    requires { by.now
+        ≡ rules_text false true list.now (Some one.now.entry.now) decision.now.rules }
+    ensures { OnOk result
+        (Extends listing.old listing.new (decision_object list.now one.now decision.now ∷ [])) }
 {
     listing.add(&[
         ("kind", JsonField::Word("wish")),
-        ("name", JsonField::Text(decision.one.entry.path())),
-        ("service", JsonField::Text(decision.one.service.as_bytes())),
-        ("to", path_of(decision.server())),
+        ("name", JsonField::Text(one.entry.path())),
+        ("service", JsonField::Text(one.service.as_bytes())),
+        ("to", path_of(server_of(list, decision))),
         ("by", JsonField::Text(by.as_bytes())),
-        ("label", label_field(decision.label())),
+        ("label", label_field(label_of(one, decision))),
     ])
 }
 

@@ -6,13 +6,10 @@
 //! ```
 #![tactic(auto)]
 
-mod depth;
 mod documents;
-mod edges;
 mod graph;
 mod node;
 mod rules_text;
-mod script_decision;
 mod tree;
 
 pub use graph::ListGraph;

@@ -1,16 +1,15 @@
 //! The components of a start list with their budgets, and the decisions on their session requests.
-ghost use Rattle.std.specs.Prelude.{◌≡◌, ◌<◌, Some, length, IfOk};
-ghost use Rattle.std.specs.Fmt.{WritesOnOk};
-ghost use Rattle.std.specs.List.{list_any, slice_get};
+ghost use Rattle.std.specs.Prelude.{◌≡◌, ◌<◌, ◌≤◌, Some, length, IfOk};
+ghost use Rattle.std.specs.List.{slice_get};
+ghost use Rattle.std.specs.Option.{option_copied};
 ghost use Rattle.own_model.specs.Listed.{start_list_of};
 ghost use Rattle.own_model.specs.StartList.{inits_kept};
-ghost use Rattle.list_tree.specs.GraphTexts.{is_denied, is_denied_some};
-ghost use Rattle.list_tree.specs.Nodes.{IsNode, extra_of, numbered};
-ghost use Rattle.list_tree.specs.TreeTexts.{budget_text};
+ghost use Rattle.list_tree.specs.Nodes.{IsNode, extra_of, label_of, numbered, server_of};
 
+use list_labels::ClientLabel;
 use list_parser::{ListEntry, StartList};
 use list_parts::{InitQuotas, StartQuota, left_of};
-use list_reach::ScriptDecisions;
+use list_reach::{RouteDecision, ScriptDecisions};
 use std::alloc::{AllocError, Global};
 use std::fmt;
 
@@ -71,10 +70,7 @@ impl<'a> TreeNode<'a> {
         &self,
         f: &mut fmt::Formatter<W>,
         between: &str,
-    ) -> fmt::Result
-        ensures { WritesOnOk W.write_str_gives f.old result
-            (budget_text between.now self.now.own self.now.extra) f.new }
-    {
+    ) -> fmt::Result {
         let own = self.own;
         match self.extra {
             Some(ExtraBudget::Reserve(left)) => write!(f, "{own}{between}reserve {left}"),
@@ -83,11 +79,33 @@ impl<'a> TreeNode<'a> {
         }
     }
 
-    /// Returns whether some of the component's requests are denied.
-    pub(crate) fn is_denied_some(&self) -> bool
-        ensures { result ≡ is_denied_some self.now }
+    /// Returns the number of inits above the component.
+    pub(crate) fn depth(&self) -> usize
+        ensures { result ≤ 131 }
     {
-        self.requests.as_slice().iter().any(denies)
+        let path = self.entry.path();
+        path.iter().filter(|sign| **sign == b'/').count()
+    }
+}
+
+/// Returns the server to which a decision routes requests, or none if they are denied.
+pub(crate) fn server_of<'a>(list: &'a StartList, decision: &RouteDecision) -> Option<&'a ListEntry>
+    ensures { option_copied result ≡ server_of list.now decision.now }
+{
+    list.entries().get(decision.child()?)
+}
+
+/// Returns a label of one of the requests of a decision, if others are decided otherwise.
+pub(crate) fn label_of<'a>(
+    one: &ScriptDecisions<'_>,
+    decision: &'a RouteDecision,
+) -> Option<&'a ClientLabel>
+    ensures { option_copied result ≡ label_of one.now decision.now }
+{
+    if one.decisions.as_slice().len() == 1 {
+        None
+    } else {
+        Some(decision.label())
     }
 }
 
@@ -104,14 +122,4 @@ fn extra_of(inits: &InitQuotas, number: usize, entry: &ListEntry) -> Option<Extr
         None if entry.is_init() => Some(ExtraBudget::Keeps(left_of(inits, number + 1))),
         None => None,
     }
-}
-
-// Whether some requests of a script for a service are denied.
-fn denies(one: &ScriptDecisions<'_>) -> bool
-    ensures { result ≡ list_any is_denied one.now.decisions }
-{
-    one.decisions
-        .as_slice()
-        .iter()
-        .any(|trail| trail.child().is_none())
 }

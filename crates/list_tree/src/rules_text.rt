@@ -1,16 +1,15 @@
 //! The rules of a decision as text, list by list outward, with their conditions on the label.
-ghost use Rattle.std.specs.Prelude.{◌≡◌, Some, true};
+ghost use Rattle.std.specs.Prelude.{◌≡◌, Some, false, true};
 ghost use Rattle.std.specs.Fmt.{WritesOnOk};
 ghost use Rattle.std.specs.List.{slice_get};
 ghost use Rattle.std.specs.Option.{option_copied};
-ghost use Rattle.list_reach.specs.RuleTexts.{rule_text};
 ghost use Rattle.list_tree.specs.DecisionTexts.{before_condition, before_rule, condition_text, conditions_text, no_rule_text, outward, placed_rule_text, rules_text, whose_text};
 
 use list_parser::{ListEntry, Rule, StartList};
 use list_parts::QuotedText;
 use std::fmt;
 
-/// The rules of a decision as text, for a line or for a label of a graph.
+/// The rules of a decision as text.
 #[derive(Clone, Copy)]
 pub(crate) struct RulesText<'a> {
     /// The start list.
@@ -19,28 +18,20 @@ pub(crate) struct RulesText<'a> {
     pub client: &'a ListEntry,
     /// The rules by their places: one of the client's own list, and then one for each init outward.
     pub places: &'a [usize],
-    /// Whether they are lines of a label of a graph.
-    pub in_graph: bool,
 }
 
 impl fmt::Display for RulesText<'_> {
     ghost output = { λ rules. Some
-        (rules_text rules.in_graph true rules.list.now (Some rules.client.now) rules.places.now) };
+        (rules_text false true rules.list.now (Some rules.client.now) rules.places.now) };
 
     fn fmt<W: fmt::Write>(&self, f: &mut fmt::Formatter<W>) -> fmt::Result {
-        show_rules(
-            f,
-            self.in_graph,
-            true,
-            self.list,
-            Some(self.client),
-            self.places,
-        )
+        show_rules(f, false, true, self.list, Some(self.client), self.places)
     }
 }
 
-// The rules at places, the first one for the entry that asks. Without one nothing is asked any more.
-fn show_rules<W: fmt::Write>(
+/// Writes the rules at places, the first one for the entry that asks, for a line or for a label of a graph. Without such an entry
+/// nothing is asked any more.
+pub(crate) fn show_rules<W: fmt::Write>(
     f: &mut fmt::Formatter<W>,
     in_graph: bool,
     is_first: bool,
@@ -91,20 +82,9 @@ fn show_rule<W: fmt::Write>(
         (placed_rule_text in_graph is_first list.now entry.now place) f.new }
 {
     f.write_str(before_rule(in_graph, is_first))?;
-    show_place(f, entry, place)?;
+    write!(f, "{}[{place}]", entry.route_name())?;
     show_whose(f, is_first, entry)?;
     show_conditions_at(f, in_graph, list.rules_of(entry), place)
-}
-
-// A rule for an entry by its place.
-fn show_place<W: fmt::Write>(
-    f: &mut fmt::Formatter<W>,
-    entry: &ListEntry,
-    place: usize,
-) -> fmt::Result
-    ensures { WritesOnOk W.write_str_gives f.old result (rule_text entry.now (Some place)) f.new }
-{
-    write!(f, "{}[{place}]", entry.route_name())
 }
 
 // What is before a rule, or before the text that there is none.

@@ -1,22 +1,17 @@
 //! The components of a start list, and the servers to which their session requests are routed, as text and as documents.
-ghost use Rattle.std.specs.Prelude.{◌≡◌, ◌<◌, Some, length, All, IfOk, OnOk, true, false};
-ghost use Rattle.std.specs.Fmt.{WritesOnOk};
-ghost use Rattle.std.specs.List.{flat_map, slice_get};
-ghost use Rattle.std.specs.Option.{option_copied};
+ghost use Rattle.std.specs.Prelude.{◌≡◌, ◌<◌, Some, length, All, IfOk, OnOk};
+ghost use Rattle.std.specs.List.{slice_get};
 ghost use Rattle.own_model.specs.Listed.{start_list_of};
 ghost use Rattle.own_model.specs.StartList.{inits_kept};
 ghost use Rattle.view_json.specs.Documents.{list_text};
 ghost use Rattle.list_tree.specs.Documents.{tree_objects};
 ghost use Rattle.list_tree.specs.Nodes.{AddsNode, IsNode, IsTreeOf};
-ghost use Rattle.list_tree.specs.TreeTexts.{by_text, component_line, decision_line, label_within, machine_lines, name_text, node_lines, request_lines, server_text, service_text, tree_text};
 
-use crate::depth::{depth_of, show_indent};
 use crate::documents::{add_kept, add_machine, add_nodes};
-use crate::node::TreeNode;
-use crate::script_decision::ScriptDecision;
-use list_labels::ClientLabel;
+use crate::node::{TreeNode, label_of, server_of};
+use crate::rules_text::show_rules;
 use list_parser::{ListEntry, StartList};
-use list_parts::{InitQuotas, KindsText, StartQuota, binary_word, kept, left_of, show_within};
+use list_parts::{InitQuotas, KindsText, StartQuota, binary_word, kept, left_of};
 use list_reach::{RouteDecision, ScriptDecisions};
 use std::alloc::{AllocError, Global};
 use std::fmt;
@@ -66,11 +61,23 @@ impl<'a> ListTree<'a> {
 }
 
 impl fmt::Display for ListTree<'_> {
-    ghost output = { λ tree. Some (tree_text tree) };
-
     fn fmt<W: fmt::Write>(&self, f: &mut fmt::Formatter<W>) -> fmt::Result {
-        show_machine(f, self.list, self.keeps)?;
-        show_nodes(f, self.list, self.nodes.as_slice())
+        let (list, keeps) = (self.list, self.keeps);
+        let (pages, caps) = (list.pages(), list.caps());
+        write!(
+            f,
+            "machine: {pages} pages, {caps} caps\ninit keeps: {keeps}\n"
+        )?;
+        for node in self.nodes.as_slice() {
+            show_component(f, node)?;
+            for one in node.requests.as_slice() {
+                for decision in one.decisions.as_slice() {
+                    f.write_repeated("  ", node.depth())?;
+                    show_decision(f, list, one, decision)?;
+                }
+            }
+        }
+        Ok(())
     }
 }
 
@@ -96,171 +103,38 @@ fn add_node<'a>(
     Ok(())
 }
 
-// The machine, and what its init keeps.
-fn show_machine<W: fmt::Write>(
-    f: &mut fmt::Formatter<W>,
-    list: &StartList,
-    keeps: StartQuota,
-) -> fmt::Result
-    ensures { WritesOnOk W.write_str_gives f.old result (machine_lines list.now keeps) f.new }
-{
-    let (pages, caps) = (list.pages(), list.caps());
-    write!(
-        f,
-        "machine: {pages} pages, {caps} caps\ninit keeps: {keeps}\n"
-    )
-}
-
-// Components, each followed by the decisions on its requests.
-fn show_nodes<'a, W: fmt::Write>(
-    f: &mut fmt::Formatter<W>,
-    list: &'a StartList,
-    nodes: &'a [TreeNode<'a>],
-) -> fmt::Result
-    ensures { WritesOnOk W.write_str_gives f.old result
-        (flat_map (node_lines list.now) nodes.now) f.new }
-{
-    for node in nodes {
-        show_node(f, list, node)?;
-    }
-    Ok(())
-}
-
-// A component, and the decisions on its requests, service by service.
-fn show_node<'a, W: fmt::Write>(
-    f: &mut fmt::Formatter<W>,
-    list: &'a StartList,
-    node: &'a TreeNode<'a>,
-) -> fmt::Result
-    ensures { WritesOnOk W.write_str_gives f.old result (node_lines list.now node.now) f.new }
-{
-    show_component(f, node)?;
-    show_requests(f, list, node.requests.as_slice())
-}
-
-// A component with its budget, what it provides, and the kinds that it declares.
-fn show_component<W: fmt::Write>(f: &mut fmt::Formatter<W>, node: &TreeNode<'_>) -> fmt::Result
-    ensures { WritesOnOk W.write_str_gives f.old result (component_line node.now) f.new }
-{
+// Writes a component with its budget, what it provides, and the kinds that it declares.
+fn show_component<W: fmt::Write>(f: &mut fmt::Formatter<W>, node: &TreeNode<'_>) -> fmt::Result {
     let entry = node.entry;
-    show_indent(f, depth_of(entry))?;
-    show_name(f, entry)?;
+    f.write_repeated("  ", node.depth())?;
+    write!(f, "{} ({}): ", entry.to_name(), binary_word(entry.binary()))?;
     node.show_budget(f, ", ")?;
-    show_service(f, entry.provides(), entry.service())?;
-    write!(f, "{}", KindsText::of(", ", entry.binary()))?;
-    f.write_str("\n")
-}
-
-// The name of a component, and its binary.
-fn show_name<W: fmt::Write>(f: &mut fmt::Formatter<W>, entry: &ListEntry) -> fmt::Result
-    ensures { WritesOnOk W.write_str_gives f.old result (name_text entry.now) f.new }
-{
-    let (name, binary) = (entry.to_name(), binary_word(entry.binary()));
-    write!(f, "{name} ({binary}): ")
-}
-
-// The service of a server, or that the entry provides nothing.
-fn show_service<W: fmt::Write>(
-    f: &mut fmt::Formatter<W>,
-    provides: bool,
-    service: Option<&str>,
-) -> fmt::Result
-    ensures { WritesOnOk W.write_str_gives f.old result
-        (service_text provides (option_copied service.entry)) f.new }
-{
-    match service {
-        Some(service) if provides => write!(f, ", provides {service}"),
-        Some(_) => f.write_str(", provides nothing"),
-        None => Ok(()),
+    match entry.service() {
+        Some(service) if entry.provides() => write!(f, ", provides {service}")?,
+        Some(_) => f.write_str(", provides nothing")?,
+        None => {}
     }
+    write!(f, "{}\n", KindsText::of(", ", entry.binary()))
 }
 
-// The decisions on the requests of a component, service by service.
-fn show_requests<'a, W: fmt::Write>(
-    f: &mut fmt::Formatter<W>,
-    list: &'a StartList,
-    requests: &'a [ScriptDecisions<'a>],
-) -> fmt::Result
-    ensures { WritesOnOk W.write_str_gives f.old result
-        (flat_map (request_lines list.now) requests.now) f.new }
-{
-    for one in requests {
-        show_decisions(f, list, one, one.decisions.as_slice())?;
-    }
-    Ok(())
-}
-
-// Decisions on a script's requests for a service.
-fn show_decisions<'a, W: fmt::Write>(
-    f: &mut fmt::Formatter<W>,
-    list: &'a StartList,
-    one: &'a ScriptDecisions<'a>,
-    decisions: &'a [RouteDecision],
-) -> fmt::Result
-    ensures { WritesOnOk W.write_str_gives f.old result
-        (flat_map (decision_line list.now one.now) decisions.now) f.new }
-{
-    for trail in decisions {
-        show_decision(f, &ScriptDecision::of(list, one, trail))?;
-    }
-    Ok(())
-}
-
-// The server to which requests are routed, by which rules, and with which label, if others are routed elsewhere.
+// Writes the server to which requests are routed, by which rules, and with which label, if others are routed elsewhere. The server
+// has its path if several lists decide, else its name in the client's list.
 fn show_decision<W: fmt::Write>(
     f: &mut fmt::Formatter<W>,
-    decision: &ScriptDecision<'_>,
-) -> fmt::Result
-    ensures { WritesOnOk W.write_str_gives f.old result (decision_line decision.now.list.now
-        decision.now.one.now decision.now.trail.now) f.new }
-{
-    show_indent(f, depth_of(decision.one.entry))?;
-    write!(f, "  {} -> ", decision.one.service)?;
-    show_server(f, decision)?;
-    show_rules(f, decision)?;
-    show_label(f, ", with label \"", decision.label(), "\"")?;
-    f.write_str("\n")
-}
-
-// A server by its path if several lists decide, else by its name in the client's list.
-fn show_server<W: fmt::Write>(
-    f: &mut fmt::Formatter<W>,
-    decision: &ScriptDecision<'_>,
-) -> fmt::Result
-    ensures { WritesOnOk W.write_str_gives f.old result
-        (server_text decision.now.list.now decision.now.trail.now) f.new }
-{
-    match decision.server() {
-        Some(server) if decision.trail.rules().len() > 1 => write!(f, "{}", server.to_path()),
-        Some(server) => write!(f, "{}", server.to_name()),
-        None => f.write_str("denied"),
+    list: &StartList,
+    one: &ScriptDecisions<'_>,
+    decision: &RouteDecision,
+) -> fmt::Result {
+    write!(f, "  {} -> ", one.service)?;
+    match server_of(list, decision) {
+        Some(server) if decision.rules().len() > 1 => write!(f, "{}", server.to_path())?,
+        Some(server) => write!(f, "{}", server.to_name())?,
+        None => f.write_str("denied")?,
     }
-}
-
-// The rules that decide.
-fn show_rules<W: fmt::Write>(
-    f: &mut fmt::Formatter<W>,
-    decision: &ScriptDecision<'_>,
-) -> fmt::Result
-    ensures { WritesOnOk W.write_str_gives f.old result (by_text decision.now.list.now
-        decision.now.one.now decision.now.trail.now) f.new }
-{
-    let rules = decision.rules(false);
-    write!(f, " by {rules}")
-}
-
-/// Writes a label between two texts, if there is one.
-pub(crate) fn show_label<W: fmt::Write>(
-    f: &mut fmt::Formatter<W>,
-    before: &str,
-    label: Option<&ClientLabel>,
-    after: &str,
-) -> fmt::Result
-    ensures { WritesOnOk W.write_str_gives f.old result
-        (label_within before.now (option_copied label.entry) after.now) f.new }
-{
-    match label {
-        Some(label) => show_within(f, before, label, after),
-        None => Ok(()),
+    f.write_str(" by ")?;
+    show_rules(f, false, true, list, Some(one.entry), decision.rules())?;
+    match label_of(one, decision) {
+        Some(label) => write!(f, ", with label \"{label}\"\n"),
+        None => f.write_str("\n"),
     }
 }
