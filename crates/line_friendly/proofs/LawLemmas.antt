@@ -3,11 +3,11 @@ use Rattle.std.proofs.Common.{◌≡◌, ℕ, ◌+◌, ◌-◌, ◌||◌, Bool, 
 use Rattle.std.specs.List.{starts_with}
 use Rattle.std.specs.Option.{option_map_or, option_or, unwrap_or}
 use Rattle.own_model.specs.Call.{parsed_call}
-use Rattle.line_friendly.specs.Friendly.{FriendlyLine, call_part, expects_bad_line, fault_behind, fault_in, no_call, reply_part, said_of, said_of_both, said_of_call, said_of_line, said_of_signs, said_of_text, trimmed_line, without_comment, without_meant, without_return}
+use Rattle.line_friendly.specs.Friendly.{FriendlyLine, call_part, expects_bad_line, fault_behind, fault_in, no_call, reply_part, said_escaped, said_of, said_of_both, said_of_call, said_of_line, said_of_signs, said_of_text, trimmed_line, without_comment, without_meant, without_return}
 use Rattle.line_friendly.specs.Friendly.FriendlyLine.{Nothing, Log, Call}
 use Rattle.line_friendly.specs.Theorems.{CallsAreCalls, IsCallOrExpected}
 use Rattle.line_friendly.specs.CallParts.{parts_of, spelled}
-use Rattle.line_friendly.specs.Quotes.{after_text, is_outside}
+use Rattle.line_friendly.specs.Quotes.{after_text, first_stray, is_outside}
 use Rattle.line_friendly.specs.LineText.{added}
 use Rattle.line_friendly.specs.declared.fault.FriendlyFault.{FriendlyFault}
 use Rattle.line_friendly.specs.declared.quotes.QuoteState.TheVariants.{Outside}
@@ -37,10 +37,13 @@ of_place : (column : ℕ) (place : Option ℕ) (said : Result FriendlyLine Frien
 of_place column None said fault holds = holds
 of_place column (Some n) said fault holds = of_fault (fault n)
 
-of_call : (column : ℕ) (call : List ℕ) (expected : Option (List ℕ)) → Holds (said_of_call column call expected)
-of_call column call expected =
+of_escaped : (column : ℕ) (call : List ℕ) (expected : Option (List ℕ)) → Holds (said_escaped column call expected)
+of_escaped column call expected =
     of_place column (option_or (fault_in (length call) (parts_of call).tail) (fault_behind (length call + 4) expected)) (said_of_line column call (added (Some []) (spelled (parts_of call))) expected) _
     (of_line column call (added (Some []) (spelled (parts_of call))) expected)
+
+of_call : (column : ℕ) (call : List ℕ) (expected : Option (List ℕ)) → Holds (said_of_call column call expected)
+of_call column call expected = of_place column (first_stray Outside call) (said_escaped column call expected) _ (of_escaped column call expected)
 
 of_choice : (test : Bool) (x y : Result FriendlyLine FriendlyFault) → Holds x → Holds y → Holds (cond test x y)
 of_choice true x y hx hy = hx

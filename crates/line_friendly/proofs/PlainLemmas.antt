@@ -628,7 +628,7 @@ added_short line short = let fits : nat_le (length line) (longest_line - length 
 -- the line that a call is, where it spells itself
 call_said : (column : ℕ) (line : List ℕ) → IsPlain line → spelled (parts_of line) ≡ line → said_of_call column line None ≡ Ok (FriendlyLine.Call line None)
 call_said column line plain spelt =
-    rw (no_fault (length line) (parts_of line).tail plain.untranslated, spelt, added_short line plain.short, plain.call) refl
+    rw (plain.straight, no_fault (length line) (parts_of line).tail plain.untranslated, spelt, added_short line plain.short, plain.call) refl
 
 both_said : (column : ℕ) (line : List ℕ) → IsPlain line → said_of_both column line ≡ said_of_call column line None
 both_said column line plain = rw (plain.closed, plain.arrow) refl

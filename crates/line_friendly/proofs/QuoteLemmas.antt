@@ -5,7 +5,7 @@ use Rattle.std.specs.Option.{option_map, option_or}
 use Rattle.std.specs.Str.{bytes_eq}
 use Rattle.std.proofs.lemmas.Bool.Decides.{nat_tests}
 use Rattle.std.proofs.lemmas.List.{drop_all}
-use Rattle.line_friendly.specs.Quotes.{after_byte, after_text, closing, first_outside, is_comment, is_outside, is_quote, last_outside}
+use Rattle.line_friendly.specs.Quotes.{after_byte, after_text, closing, first_outside, first_stray, is_comment, is_outside, is_quote, is_stray, last_outside}
 use Rattle.line_friendly.specs.Words.{is_blank, next_word, skip_blanks, up_to_blank}
 use Rattle.line_friendly.proofs.WordLemmas.{place_none}
 use Rattle.line_friendly.specs.declared.quotes.QuoteState.{QuoteState}
@@ -75,6 +75,49 @@ no_blank [] none = refl
 no_blank (b ∷ bs) none = absurd (omega (arith, none))
 
 pub ruleset firsts = (first_step, first_start, first_end, no_blank)
+
+-- ---- the first `=>` outside of quotes that is no arrow
+
+pub stray_step : (text : List ℕ) (at : QuoteState) (i b : ℕ) → i < length text → get_or text i 0 ≡ b →
+    option_map (λ n. i + n) (first_stray at (drop i text))
+    ≡ cond (is_outside (after_byte at b) && is_stray (drop i text)) (Some i) (option_map (λ n. (i + 1) + n) (first_stray (after_byte at b) (drop (i + 1) text)))
+stray_step text at i b within is =
+    rw (byte_at text i b within is)
+    (elim (is_outside (after_byte at b) && is_stray (b ∷ drop (i + 1) text)) as (λ t. option_map (λ n. i + n) (cond t (Some 0) (option_map (λ n. 1 + n) (first_stray (after_byte at b) (drop (i + 1) text))))
+    ≡ cond t (Some i) (option_map (λ n. (i + 1) + n) (first_stray (after_byte at b) (drop (i + 1) text)))) [
+      | true ↦ let e : i + 0 ≡ i = omega arith in ap Some e
+      | false ↦ one_further i (first_stray (after_byte at b) (drop (i + 1) text))
+    ])
+
+-- a byte is passed, or found
+module _ (text : List ℕ) (at next : QuoteState) (i b : ℕ) (within : i < length text) (is : get_or text i 0 ≡ b) (nexts : next ≡ after_byte at b) where
+  stray_by : (test : Bool) → test ≡ (is_outside next && is_stray (drop i text)) → first_stray Outside text ≡ option_map (λ n. i + n) (first_stray at (drop i text)) →
+      first_stray Outside text ≡ cond test (Some i) (option_map (λ n. (i + 1) + n) (first_stray next (drop (i + 1) text)))
+  stray_by test tests found =
+      found ∙ stray_step text at i b within is
+      ∙ ap (λ s. cond (is_outside s && is_stray (drop i text)) (Some i) (option_map (λ n. (i + 1) + n) (first_stray s (drop (i + 1) text)))) (sym nexts)
+      ∙ ap (λ t. cond t (Some i) (option_map (λ n. (i + 1) + n) (first_stray next (drop (i + 1) text)))) (sym tests)
+
+  pub stray_passed : false ≡ (is_outside next && is_stray (drop i text)) → first_stray Outside text ≡ option_map (λ n. i + n) (first_stray at (drop i text)) →
+      first_stray Outside text ≡ option_map (λ n. (i + 1) + n) (first_stray next (drop (i + 1) text))
+  stray_passed none found = stray_by false none found
+
+  pub stray_found : true ≡ (is_outside next && is_stray (drop i text)) → first_stray Outside text ≡ option_map (λ n. i + n) (first_stray at (drop i text)) →
+      Some i ≡ first_stray Outside text
+  stray_found here found = sym (stray_by true here found)
+
+pub stray_start : (text : List ℕ) (at : QuoteState) → first_stray at text ≡ option_map (λ n. 0 + n) (first_stray at text)
+stray_start text at = no_further (first_stray at text)
+
+pub stray_end : (text : List ℕ) (at : QuoteState) (i : ℕ) → length text ≤ i → option_map (λ n. i + n) (first_stray at (drop i text)) ≡ None
+stray_end text at i past = rw (drop_all i text past) refl
+
+-- no text that has no byte begins with one
+pub no_arrow : (text : List ℕ) → length text ≡ 0 → is_stray text ≡ false
+no_arrow [] none = refl
+no_arrow (b ∷ bs) none = absurd (omega (arith, none))
+
+pub ruleset strays = (stray_start, stray_end)
 
 -- ---- a text without the sign of a comment
 

@@ -7,7 +7,7 @@ use Rattle.own_model.specs.Call.{parsed_call}
 use Rattle.own_model.specs.Transcript.{longest_line}
 use Rattle.line_grammar.specs.Read.{IsReadAs}
 use Rattle.line_grammar.specs.declared.line.NamedCall.{NamedCall}
-use Rattle.line_friendly.specs.Friendly.{fault_behind, fault_in, said_of_call, said_of_line}
+use Rattle.line_friendly.specs.Friendly.{fault_behind, fault_in, said_escaped, said_of_line}
 use Rattle.line_friendly.specs.CallParts.{CallTail, parts_of, spelled}
 use Rattle.line_friendly.specs.CallFault.{has_small_unit}
 use Rattle.line_friendly.specs.LineText.{added}
@@ -23,7 +23,7 @@ last_of_none (b ∷ bs) byte none some = absurd (omega (arith, none))
 -- a call without a fault says what its line says
 pub call_says : (column : ℕ) (call : List ℕ) (reply : Option (List ℕ)) (tail : CallTail) (found : Option ℕ) (line : Option (List ℕ)) →
     tail ≡ (parts_of call).tail → found ≡ option_map (λ n. column + n) (option_or (fault_in (length call) tail) (fault_behind (length call + 4) reply)) →
-    found ≡ None → line ≡ added (Some []) (spelled (parts_of call)) → said_of_line column call line reply ≡ said_of_call column call reply
+    found ≡ None → line ≡ added (Some []) (spelled (parts_of call)) → said_of_line column call line reply ≡ said_escaped column call reply
 call_says column call reply tail found line tails finds none lines =
     let same : option_or (fault_in (length call) tail) (fault_behind (length call + 4) reply) ≡ None =
     nothing (option_or (fault_in (length call) tail) (fault_behind (length call + 4) reply)) (sym finds ∙ none) in

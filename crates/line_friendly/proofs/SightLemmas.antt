@@ -1,5 +1,5 @@
 -- A line in which no byte is a sign of the friendly form has none of its forms.
-use Rattle.std.proofs.Common.{◌≡◌, ℕ, ◌+◌, ◌-◌, ◌<◌, ◌&&◌, ◌==◌, true, false, true≢false, cond, not, nat_eq, nat_lt, is_some, List, [], ◌∷◌, length, get_or, position, codes, Option, Some, None, refl, sym, ap, ◌∙◌, arith}
+use Rattle.std.proofs.Common.{◌≡◌, ℕ, ◌+◌, ◌-◌, ◌<◌, ◌&&◌, ◌==◌, true, false, true≢false, cond, not, nat_eq, nat_lt, is_some, List, [], ◌∷◌, length, drop, get_or, position, codes, Option, Some, None, refl, sym, ap, ◌∙◌, arith}
 use Rattle.std.specs.List.{list_all, position_or_len, starts_with}
 use Rattle.std.specs.Option.{option_map, option_or}
 use Rattle.std.proofs.lemmas.Bool.Decides.{nat_tests}
@@ -11,7 +11,7 @@ use Rattle.line_friendly.specs.Friendly.{without_return}
 use Rattle.line_friendly.specs.Handed.{has_no_sign, is_sign}
 use Rattle.line_friendly.specs.Theorems.{IsBare, IsPlain, is_translated}
 use Rattle.line_friendly.specs.CallParts.{parts_of}
-use Rattle.line_friendly.specs.Quotes.{after_byte, after_text, is_arrow, is_outside, last_outside}
+use Rattle.line_friendly.specs.Quotes.{after_byte, after_text, first_stray, is_arrow, is_outside, is_stray, last_outside}
 use Rattle.line_friendly.specs.Words.{is_blank}
 use Rattle.line_friendly.specs.declared.quotes.QuoteState.TheVariants.{Outside}
 use Rattle.line_friendly.proofs.PlainLemmas.{no_directive}
@@ -53,16 +53,16 @@ stays_outside : (line : List ℕ) → has_no_sign line ≡ true → after_text O
 stays_outside [] none = refl
 stays_outside (b ∷ bs) none = ap (λ at. after_text at bs) (after_other b (first_other b bs none)) ∙ stays_outside bs (more_others b bs none)
 
-no_arrow_end : (text : List ℕ) → has_no_sign text ≡ true → starts_with nat_eq text (codes "=> ") ≡ false
-no_arrow_end [] none = refl
-no_arrow_end (a ∷ []) none = and_right (nat_eq 61 a) false refl
-no_arrow_end (a ∷ b ∷ bs) none =
-    let tip : (nat_eq 62 b && starts_with nat_eq bs (codes " ")) ≡ false =
-    ap (λ t. t && starts_with nat_eq bs (codes " ")) (no_tip b (first_other b bs (more_others a (b ∷ bs) none))) in
-    and_right (nat_eq 61 a) (nat_eq 62 b && starts_with nat_eq bs (codes " ")) tip
+no_arrow_end : (more text : List ℕ) → has_no_sign text ≡ true → starts_with nat_eq text (61 ∷ 62 ∷ more) ≡ false
+no_arrow_end more [] none = refl
+no_arrow_end more (a ∷ []) none = and_right (nat_eq 61 a) false refl
+no_arrow_end more (a ∷ b ∷ bs) none =
+    let tip : (nat_eq 62 b && starts_with nat_eq bs more) ≡ false =
+    ap (λ t. t && starts_with nat_eq bs more) (no_tip b (first_other b bs (more_others a (b ∷ bs) none))) in
+    and_right (nat_eq 61 a) (nat_eq 62 b && starts_with nat_eq bs more) tip
 
 no_arrow_here : (b : ℕ) (bs : List ℕ) → has_no_sign (b ∷ bs) ≡ true → is_arrow (b ∷ bs) ≡ false
-no_arrow_here b bs none = and_right (is_blank b) (starts_with nat_eq bs (codes "=> ")) (no_arrow_end bs (more_others b bs none))
+no_arrow_here b bs none = and_right (is_blank b) (starts_with nat_eq bs (codes "=> ")) (no_arrow_end (codes " ") bs (more_others b bs none))
 
 no_arrow : (line : List ℕ) → has_no_sign line ≡ true → last_outside is_arrow Outside line ≡ None
 no_arrow [] none = refl
@@ -71,6 +71,15 @@ no_arrow (b ∷ bs) none =
     ap (λ at. last_outside is_arrow at bs) (after_other b (first_other b bs none)) ∙ no_arrow bs (more_others b bs none) in
     ap (λ found. option_or (option_map (λ n. 1 + n) found) (cond (is_arrow (b ∷ bs)) (Some 0) None)) later
     ∙ ap (λ t. cond t (Some 0) None) (no_arrow_here b bs none)
+
+no_stray : (line : List ℕ) → has_no_sign line ≡ true → first_stray Outside line ≡ None
+no_stray [] none = refl
+no_stray (b ∷ bs) none =
+    let here : is_stray (b ∷ bs) ≡ false =
+    ap (λ t. t && not (is_arrow (b ∷ bs) && not (list_all is_blank (drop 4 (b ∷ bs))))) (no_arrow_end [] bs (more_others b bs none)) in
+    ap (λ at. cond (is_outside at && is_stray (b ∷ bs)) (Some 0) (option_map (λ n. 1 + n) (first_stray at bs))) (after_other b (first_other b bs none))
+    ∙ ap (λ t. cond t (Some 0) (option_map (λ n. 1 + n) (first_stray Outside bs))) here
+    ∙ ap (option_map (λ n. 1 + n)) (no_stray bs (more_others b bs none))
 
 -- no carriage return ends the line
 at_other : (line : List ℕ) (i : ℕ) → i < length line → has_no_sign line ≡ true → nat_eq (get_or line i 0) 13 ≡ false
@@ -92,6 +101,7 @@ plain_at_sight line said none reads untranslated = record {
   ending = no_return line none;
   closed = ap is_outside (stays_outside line none);
   arrow = no_arrow line none;
+  straight = no_stray line none;
   comment = no_first Outside line (free_of line none);
   untranslated = untranslated;
 }

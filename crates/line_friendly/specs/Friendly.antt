@@ -7,13 +7,13 @@ use Rattle.own_model.specs.Call.{parsed_call}
 use Rattle.line_friendly.specs.Expected.{written_fault}
 use Rattle.line_friendly.specs.CallParts.{CallParts, CallTail, parts_of, spelled}
 use Rattle.line_friendly.specs.CallParts.CallTail.{Words, Kept, Sized, Request, Quoted}
-use Rattle.line_friendly.specs.Quotes.{after_text, first_outside, is_arrow, is_comment, is_outside, is_quote, last_outside}
+use Rattle.line_friendly.specs.Quotes.{after_text, first_outside, first_stray, is_arrow, is_comment, is_outside, is_quote, last_outside}
 use Rattle.line_friendly.specs.QuotedBytes.{fault_of}
 use Rattle.line_friendly.specs.CallFault.{why}
 use Rattle.line_friendly.specs.Words.{skip_blanks}
 use Rattle.line_friendly.specs.LineText.{added}
 use Rattle.line_friendly.specs.declared.fault.FriendlyFault.{FriendlyFault}
-use Rattle.line_friendly.specs.declared.fault.LineReason.TheVariants.{OpenQuote, BadEscape, NoCall}
+use Rattle.line_friendly.specs.declared.fault.LineReason.TheVariants.{OpenQuote, StrayArrow, BadEscape, NoCall}
 use Rattle.line_friendly.specs.declared.quotes.QuoteState.TheVariants.{Outside}
 
 -- nothing; a log line that the next call finishes; or the engine's line of a call, and the reply that is expected
@@ -53,12 +53,18 @@ abbrev pub fault_behind : ℕ → Option (List ℕ) → Option ℕ
 fault_behind count None = None
 fault_behind count (Some reply) = option_map (λ n. count + n) (written_fault reply)
 
--- a call and the expected reply, after an arrow of four bytes
-abbrev pub said_of_call : ℕ → List ℕ → Option (List ℕ) → Result FriendlyLine FriendlyFault
-said_of_call column call reply =
+-- a call and the expected reply, after an arrow of four bytes, if all escapes are valid
+abbrev pub said_escaped : ℕ → List ℕ → Option (List ℕ) → Result FriendlyLine FriendlyFault
+said_escaped column call reply =
     option_map_or (λ n. Err (record { reason = BadEscape; column = column + n }))
     (option_or (fault_in (length call) (parts_of call).tail) (fault_behind (length call + 4) reply))
     (said_of_line column call (added (Some []) (spelled (parts_of call))) reply)
+
+-- the same, if each `=>` in the call is an arrow
+abbrev pub said_of_call : ℕ → List ℕ → Option (List ℕ) → Result FriendlyLine FriendlyFault
+said_of_call column call reply =
+    option_map_or (λ n. Err (record { reason = StrayArrow; column = column + n + 1 })) (first_stray Outside call)
+    (said_escaped column call reply)
 
 -- the call ends before the last arrow outside of quotes; the expected reply is after it
 abbrev pub arrow_of : List ℕ → Option ℕ

@@ -2,11 +2,12 @@
 use Rattle.std.specs.Prelude.{ℕ, Bool, false, true, List, [], ◌∷◌, ◌++◌, codes}
 use Rattle.line_grammar.specs.Forms.{form_text}
 use Rattle.line_friendly.specs.declared.fault.LineReason.{LineReason}
-use Rattle.line_friendly.specs.declared.fault.LineReason.TheVariants.{OpenQuote, BadEscape, NoCall, NoName, NoForm, UnknownCall, Misspelt, Missing, TooMany, SmallUnit, NoNumber, NoSize, LongAddress, NoAddress, NoHex, NoService}
+use Rattle.line_friendly.specs.declared.fault.LineReason.TheVariants.{OpenQuote, StrayArrow, BadEscape, NoCall, NoName, NoForm, UnknownCall, Misspelt, Missing, TooMany, SmallUnit, NoNumber, NoSize, LongAddress, NoAddress, NoHex, NoService}
 
 -- the words at the front
 abbrev pub first_words : LineReason → List ℕ
 first_words OpenQuote = codes "unclosed quote"
+first_words StrayArrow = codes "expected a blank before `=>`, and a blank and a reply after it"
 first_words BadEscape = codes "unknown escape; expected \\n, \\t, \\\", \\\\ or \\xNN"
 first_words NoCall = codes "line of more than 8192 bytes"
 first_words NoName = codes "expected a component, found"
@@ -26,6 +27,7 @@ first_words NoService = codes "expected a service, found"
 -- a text of the line follows them
 abbrev pub shows_text : LineReason → Bool
 shows_text OpenQuote = false
+shows_text StrayArrow = false
 shows_text BadEscape = false
 shows_text NoCall = false
 shows_text NoForm = false

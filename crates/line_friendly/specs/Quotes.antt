@@ -42,6 +42,17 @@ first_outside test at (b ∷ bs) =
 abbrev pub is_arrow : List ℕ → Bool
 is_arrow text = is_blank (slice_index text 0) && starts_with nat_eq (drop 1 text) (codes "=> ")
 
+-- `=>` that is no arrow with a text after it, and the byte before it
+abbrev pub is_stray : List ℕ → Bool
+is_stray text = starts_with nat_eq (drop 1 text) (codes "=>") && not (is_arrow text && not (list_all is_blank (drop 4 text)))
+
+-- the first place before such a `=>` that is outside of quotes
+abbrev pub first_stray : QuoteState → List ℕ → Option ℕ
+first_stray at [] = None
+first_stray at (b ∷ bs) =
+    if is_outside (after_byte at b) && is_stray (b ∷ bs) then Some 0
+    else option_map (λ n. 1 + n) (first_stray (after_byte at b) bs)
+
 -- the separator of a line and the comment after it: blanks, and `#` as a token
 abbrev pub is_comment : List ℕ → Bool
 is_comment text = is_blank (slice_index text 0) && bytes_eq (next_word text).word (codes "#")

@@ -10,7 +10,7 @@ use Rattle.line_friendly.specs.Friendly.{arrow_of, expects_bad_line, said_of, tr
 use Rattle.line_friendly.specs.Friendly.FriendlyLine.{Call}
 use Rattle.line_friendly.specs.CallParts.{CallTail, kept_text, parts_of, sizes_in, tail_text}
 use Rattle.line_friendly.specs.CallParts.CallTail.{Words, Kept, Sized, Request, Quoted}
-use Rattle.line_friendly.specs.Quotes.{after_text, first_outside, is_arrow, is_comment, is_outside}
+use Rattle.line_friendly.specs.Quotes.{after_text, first_outside, first_stray, is_arrow, is_comment, is_outside}
 use Rattle.line_friendly.specs.Words.{next_word, skip_blanks, words_spaced}
 use Rattle.line_friendly.specs.declared.quotes.QuoteState.TheVariants.{Outside}
 
@@ -44,13 +44,14 @@ is_translated (Request rest) = has_suffix (sizes_in (first_word (drop 1 rest)).w
 is_translated (Quoted front inside left) = true
 
 -- a line of the engine's grammar has none of the forms that are translated: no carriage return at its end, no quote that
--- isn't closed, no arrow and no comment outside of quotes, no text in quotes that is written, and no suffix in a request
+-- isn't closed, no arrow, no other `=>` and no comment outside of quotes, no text in quotes that is written, and no suffix in a request
 pub record IsPlain (line : List ℕ) : Type 0 where
   pub call : is_some (parsed_call line) ≡ true
   pub short : length line ≤ longest_line
   pub ending : without_return line ≡ line
   pub closed : is_outside (after_text Outside line) ≡ true
   pub arrow : arrow_of line ≡ None
+  pub straight : first_stray Outside line ≡ None
   pub comment : first_outside is_comment Outside line ≡ None
   pub untranslated : is_translated (parts_of line).tail ≡ false
 

@@ -10,6 +10,8 @@ use std::fmt;
 pub enum LineReason {
     /// A quote is not closed.
     OpenQuote,
+    /// `=>` is no arrow: a blank before it, or a blank and a reply after it, is missing.
+    StrayArrow,
     /// A backslash in quotes begins no escape.
     BadEscape,
     /// The text of the line is no call, since it is too long.
@@ -57,6 +59,9 @@ impl LineReason {
     {
         match self {
             LineReason::OpenQuote => "unclosed quote",
+            LineReason::StrayArrow => {
+                "expected a blank before `=>`, and a blank and a reply after it"
+            }
             LineReason::BadEscape => "unknown escape; expected \\n, \\t, \\\", \\\\ or \\xNN",
             LineReason::NoCall => "line of more than 8192 bytes",
             LineReason::NoName => "expected a component, found",
@@ -82,6 +87,7 @@ impl LineReason {
     {
         match self {
             LineReason::OpenQuote
+            | LineReason::StrayArrow
             | LineReason::BadEscape
             | LineReason::NoCall
             | LineReason::NoForm

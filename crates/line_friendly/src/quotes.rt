@@ -4,7 +4,7 @@ ghost use Rattle.std.specs.Option.{option_copied};
 ghost use Rattle.std.specs.List.{list_all};
 ghost use Rattle.line_friendly.specs.Views.{AreInside};
 ghost use Rattle.line_friendly.specs.Words.{is_blank};
-ghost use Rattle.line_friendly.specs.Quotes.{after_byte, after_text, closed_inside, closing, first_outside, inside_quotes, is_arrow, is_comment, is_outside, is_quote, last_outside};
+ghost use Rattle.line_friendly.specs.Quotes.{after_byte, after_text, closed_inside, closing, first_outside, first_stray, inside_quotes, is_arrow, is_comment, is_outside, is_quote, is_stray, last_outside};
 
 use crate::words::{behind, is_blank, next_word};
 use text_codec::find_byte;
@@ -131,6 +131,40 @@ fn first_comment(text: &[u8]) -> Option<usize>
         at = at.after(*byte);
     }
     None
+}
+
+/// Returns the place before the first `=>` of a call, outside of quotes, that is no arrow, if there is one.
+#[tactic(auto, using(crate::proofs::QuoteLemmas::strays))]
+pub(crate) fn stray_of(text: &[u8]) -> Option<usize>
+    ensures place { result ≡ first_stray QuoteState.Outside text.now }
+    ensures inside { IfSome result (λ place. place < length text.now) }
+{
+    let mut at = QuoteState::Outside;
+    for (i, byte) in text.iter().enumerate() {
+        at = at.after(*byte);
+        if is_stray_at(at, behind(text, i)) {
+            return Some(i);
+        }
+    }
+    None
+}
+
+// Returns whether a text begins so, if what is after its first byte is outside of quotes.
+fn is_stray_at(next: QuoteState, text: &[u8]) -> bool
+    ensures { result ≡ (is_outside next && is_stray text.now) }
+{
+    next.is_outside() && is_stray(text)
+}
+
+// Returns whether a text begins with a byte and a `=>` that is no arrow with a text after it.
+#[tactic(auto, using(crate::proofs::QuoteLemmas::no_arrow))]
+fn is_stray(text: &[u8]) -> bool
+    ensures { result ≡ is_stray text.now }
+{
+    if text.is_empty() || !behind(text, 1).starts_with(b"=>") {
+        return false;
+    }
+    !is_arrow(text) || are_blanks(behind(text, 4))
 }
 
 // Returns whether a text begins with blanks and a comment.

@@ -4,7 +4,7 @@ ghost use Rattle.std.specs.Option.{option_copied, option_map, option_or};
 ghost use Rattle.own_model.specs.Call.{parsed_call};
 ghost use Rattle.own_model.specs.Transcript.{longest_line};
 ghost use Rattle.line_grammar.specs.Read.{IsReadAs};
-ghost use Rattle.line_friendly.specs.Friendly.{begins_as_call, content_of, end_of, expects_bad_line, fault_behind, fault_in, is_meant, is_passed, no_call, said_of, said_of_both, said_of_call, said_of_line, said_of_signs, said_of_text, trimmed_line, without_comment, without_mark, without_meant, without_return};
+ghost use Rattle.line_friendly.specs.Friendly.{begins_as_call, content_of, end_of, expects_bad_line, fault_behind, fault_in, is_meant, is_passed, no_call, said_escaped, said_of, said_of_both, said_of_call, said_of_line, said_of_signs, said_of_text, trimmed_line, without_comment, without_mark, without_meant, without_return};
 ghost use Rattle.line_friendly.specs.Friendly.FriendlyLine.{Call};
 ghost use Rattle.line_friendly.specs.Handed.{HandsOn};
 ghost use Rattle.line_friendly.specs.Theorems.{IsPlain, LaterFormsAreMarked};
@@ -17,7 +17,7 @@ use crate::expected::written_fault;
 use crate::fault::{FriendlyFault, LineReason};
 use crate::line_buffer::LineBuffer;
 use crate::plain::plain_call;
-use crate::quotes::{arrow_of, comment_of, marks_of};
+use crate::quotes::{arrow_of, comment_of, marks_of, stray_of};
 use crate::words::{behind, skip_blanks};
 use line_grammar::{NamedCall, call_in};
 
@@ -262,7 +262,7 @@ fn said_of_both<'a>(
     }
 }
 
-// Parses a call and its expected reply, if all escapes are valid.
+// Parses a call and its expected reply, if each `=>` in the call is an arrow.
 fn said_of_call<'a>(
     column: usize,
     call: &'a [u8],
@@ -272,6 +272,27 @@ fn said_of_call<'a>(
     requires call { column + length call.now < 2 ^ 64 }
     requires reply { IfSome reply (λ r. column + length call.now + 4 + length r.now < 2 ^ 64) }
     ensures value { says result ≡ said_of_call column call.now (option_copied reply.entry) }
+    ensures read { HandsOn result }
+{
+    match stray_of(call) {
+        Some(place) => Err(FriendlyFault {
+            reason: LineReason::StrayArrow,
+            column: column + place + 1,
+        }),
+        None => said_escaped(column, call, reply, room),
+    }
+}
+
+// Parses a call and its expected reply, if all escapes are valid.
+fn said_escaped<'a>(
+    column: usize,
+    call: &'a [u8],
+    reply: Option<&'a [u8]>,
+    room: &'a mut LineBuffer,
+) -> Result<FriendlyLine<'a>, FriendlyFault>
+    requires call { column + length call.now < 2 ^ 64 }
+    requires reply { IfSome reply (λ r. column + length call.now + 4 + length r.now < 2 ^ 64) }
+    ensures value { says result ≡ said_escaped column call.now (option_copied reply.entry) }
     ensures read { HandsOn result }
 {
     let parts = CallParts::of(call);

@@ -1,5 +1,5 @@
 -- A bare line is a call with a bare reply as its expectation, if it is a call.
-use Rattle.std.proofs.Common.{◌≡◌, ℕ, ◌+◌, ◌-◌, ◌<◌, ◌||◌, Bool, true, false, true≢false, cond, not, nat_eq, nat_lt, is_some, List, [], ◌∷◌, ◌++◌, length, take, drop, get_or, position, slice_index, codes, Option, Some, None, Result, Ok, Err, refl, sym, ap, ◌∙◌, arith}
+use Rattle.std.proofs.Common.{◌≡◌, ℕ, ◌+◌, ◌-◌, ◌<◌, ◌&&◌, ◌||◌, Bool, true, false, true≢false, cond, not, nat_eq, nat_lt, is_some, List, [], ◌∷◌, ◌++◌, length, take, drop, get_or, position, slice_index, codes, Option, Some, None, Result, Ok, Err, refl, sym, ap, ◌∙◌, arith}
 use Rattle.std.specs.List.{list_all, position_or_len, starts_with}
 use Rattle.std.specs.Option.{option_map, option_map_or, option_or}
 use Rattle.std.proofs.lemmas.Bool.Decides.{nat_tests}
@@ -9,13 +9,13 @@ use Rattle.std.proofs.Math.Seq.{drop-append-add, take-append_seam}
 use Rattle.own_model.specs.Call.{parsed_call}
 use Rattle.line_friendly.specs.CallParts.{parts_of, spelled}
 use Rattle.line_friendly.specs.Expected.{written_fault}
-use Rattle.line_friendly.specs.Friendly.{FriendlyLine, arrow_of, call_part, fault_in, no_call, reply_part, said_of, said_of_both, said_of_call, said_of_line, said_of_signs, said_of_text, trimmed_line, without_comment, without_mark, without_meant, without_return}
+use Rattle.line_friendly.specs.Friendly.{FriendlyLine, arrow_of, call_part, fault_in, no_call, reply_part, said_escaped, said_of, said_of_both, said_of_call, said_of_line, said_of_signs, said_of_text, trimmed_line, without_comment, without_mark, without_meant, without_return}
 use Rattle.line_friendly.specs.Friendly.FriendlyLine.{Call as CallContent}
 use Rattle.line_friendly.specs.LineText.{added}
-use Rattle.line_friendly.specs.Quotes.{after_byte, after_text, is_arrow, is_outside}
+use Rattle.line_friendly.specs.Quotes.{after_byte, after_text, first_stray, is_arrow, is_outside, is_stray}
 use Rattle.line_friendly.specs.Words.{is_blank, skip_blanks}
 use Rattle.line_friendly.specs.declared.fault.FriendlyFault.{FriendlyFault}
-use Rattle.line_friendly.specs.declared.fault.LineReason.TheVariants.{BadEscape}
+use Rattle.line_friendly.specs.declared.fault.LineReason.TheVariants.{BadEscape, StrayArrow}
 use Rattle.line_friendly.proofs.QuoteLemmas.{no_first}
 use Rattle.run_record.specs.Bare.{is_bare, is_bare_byte, is_bare_line}
 
@@ -115,6 +115,24 @@ no_arrow [] plain free = refl
 no_arrow (b ∷ bs) plain free =
     let later : arrow_of bs ≡ None = no_arrow bs (without_more 34 b bs plain) (without_more 61 b bs free) in
     rw (without_first 34 b bs plain, later, no_arrow_here b bs (without_more 61 b bs free)) refl
+
+-- nor is there another `=>`
+no_stray_here : (b : ℕ) (bs : List ℕ) → is_without 61 bs ≡ true → is_stray (b ∷ bs) ≡ false
+no_stray_here b [] free = refl
+no_stray_here b (c ∷ cs) free =
+    let unequal : nat_eq c 61 ≡ false = without_first 61 c cs free in
+    let other : nat_eq 61 c ≡ false = grind (arith, nat_tests) in
+    rw other refl
+
+no_stray : {S : Type 0} (at : S) (outside : S → Bool) (step : S → ℕ → S) (first : S → List ℕ → Option ℕ) → first at [] ≡ None →
+    ((b : ℕ) (bs : List ℕ) → first at (b ∷ bs) ≡ cond (outside (step at b) && is_stray (b ∷ bs)) (Some 0) (option_map (λ n. 1 + n) (first (step at b) bs))) →
+    ((b : ℕ) → nat_eq b 34 ≡ false → step at b ≡ at) → (text : List ℕ) → is_without 34 text ≡ true → is_without 61 text ≡ true → first at text ≡ None
+no_stray at outside step first none more same [] plain free = none
+no_stray at outside step first none more same (b ∷ bs) plain free =
+    more b bs
+    ∙ ap (λ t. cond t (Some 0) (option_map (λ n. 1 + n) (first (step at b) bs))) (and_right (outside (step at b)) (is_stray (b ∷ bs)) (no_stray_here b bs (without_more 61 b bs free)))
+    ∙ ap (λ s. option_map (λ n. 1 + n) (first s bs)) (same b (without_first 34 b bs plain))
+    ∙ ap (option_map (λ n. 1 + n)) (no_stray at outside step first none more same bs (without_more 34 b bs plain) (without_more 61 b bs free))
 
 -- the arrow after a line
 arrow_first : (reply : List ℕ) → is_without 34 reply ≡ true → is_without 61 reply ≡ true → arrow_of (32 ∷ 61 ∷ 62 ∷ 32 ∷ reply) ≡ Some 0
@@ -309,8 +327,8 @@ no_more : (fault : Option ℕ) → option_or fault None ≡ fault
 no_more None = refl
 no_more (Some n) = refl
 
-says_with : (call reply spoken : List ℕ) → is_bare reply ≡ true → said_of_call 1 call None ≡ said (CallContent spoken None) →
-    said_of_call 1 call (Some reply) ≡ said (CallContent spoken (Some reply))
+says_with : (call reply spoken : List ℕ) → is_bare reply ≡ true → said_escaped 1 call None ≡ said (CallContent spoken None) →
+    said_escaped 1 call (Some reply) ≡ said (CallContent spoken (Some reply))
 says_with call reply spoken expected is =
     let fault : Option ℕ = fault_in (length call) (parts_of call).tail in
     let made : Option (List ℕ) = added (Some []) (spelled (parts_of call)) in
@@ -321,7 +339,14 @@ says_with call reply spoken expected is =
     ∙ ap (λ f. by_fault f (Some reply)) (no_more fault)
     ∙ call_said call reply spoken fault made (sym (ap (λ f. by_fault f None) (no_more fault)) ∙ is)
 
+escaped : (line : List ℕ) (reply : Option (List ℕ)) → is_bare_line line ≡ true → said_of_call 1 line reply ≡ said_escaped 1 line reply
+escaped line reply is =
+    let bare : is_bare line ≡ true = line_is_bare line is in
+    ap (λ found. option_map_or (λ n. Err (record { reason = StrayArrow; column = 1 + n + 1 })) found (said_escaped 1 line reply))
+    (no_stray _ is_outside after_byte first_stray refl (λ b bs. refl) (λ b other. rw other refl) line (kept_out 34 no_quote line bare) (kept_out 61 no_equals line bare))
+
 pub bare_said : (line reply spoken : List ℕ) → is_bare_line line ≡ true → is_bare reply ≡ true → said_of line ≡ said (CallContent spoken None) →
     said_of (expected_line line reply) ≡ said (CallContent spoken (Some reply))
 bare_said line reply spoken is expected says =
-    says_whole line reply is expected ∙ says_with line reply spoken expected (sym (says_line line is) ∙ says)
+    says_whole line reply is expected ∙ escaped line (Some reply) is
+    ∙ says_with line reply spoken expected (sym (escaped line None is) ∙ sym (says_line line is) ∙ says)

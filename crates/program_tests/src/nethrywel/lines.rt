@@ -287,11 +287,7 @@ const FAULTS: &[(&[u8], LineReason, usize)] = &[
     (b"\t\"", LineReason::OpenQuote, 2),
     (b"alice quota => OK \"\\q\"", LineReason::BadEscape, 20),
     (b"alice quota => \"\\q", LineReason::OpenQuote, 16),
-    (
-        b"alice quota => #",
-        LineReason::TooMany(CallForm::Quota),
-        13,
-    ),
+    (b"alice quota => #", LineReason::StrayArrow, 13),
     (b"\xef\xbb\xbf frob # x", LineReason::NoForm, 9),
     (b"\xef\xbb\xbf al ice", LineReason::UnknownCall, 8),
 ];

@@ -5,7 +5,7 @@ use Rattle.line_friendly.specs.CallParts.{CallParts, parts_of, spelled}
 use Rattle.line_friendly.specs.Views.{parts_in}
 use Rattle.line_friendly.specs.LineText.{added}
 use Rattle.line_friendly.proofs.ReadingLemmas.{call_says}
-use Rattle.line_friendly.proofs.reading.said_of_call.Goals as goal
+use Rattle.line_friendly.proofs.reading.said_escaped.Goals as goal
 
 pub returns-in-None-clause-value : goal.returns-in-None-clause-value
 returns-in-None-clause-value c =
