@@ -75,3 +75,16 @@ meets reply expected =
     if bytes_eq expected (codes "granted") then not (is_refusal reply)
     else (if bytes_eq expected (codes "refused") then is_refusal reply
     else bytes_eq expected (codes "*") || meets_words reply expected)
+
+-- a reply says that its line wasn't understood
+abbrev pub is_misread : List ℕ → Bool
+is_misread reply =
+    bytes_eq reply (codes "Bad_line") || (bytes_eq reply (codes "Unknown_component") || (bytes_eq reply (codes "Not_a_script")
+    || (bytes_eq reply (codes "Bad_args") || (bytes_eq reply (codes "ERR BAD_REQUEST") || bytes_eq reply (codes "ERR BAD_KIND")))))
+
+-- a line may pass with a reply: with one that says that the line wasn't understood only if the whole reply is expected. Nor does a line
+-- that expects `refused` pass if its caller has exited
+abbrev pub can_pass : Option (List ℕ) → List ℕ → Bool
+can_pass None reply = not (is_misread reply)
+can_pass (Some expected) reply =
+    bytes_eq reply expected || not (is_misread reply || (bytes_eq reply (codes "Gone") && bytes_eq expected (codes "refused")))

@@ -1,11 +1,11 @@
 //! Whether a reply matches an expectation.
-ghost use Rattle.std.specs.Prelude.{◌≡◌, ◌+◌, ◌<◌, ◌≤◌, [], not, length, position, nat_lt, slice_index, ◌==◌, ◌&&◌, true, IfSome, if◌then◌else◌};
+ghost use Rattle.std.specs.Prelude.{◌≡◌, ◌+◌, ◌<◌, ◌≤◌, [], codes, not, length, position, nat_lt, slice_index, ◌==◌, ◌&&◌, true, IfSome, if◌then◌else◌};
 ghost use Rattle.std.specs.List.{position_or_len};
 ghost use Rattle.std.specs.Char.{is_ascii_digit};
 ghost use Rattle.std.specs.Option.{option_copied};
 ghost use Rattle.std.specs.Str.{bytes_eq};
 ghost use Rattle.own_model.specs.Reply.{hex_text};
-ghost use Rattle.line_friendly.specs.Expected.{bytes_for, is_refusal, is_word_end, meets, meets_both, meets_words, reply_behind, matched_by, written_fault, written_in};
+ghost use Rattle.line_friendly.specs.Expected.{bytes_for, can_pass, is_misread, is_refusal, is_word_end, meets, meets_both, meets_words, reply_behind, matched_by, written_fault, written_in};
 ghost use Rattle.line_friendly.specs.Expectations.{IsExact, RefusalsAreTold};
 ghost use Rattle.line_friendly.specs.QuotedBytes.{bytes_of};
 ghost use Rattle.line_friendly.specs.Views.{written_view};
@@ -38,6 +38,36 @@ pub fn meets(reply: &[u8], expected: &[u8]) -> bool
         return is_refusal(reply);
     }
     expected == b"*".as_slice() || meets_text(reply, expected)
+}
+
+/// Returns whether a reply says that its line wasn't understood.
+pub fn is_misread(reply: &[u8]) -> bool
+    ensures { result ≡ is_misread reply.now }
+{
+    reply == b"Bad_line".as_slice()
+        || reply == b"Unknown_component".as_slice()
+        || reply == b"Not_a_script".as_slice()
+        || reply == b"Bad_args".as_slice()
+        || reply == b"ERR BAD_REQUEST".as_slice()
+        || reply == b"ERR BAD_KIND".as_slice()
+}
+
+/// Returns whether a line may pass with a reply: with one that says that the line wasn't understood, only if exactly this reply is
+/// expected. A line that expects `refused` doesn't pass if its caller has exited.
+pub fn can_pass(expected: Option<&[u8]>, reply: &[u8]) -> bool
+    ensures { result ≡ can_pass (option_copied expected.entry) reply.now }
+{
+    let Some(expected) = expected else {
+        return !is_misread(reply);
+    };
+    reply == expected || !(is_misread(reply) || is_gone(reply, expected))
+}
+
+// Returns whether a refusal is expected of a caller that has exited.
+fn is_gone(reply: &[u8], expected: &[u8]) -> bool
+    ensures { result ≡ (bytes_eq reply.now (codes "Gone") && bytes_eq expected.now (codes "refused")) }
+{
+    reply == b"Gone".as_slice() && expected == b"refused".as_slice()
 }
 
 // Returns whether a reply matches a pattern: the same text, if the pattern has no `*` and no quote.

@@ -18,7 +18,7 @@ mod requests;
 mod theorems;
 mod words;
 
-pub use expected::{matched_by, meets};
+pub use expected::{can_pass, is_misread, matched_by, meets};
 pub use fault::{FriendlyFault, LineMessage, LineReason};
 pub use forms::is_one_edit;
 pub use line_buffer::LineBuffer;

@@ -122,7 +122,8 @@ no_stray_here b [] free = refl
 no_stray_here b (c ∷ cs) free =
     let unequal : nat_eq c 61 ≡ false = without_first 61 c cs free in
     let other : nat_eq 61 c ≡ false = grind (arith, nat_tests) in
-    rw other refl
+    let tip : starts_with nat_eq (c ∷ cs) (codes "=>") ≡ false = rw other refl in
+    ap (λ t. t && not (is_arrow (b ∷ c ∷ cs) && not (list_all is_blank (drop 4 (b ∷ c ∷ cs))))) tip
 
 no_stray : {S : Type 0} (at : S) (outside : S → Bool) (step : S → ℕ → S) (first : S → List ℕ → Option ℕ) → first at [] ≡ None →
     ((b : ℕ) (bs : List ℕ) → first at (b ∷ bs) ≡ cond (outside (step at b) && is_stray (b ∷ bs)) (Some 0) (option_map (λ n. 1 + n) (first (step at b) bs))) →

@@ -24,7 +24,7 @@ use Rattle.line_steps.specs.ResolvedViews.{resolved_view}
 use Rattle.run_scenario.specs.CallAnswers.{AnswersIn, IsAnsweredCall, TakesStep}
 use Rattle.run_lines.specs.Answer.{IsAnswer}
 use Rattle.run_scenario.specs.Judging.{AnswerText, answer_to, text_in}
-use Rattle.run_scenario.specs.LineSteps.{AreBare, Arrives, bare_content, bare_line, calls_in, learnt_by, learnt_from, left_behind, next_position, plain_line, resolved_at, position_after, position_with, steps_from_line, steps_of}
+use Rattle.run_scenario.specs.LineSteps.{AreBare, Arrives, bare_content, bare_line, calls_in, is_meant_line, learnt_by, learnt_from, left_behind, next_position, plain_line, resolved_at, position_after, position_with, steps_from_line, steps_of}
 use Rattle.line_steps.specs.RunPosition.{RunPosition, arrived, arrived_at, crosses, is_due, number_after, passed}
 use Rattle.run_scenario.specs.declared.line_step.LineStep.{LineStep}
 use Rattle.run_scenario.proofs.PlayedLemmas.{resolved_own}
@@ -180,4 +180,4 @@ bare_steps only world position (line ∷ lines) none bare =
     let number : next.number ≡ number_after position.number = ap (λ (s : RunPosition). s.number) stays ∙ next_number only world position (resolved_at only position line) in
     let rest = bare_steps only left next lines (ap (λ (s : RunPosition). s.ahead) stays ∙ still) bare.1 ∙ ap (λ n. steps_from_line only n lines) number in
     let crosses_none : crosses position ≡ false = ap (is_due (number_after position.number)) none in
-    λ i. record { number = position.number; resolved = is i; crosses = crosses_none i } ∷ rest i
+    λ i. record { number = position.number; meant = is_meant_line line; resolved = is i; crosses = crosses_none i } ∷ rest i

@@ -22,7 +22,7 @@ use Rattle.run_scenario.specs.Reports.{left_over_report}
 use Rattle.run_scenario.specs.RunReports.{ReportScope, ReportsLine, WritesAllReports, WritesReports, scope_of}
 use Rattle.run_scenario.specs.Writes.{start_at}
 use Rattle.view_diagnostics.specs.Diagnostics.{SubjectAt}
-use Rattle.run_scenario.specs.LineSteps.{LineStep, call_of, left_behind, next_position, resolved_at, position_behind, step_of, steps_of}
+use Rattle.run_scenario.specs.LineSteps.{LineStep, call_of, is_meant_line, left_behind, next_position, resolved_at, position_behind, step_of, steps_of}
 use Rattle.run_scenario.specs.Observation.{Watches}
 use Rattle.line_steps.specs.RunPosition.{RunPosition, crosses}
 use Rattle.run_scenario.proofs.RunReportLemmas.{reports_closed, reports_more}
@@ -46,7 +46,7 @@ ready_next (Err fault) a = tt
 
 -- how a line's error is found and counted, unless there is a fault
 record StepsTallyAt (only : Option (List ℕ)) (mid : World) (position : RunPosition) (line : List ℕ) (now next : Tally) (error : Bool) : Type 0 where
-  judged : error ≡ has_error only mid (resolved_at only position line) now.awaited
+  judged : error ≡ has_error only mid (is_meant_line line) (resolved_at only position line) now.awaited
   expects : next.awaited ≡ awaited_after position.number (resolved_at only position line) now.awaited
   counts : CountsOne error now.errors next.errors
 
@@ -136,7 +136,7 @@ module _ {R A : Type 0} (only_of : R → Option (List ℕ)) (list_of : R → Lis
       (calls : Bool) (judged : Result Bool LineRunFault) {failed : Bool} {old new : Point} {begun : Tally} (errors now_errors : ℕ) (e e' e'' : Option (List ℕ)) → IfOk judged (λ error. CountsOne error errors now_errors) →
       A → run ≡ at → mid_subject ≡ subject → now_telling ≡ telling →
       LeadsSteps (only_of at) start old.world first old.position begun (tally errors old.awaited) (WritesReports (scope_of subject (list_of at)) (start_at (only_of at) start first begun.awaited) e e') (seen_old at start) xs →
-      RunsLine (only_of run) now_telling calls (seen_old run) (seen_new run) (resolved_at (only_of run) old.position line) failed judged old new →
+      RunsLine (only_of run) now_telling calls (seen_old run) (seen_new run) (is_meant_line line) (resolved_at (only_of run) old.position line) failed judged old new →
       OnOk judged (ReportsLine (scope_of mid_subject (list_of run)) (only_of run) old.world old.position line old.awaited e' e'') →
       HandlesLine (λ lines. text_of_steps (telling start) (only_of at) [] (steps_of (only_of at) start first lines))
       (λ lines. A × LeadsSteps (only_of at) start new.world first new.position begun (tally now_errors new.awaited) (WritesReports (scope_of subject (list_of at)) (start_at (only_of at) start first begun.awaited) e e'') (seen_new at start) lines)
@@ -159,16 +159,16 @@ module _ {R A : Type 0} (only_of : R → Option (List ℕ)) (list_of : R → Lis
           reports_more scope (only_of at) start old.world first old.position begun.awaited old.awaited xs line led.world_is led.stands led.tallies.awaits e e' e'' own.0 led.reported own.1 own.2
       reports (Err fault) reported = tt
 
-      steps : (judged : Result Bool LineRunFault) → IfOk judged (λ error. error ≡ has_error (only_of at) old.world (resolved_at (only_of at) old.position line) old.awaited) →
+      steps : (judged : Result Bool LineRunFault) → IfOk judged (λ error. error ≡ has_error (only_of at) old.world (is_meant_line line) (resolved_at (only_of at) old.position line) old.awaited) →
           OnOk judged (new.awaited ≡ awaited_after old.position.number (resolved_at (only_of at) old.position line) old.awaited) → IfOk judged (λ error. CountsOne error errors now_errors) →
           StepsTally (only_of at) old.world old.position line (tally errors old.awaited) (tally now_errors new.awaited) judged
       steps (Ok error) judged expects counts = record { judged = judged; expects = expects; counts = counts }
       steps (Err fault) judged expects counts = tt
 
-      here : RunsLine (only_of at) telling calls (seen_old at) (seen_new at) (resolved_at (only_of at) old.position line) failed judged old new
+      here : RunsLine (only_of at) telling calls (seen_old at) (seen_new at) (is_meant_line line) (resolved_at (only_of at) old.position line) failed judged old new
       here =
-          subst (λ t. RunsLine (only_of at) t calls (seen_old at) (seen_new at) (resolved_at (only_of at) old.position line) failed judged old new) tells_is
-          (subst (λ r. RunsLine (only_of r) now_telling calls (seen_old r) (seen_new r) (resolved_at (only_of r) old.position line) failed judged old new) run_is plays)
+          subst (λ t. RunsLine (only_of at) t calls (seen_old at) (seen_new at) (is_meant_line line) (resolved_at (only_of at) old.position line) failed judged old new) tells_is
+          (subst (λ r. RunsLine (only_of r) now_telling calls (seen_old r) (seen_new r) (is_meant_line line) (resolved_at (only_of r) old.position line) failed judged old new) run_is plays)
 
       watches : Watches (seen_old at) start (calls_answered (only_of at) (steps_of (only_of at) start first xs)) old.world
       watches = record { leads = led.world_is; sees = led.sees }

@@ -1,46 +1,34 @@
--- What is written for a line, case by case.
-use Rattle.std.proofs.Common.{◌≡◌, ℕ, true, false, List, [], ◌∷◌, is_some, refl}
-use Rattle.std.specs.Prelude.{codes}
-use Rattle.std.specs.Str.{bytes_eq}
-use Rattle.own_model.specs.Listed.{Listed}
-use Rattle.line_friendly.specs.Expected.{meets}
-use Rattle.line_friendly.specs.Friendly.{is_passed}
-use Rattle.line_steps.specs.ResolvedLines.{start_column}
-use Rattle.run_lines.specs.declared.line_answer.LineAnswer.{LineAnswer}
+-- What is reported of a line.
+use Rattle.std.proofs.Common.{◌≡◌, ℕ, Bool, true, false, List, [], Option, Some, None, Result, Ok, Err, IfOk, IsErrAnd, refl, sym, ◌∙◌, ap}
+use Rattle.std.specs.Io.KnownBytes.{Appends}
+use Rattle.own_model.specs.World.{World}
+use Rattle.line_steps.specs.ResolvedLines.{ResolvedLine}
+use Rattle.line_steps.specs.ResolvedLines.ResolvedLine.{TooLong}
+use Rattle.run_devices.proofs.GatheredLemmas.{Appends-none}
+use Rattle.run_lines.specs.declared.line_run_fault.LineRunFault.{LineRunFault}
 use Rattle.view_diagnostics.specs.Diagnostics.{SubjectAt, diagnostic}
 use Rattle.view_diagnostics.specs.declared.diagnostics.Severity.TheVariants.{Error}
-use Rattle.view_diagnostics.specs.declared.place.FilePlace.{FilePlace}
 use Rattle.view_diagnostics.specs.declared.place.FilePlace.TheVariants.{Byte}
-use Rattle.run_scenario.specs.Complaints.{log_lines_pieces, reply_pieces, unknown_pieces}
-use Rattle.run_scenario.specs.Judging.{Awaited, is_unknown_call}
-use Rattle.run_scenario.specs.Reports.{CheckedLine, answer_report, near_name, silent_report, without_last}
+use Rattle.run_scenario.specs.Judging.{Awaited, has_error}
+use Rattle.run_scenario.specs.Reports.{AppendsReport, Reports}
 
-module _ (subject : SubjectAt) (place : FilePlace) (answer : LineAnswer) (reply : List ℕ) (awaited : Awaited) where
-  pub other_reply : meets answer.reply.now reply ≡ false → answer_report subject place answer reply awaited ≡ diagnostic subject place Error (reply_pieces answer.outcome answer.reply.now reply)
-  unfolding answer_report
-  other_reply is = rw is refl
+module _ (subject : SubjectAt) (number : ℕ) where
+  -- an error is reported
+  pub reported : (column : ℕ) (pieces : List (List ℕ)) (old new : Option (List ℕ)) → Appends old new (diagnostic subject (Byte number column) Error pieces) →
+      AppendsReport subject number true old new
+  reported column pieces old new grows = (diagnostic subject (Byte number column) Error pieces, (column, pieces, refl), grows)
 
-  pub other_lines : meets answer.reply.now reply ≡ true → bytes_eq answer.lines.now awaited.lines ≡ false →
-      answer_report subject place answer reply awaited ≡ diagnostic subject place Error (log_lines_pieces (without_last answer.lines.now) (without_last awaited.lines))
-  unfolding answer_report
-  other_lines is apart = rw (is, apart) refl
+  -- or nothing is
+  pub unreported : (old : Option (List ℕ)) → AppendsReport subject number false old old
+  unreported old = ([], refl, Appends-none old)
 
-  pub no_other : meets answer.reply.now reply ≡ true → bytes_eq answer.lines.now awaited.lines ≡ true → answer_report subject place answer reply awaited ≡ []
-  unfolding answer_report
-  no_other is same = rw (is, same) refl
+  -- or a write failed
+  pub report_failed : (Q : LineRunFault → Type 0) (r : Result Bool LineRunFault) (old new : Option (List ℕ)) → IsErrAnd r Q → Reports subject number r old new
+  report_failed Q (Ok done) old new is = absurd is
+  report_failed Q (Err fault) old new is = tt
 
-module _ (subject : SubjectAt) (list : Listed) (asked : CheckedLine) (answer : LineAnswer) (awaited : Awaited) where
-  pub lines_expected : is_some awaited.first ≡ true →
-      silent_report subject list asked answer awaited ≡ diagnostic subject (Byte asked.number 1) Error (codes "log lines are expected, but no reply" ∷ [])
-  unfolding silent_report
-  lines_expected is = rw is refl
-
-  pub name_unknown : is_some awaited.first ≡ false → is_unknown_call (is_passed asked.line) answer.reply.now ≡ true →
-      silent_report subject list asked answer awaited
-      ≡ diagnostic subject (Byte asked.number (start_column asked.given)) Error (unknown_pieces answer.name.now (near_name list answer.name.now))
-  unfolding silent_report
-  name_unknown none is = rw (none, is) refl
-
-  pub no_silent : is_some awaited.first ≡ false → is_unknown_call (is_passed asked.line) answer.reply.now ≡ false → silent_report subject list asked answer awaited ≡ []
-  unfolding silent_report
-  no_silent none is = rw (none, is) refl
+-- a line that is too long has an error
+pub judged_long : (only : Option (List ℕ)) (old : World) (meant : Bool) (awaited : Awaited) (r : Result Bool LineRunFault) (resolved : ResolvedLine) → resolved ≡ TooLong → IfOk r (λ complained. complained ≡ true) →
+    IfOk r (λ complained. complained ≡ has_error only old meant resolved awaited)
+judged_long only old meant awaited (Ok complained) resolved is judged = judged ∙ sym (ap (λ it. has_error only old meant it awaited) is)
+judged_long only old meant awaited (Err fault) resolved is judged = tt

@@ -40,19 +40,19 @@ module _ (only : Option (List ℕ)) where
   few_errors world awaited (step ∷ steps) =
       omega (
         arith,
-        one_at_most (has_error only world step.resolved awaited),
+        one_at_most (has_error only world step.meant step.resolved awaited),
         few_errors (after_all only world (calls_in step.resolved)) (awaited_after step.number step.resolved awaited) steps,
       )
 
   -- one step more
   pub tallies_more : (start mid : World) (old now next : Tally) (steps : List LineStep) (step : LineStep) (error : Bool) → mid ≡ after_all only start (calls_of_steps steps) →
-      Tallies only start old now steps → error ≡ has_error only mid step.resolved now.awaited → next.awaited ≡ awaited_after step.number step.resolved now.awaited →
+      Tallies only start old now steps → error ≡ has_error only mid step.meant step.resolved now.awaited → next.awaited ≡ awaited_after step.number step.resolved now.awaited →
       CountsOne error now.errors next.errors → Tallies only start old next (steps ++ step ∷ [])
   tallies_more start mid old now next steps step error left led judged awaits counts = record {
     awaits = awaits ∙ ap (awaited_after step.number step.resolved) led.awaits ∙ sym (awaited_behind-append old.awaited steps (step ∷ []));
     counts = λ fits.
-        let one : from_bool error ≡ from_bool (has_error only (after_all only start (calls_of_steps steps)) step.resolved (awaited_behind old.awaited steps)) =
-        ap from_bool (judged ∙ (λ i. has_error only (left i) step.resolved (led.awaits i))) in
+        let one : from_bool error ≡ from_bool (has_error only (after_all only start (calls_of_steps steps)) step.meant step.resolved (awaited_behind old.awaited steps)) =
+        ap from_bool (judged ∙ (λ i. has_error only (left i) step.meant step.resolved (led.awaits i))) in
         let more : errors_in only start old.awaited (steps ++ step ∷ []) ≡ errors_in only start old.awaited steps + from_bool error =
         omega (arith, errors_in-append start old.awaited steps (step ∷ []), one) in
         let before : now.errors ≡ old.errors + errors_in only start old.awaited steps = led.counts (omega (arith, more, fits)) in

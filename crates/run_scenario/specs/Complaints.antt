@@ -88,15 +88,3 @@ found_pieces outcome reply expected = codes ", found `" ∷ text_pieces (has_byt
 abbrev pub reply_pieces : Outcome → List ℕ → List ℕ → List (List ℕ)
 reply_pieces outcome reply expected =
     expected_pieces expected ++ (found_pieces outcome reply expected ++ difference_pieces (difference reply expected))
-
--- log lines that differ from the expected ones
-abbrev pub log_lines_pieces : List ℕ → List ℕ → List (List ℕ)
-log_lines_pieces found expected = codes "expected the log lines `" ∷ expected ∷ codes "`, found `" ∷ found ∷ codes "`" ∷ []
-
--- an unknown component, and the name that may be meant
-abbrev pub near_pieces : Option (List ℕ) → List (List ℕ)
-near_pieces None = []
-near_pieces (Some near) = codes "; did you mean `" ∷ near ∷ codes "`?" ∷ []
-
-abbrev pub unknown_pieces : List ℕ → Option (List ℕ) → List (List ℕ)
-unknown_pieces name near = codes "unknown component `" ∷ name ∷ codes "`" ∷ near_pieces near

@@ -3,14 +3,11 @@ use Rattle.std.specs.Prelude.{ℕ, ◌+◌, ◌&&◌, ◌||◌, Bool, true, fals
 use Rattle.std.specs.Int.{from_bool}
 use Rattle.std.specs.List.{flat_map}
 use Rattle.std.specs.Str.{bytes_eq}
-use Rattle.trade_base.specs.Refusal.{refusal_name}
-use Rattle.trade_base.specs.declared.refusal.Refusal.TheVariants.{UnknownComponent}
 use Rattle.own_model.specs.LinesOfName.{said_by}
 use Rattle.own_model.specs.Reply.{log_text}
 use Rattle.own_model.specs.Transcript.{heard}
 use Rattle.own_model.specs.World.{World}
-use Rattle.line_friendly.specs.Expected.{meets}
-use Rattle.line_friendly.specs.Friendly.{is_passed}
+use Rattle.line_friendly.specs.Expected.{can_pass, meets}
 use Rattle.run_lines.specs.Answer.{finished_lines}
 use Rattle.run_lines.specs.Answered.{after_all}
 use Rattle.run_lines.specs.declared.line_answer.LineAnswer.{LineAnswer}
@@ -45,25 +42,23 @@ pub record AnswerText : Type 0 where
   pub reply : List ℕ
   pub lines : List ℕ
 
+abbrev pub answer_text : LineAnswer → AnswerText
+answer_text answer = record { reply = answer.reply.now; lines = answer.lines.now }
+
 abbrev pub text_in : Option LineAnswer → Option AnswerText
 text_in None = None
-text_in (Some answer) = Some (record { reply = answer.reply.now; lines = answer.lines.now })
+text_in (Some answer) = Some (answer_text answer)
 
--- the reply says that no component has the name of its call
-abbrev pub is_unknown : List ℕ → Bool
-is_unknown reply = bytes_eq reply (refusal_name UnknownComponent)
+-- an answer differs from what is expected: its reply doesn't match, or it has other log lines. Without an expected reply, it differs
+-- if log lines are expected
+abbrev pub differs : Option (List ℕ) → AnswerText → Awaited → Bool
+differs None answer awaited = is_some awaited.first
+differs (Some reply) answer awaited = not (meets answer.reply reply) || not (bytes_eq answer.lines awaited.lines)
 
--- the name of a call is unknown; the name of a line that is passed to the engine unchanged may be unknown
-abbrev pub is_unknown_call : Bool → List ℕ → Bool
-is_unknown_call passed reply = is_unknown reply && not passed
-
--- an answer differs from its expectation: its reply doesn't match, or it has other log lines. Without an expected reply, it
--- differs if log lines are expected or the call's name is unknown. A skipped call never differs
+-- a line has an error if it can't pass with its reply and isn't meant, or if its answer differs. A skipped call has none
 abbrev pub is_other : Bool → Option (List ℕ) → Option AnswerText → Awaited → Bool
-is_other passed reply None awaited = false
-is_other passed None (Some answer) awaited = is_some awaited.first || is_unknown_call passed answer.reply
-is_other passed (Some reply) (Some answer) awaited =
-    not (meets answer.reply reply) || not (bytes_eq answer.lines awaited.lines)
+is_other meant reply None awaited = false
+is_other meant reply (Some answer) awaited = not (can_pass reply answer.reply || meant) || differs reply answer awaited
 
 -- ---- of a line, by what it is after substitution
 
@@ -76,13 +71,13 @@ awaited_after number resolved awaited = awaited
 
 -- a line has an error that is too long, can't be filled or can't be parsed, and so have a directive that can't be followed and a
 -- call whose answer differs from its expectation
-abbrev pub is_complained : ResolvedLine → Option AnswerText → Awaited → Bool
-is_complained TooLong answer awaited = true
-is_complained (BadName fault) answer awaited = true
-is_complained (Misplaced column why) answer awaited = true
-is_complained (Call filled line reply) answer awaited = is_other (is_passed filled.line) reply answer awaited
-is_complained (BadLine fault) answer awaited = true
-is_complained resolved answer awaited = false
+abbrev pub is_complained : Bool → ResolvedLine → Option AnswerText → Awaited → Bool
+is_complained meant TooLong answer awaited = true
+is_complained meant (BadName fault) answer awaited = true
+is_complained meant (Misplaced column why) answer awaited = true
+is_complained meant (Call filled line reply) answer awaited = is_other meant reply answer awaited
+is_complained meant (BadLine fault) answer awaited = true
+is_complained meant resolved answer awaited = false
 
 -- ---- of lines in a world
 
@@ -92,15 +87,15 @@ answer_to world [] = None
 answer_to world (call ∷ calls) =
     Some (record { reply = reply_in world call; lines = flat_map log_text (finished_lines world (heard world.entries call)) })
 
--- a line has an error by the answer to its call in this world: all calls are answered, or those of one name
-abbrev pub has_error : Option (List ℕ) → World → ResolvedLine → Awaited → Bool
-has_error only world resolved awaited = is_complained resolved (answer_to world (said_by only (calls_in resolved))) awaited
+-- a line that is meant, or isn't, has an error by the answer to its call in this world: all calls are answered, or those of one name
+abbrev pub has_error : Option (List ℕ) → World → Bool → ResolvedLine → Awaited → Bool
+has_error only world meant resolved awaited = is_complained meant resolved (answer_to world (said_by only (calls_in resolved))) awaited
 
 -- how many lines have an error, by their steps from this world and this expectation on
 abbrev pub errors_in : Option (List ℕ) → World → Awaited → List LineStep → ℕ
 errors_in only world awaited [] = 0
 errors_in only world awaited (step ∷ steps) =
-    from_bool (has_error only world step.resolved awaited)
+    from_bool (has_error only world step.meant step.resolved awaited)
     + errors_in only (after_all only world (calls_in step.resolved)) (awaited_after step.number step.resolved awaited) steps
 
 -- the expectation after these steps

@@ -1,10 +1,10 @@
 -- The steps of a run: what each line of a scenario is after substitution.
-use Rattle.std.specs.Prelude.{◌≡◌, ℕ, Bool, false, ⊤, List, [], ◌∷◌, length, nat_le, nat_lt, if◌then◌else◌, Option, Some, None, Result, Ok, Err}
+use Rattle.std.specs.Prelude.{◌≡◌, ◌||◌, ℕ, Bool, false, ⊤, List, [], ◌∷◌, length, nat_le, nat_lt, if◌then◌else◌, Option, Some, None, Result, Ok, Err}
 use Rattle.own_model.specs.Reply.{reply_text}
 use Rattle.own_model.specs.LinesOfName.{said_by}
 use Rattle.own_model.specs.Transcript.{heard, longest_line}
 use Rattle.own_model.specs.World.{World}
-use Rattle.line_friendly.specs.Friendly.{FriendlyLine, said_of}
+use Rattle.line_friendly.specs.Friendly.{FriendlyLine, content_of, is_meant, is_passed, said_of}
 use Rattle.line_friendly.specs.Friendly.FriendlyLine.{Nothing as NoContent, Log as LogContent, Call as CallContent}
 use Rattle.line_friendly.specs.Theorems.{IsBare}
 use Rattle.line_friendly.specs.declared.fault.FriendlyFault.{FriendlyFault}
@@ -18,9 +18,14 @@ use Rattle.line_names.specs.Filling.{FilledLine, whole}
 use Rattle.line_names.specs.NameTable.{NameTable}
 use Rattle.line_names.specs.Learning.{learnt}
 
--- the step of a line: its number, what it is then, and whether rounds begin or end after it
+-- a line may have any reply: it is passed to the engine unchanged after a `!`, or its expectation ends in a `!`
+abbrev pub is_meant_line : List ℕ → Bool
+is_meant_line line = is_passed line || is_meant (content_of line)
+
+-- the step of a line: its number, whether it may have any reply, what it is then, and whether rounds begin or end after it
 pub record LineStep : Type 0 where
   pub number : ℕ
+  pub meant : Bool
   pub resolved : ResolvedLine
   pub crosses : Bool
 
@@ -38,7 +43,12 @@ abbrev pub resolved_at : Option (List ℕ) → RunPosition → List ℕ → Reso
 resolved_at only position line = resolved_line only position.known line
 
 abbrev pub step_of : Option (List ℕ) → RunPosition → List ℕ → LineStep
-step_of only position line = record { number = position.number; resolved = resolved_at only position line; crosses = crosses position }
+step_of only position line = record {
+  number = position.number;
+  meant = is_meant_line line;
+  resolved = resolved_at only position line;
+  crosses = crosses position;
+}
 
 -- the engine's line that a line says then, if it says a call
 abbrev pub call_of : Option (List ℕ) → RunPosition → List ℕ → List (List ℕ)
@@ -122,7 +132,7 @@ bare_line only line =
 abbrev pub steps_from_line : Option (List ℕ) → ℕ → List (List ℕ) → List LineStep
 steps_from_line only number [] = []
 steps_from_line only number (line ∷ lines) =
-    record { number = number; resolved = bare_line only line; crosses = false } ∷ steps_from_line only (number_after number) lines
+    record { number = number; meant = is_meant_line line; resolved = bare_line only line; crosses = false } ∷ steps_from_line only (number_after number) lines
 
 -- bare lines of a scenario without rounds are run unchanged, one after another, for any values of names and any answers
 abbrev pub BareLinesStay : Type 0

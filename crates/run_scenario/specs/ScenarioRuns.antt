@@ -93,15 +93,15 @@ abbrev pub point : World → RunPosition → Awaited → Option (List ℕ) → L
 point world position awaited written gathered =
     record { world = world; position = position; awaited = awaited; written = written; gathered = gathered }
 
--- a line is run by what it is: its call is answered and reported, the position moves on, and the line is checked, unless there is
+-- a line is run by whether it is meant, and by what it is: its call is answered and reported, the position moves on, and the line is checked, unless there is
 -- a fault, which it may have
 pub record RunsLine (only : Option (List ℕ)) (tells : World → List (List ℕ) → ℕ → List ℕ → List ℕ) (calls : Bool)
-    (seen now_seen : World → List (List ℕ) → Type 0) (resolved : ResolvedLine) (failed : Bool) (result : Result Bool LineRunFault)
+    (seen now_seen : World → List (List ℕ) → Type 0) (meant : Bool) (resolved : ResolvedLine) (failed : Bool) (result : Result Bool LineRunFault)
     (old new : Point) : Type 0 where
   pub hears : ReportsCalls only tells seen now_seen old.position.number (calls_in resolved) old.world new.world result old.written old.gathered
       new.written new.gathered
   pub stands : OnOk result (new.position ≡ arrived (position_after only old.world (passed old.position) resolved))
-  pub judged : IfOk result (λ complained. complained ≡ has_error only old.world resolved old.awaited)
+  pub judged : IfOk result (λ complained. complained ≡ has_error only old.world meant resolved old.awaited)
   pub expects : OnOk result (new.awaited ≡ awaited_after old.position.number resolved old.awaited)
   pub failing : Fails result failed (takes_memory calls resolved || crosses old.position)
 

@@ -1,12 +1,12 @@
 //! Errors of a scenario's lines, as diagnostics.
 ghost use Rattle.std.specs.Prelude.{◌≡◌, ◌≤◌, ◌∷◌, false, if◌then◌else◌, is_err, length, map, None};
 ghost use Rattle.std.specs.List.{flat_map};
-ghost use Rattle.std.specs.Option.{option_copied, option_map};
+ghost use Rattle.std.specs.Option.{option_map};
 ghost use Rattle.own_model.specs.Text.{hex_bytes};
 ghost use Rattle.run_devices.specs.RunOutput.{OutputsUnless};
 ghost use Rattle.view_diagnostics.specs.Diagnostics.{diagnostic, shown, subject_at};
 ghost use Rattle.view_diagnostics.specs.declared.diagnostics.Severity.TheVariants.{Error as AnError};
-ghost use Rattle.run_scenario.specs.Complaints.{WritesUnless, are_bytes, bracket_pieces, common, difference, difference_pieces, has_byte, has_bytes, is_data, last_token, log_lines_pieces, reply_pieces, shown_bytes, text_pieces, unknown_pieces};
+ghost use Rattle.run_scenario.specs.Complaints.{WritesUnless, are_bytes, bracket_pieces, common, difference, difference_pieces, has_byte, has_bytes, is_data, last_token, reply_pieces, shown_bytes, text_pieces};
 
 use crate::printable_hex::PrintableHex;
 use core_calls::Outcome;
@@ -52,63 +52,6 @@ pub fn report_reply<E: Sink>(
     diagnostics.begin(sink, place, Severity::Error)?;
     put_replies(&mut diagnostics, sink, answer, expected)?;
     diagnostics.end(sink)
-}
-
-/// Writes the error of log lines that differ from the expected ones. The error returned is a failed write.
-pub fn report_log_lines<E: Sink>(
-    scenario: Subject<'_>,
-    sink: &mut E,
-    place: FilePlace,
-    found: &[u8],
-    expected: &[u8],
-) -> Result<(), DeviceFault>
-    requires { E.has_failed sink.old ≡ false }
-    ensures writes { WritesUnless result (E.contents sink.old) (E.contents sink.new)
-        (diagnostic (subject_at scenario.entry) place AnError
-        (log_lines_pieces found.now expected.now)) }
-    ensures failing { E.has_failed sink.new ≡ is_err result }
-{
-    let pieces: &[&[u8]] = &[
-        b"expected the log lines `",
-        expected,
-        b"`, found `",
-        found,
-        b"`",
-    ];
-    report(scenario, sink, place, pieces)
-}
-
-/// Writes the error of an unknown component, with the most similar name if there is one. The error returned is a failed write.
-pub fn report_unknown<E: Sink>(
-    scenario: Subject<'_>,
-    sink: &mut E,
-    place: FilePlace,
-    name: &[u8],
-    near: Option<&[u8]>,
-) -> Result<(), DeviceFault>
-    requires { E.has_failed sink.old ≡ false }
-    ensures writes { WritesUnless result (E.contents sink.old) (E.contents sink.new)
-        (diagnostic (subject_at scenario.entry) place AnError
-        (unknown_pieces name.now (option_copied near.entry))) }
-    ensures failing { E.has_failed sink.new ≡ is_err result }
-{
-    match near {
-        Some(near) => {
-            let pieces: &[&[u8]] = &[
-                b"unknown component `",
-                name,
-                b"`",
-                b"; did you mean `",
-                near,
-                b"`?",
-            ];
-            report(scenario, sink, place, pieces)
-        }
-        None => {
-            let pieces: &[&[u8]] = &[b"unknown component `", name, b"`"];
-            report(scenario, sink, place, pieces)
-        }
-    }
 }
 
 // Writes pieces of a message.

@@ -1,30 +1,24 @@
 //! Compares answers with expectations.
-ghost use Rattle.std.specs.Prelude.{◌≡◌, ◌||◌, ◌∷◌, [], ℕ, List, codes, false, true, not, is_some, IfErr, IfOk, OnOk};
+ghost use Rattle.std.specs.Prelude.{◌≡◌, ◌||◌, Some, false, true, not, is_some, IfErr, IfOk, OnOk};
 ghost use Rattle.std.specs.Option.{option_copied};
-ghost use Rattle.std.specs.Str.{bytes_eq};
-ghost use Rattle.trade_base.specs.Refusal.{refusal_name};
-ghost use Rattle.line_friendly.specs.Expected.{meets};
-ghost use Rattle.line_friendly.specs.Friendly.{is_passed};
+ghost use Rattle.line_friendly.specs.Expected.{can_pass};
 ghost use Rattle.run_lines.specs.Faults.{Fails};
-ghost use Rattle.view_diagnostics.specs.Diagnostics.{diagnostic, subject_at};
-ghost use Rattle.view_diagnostics.specs.declared.diagnostics.Severity.TheVariants.{Error as AnError};
-ghost use Rattle.view_diagnostics.specs.declared.place.FilePlace.TheVariants.{Byte as AByte};
+ghost use Rattle.view_diagnostics.specs.Diagnostics.{subject_at};
 ghost use Rattle.run_scenario.specs.Complaints.{WritesUnless};
-ghost use Rattle.run_scenario.specs.Judging.{awaited_more, is_other, is_unknown_call, nothing_awaited, text_in};
-ghost use Rattle.run_scenario.specs.Reports.{answer_report, bad_line_report, bad_name_report, call_report, checked, left_over_report, misplaced_report, reply_column, silent_report, too_long_report, without_last};
+ghost use Rattle.run_scenario.specs.Judging.{answer_text, awaited_more, differs, is_other, nothing_awaited, text_in};
+ghost use Rattle.run_scenario.specs.LineSteps.{is_meant_line};
+ghost use Rattle.run_scenario.specs.Reports.{Reports, left_over_report};
 ghost use Rattle.run_lines.specs.declared.line_run_fault.LineRunFault.TheVariants.{NoMemory as NoRoom};
 
-use crate::complaint::{report, report_log_lines, report_reply, report_unknown};
+use crate::complaint::{report, report_reply};
 use crate::expected_log::ExpectedLog;
-use crate::near_names::near_component;
-use crate::source_line::{JudgedLine, SourceLine};
-use core_calls::Outcome;
-use line_friendly::{FriendlyFault, end_of, is_passed, meets};
+use crate::misreading::Misreading;
+use crate::source_line::{JudgedLine, LinePlace, SourceLine, is_meant_line};
+use line_friendly::{FriendlyFault, can_pass, end_of, meets};
 use line_names::{DirectiveFault, NameFault, NameTable, token_at};
 use list_parser::StartList;
 use run_lines::{LineAnswer, LineRunFault, Sink};
 use std::alloc::Global;
-use trade_base::Refusal;
 use view_diagnostics::{FilePlace, Subject};
 
 /// Compares answers with expectations, and writes an error for each difference. Each method returns whether it wrote an error.
@@ -60,9 +54,10 @@ impl<'a> ReplyChecker<'a> {
         Ok(false)
     }
 
-    /// Checks the answer of a line's call on the machine of a list, and writes an error if it differs. With an expected reply,
-    /// the reply and the log lines are compared. Without one, the name must be known and no log lines expected. A skipped call
-    /// has no error. The line is given as filled with `known`. The error returned is a failed write.
+    /// Checks the answer of a line's call on the machine of a list, and writes an error if the line has one. A line whose reply says
+    /// that it wasn't understood has one, unless the line expects this whole reply or is meant. With an expected reply, the reply and
+    /// the log lines are compared. Without one, no log lines may be expected. A skipped call has no error. The line is given as filled
+    /// with `known`. The error returned is a failed write.
     #[inline(always)]
     pub fn judge<E: Sink>(
         &mut self,
@@ -74,17 +69,19 @@ impl<'a> ReplyChecker<'a> {
     ) -> Result<bool, LineRunFault>
         requires { E.has_failed sink.old ≡ false }
         ensures judged { IfOk result (λ complained. complained
-            ≡ is_other (is_passed asked.entry.line.now) (option_copied asked.entry.reply)
+            ≡ is_other (is_meant_line asked.entry.given.line.now) (option_copied asked.entry.reply)
             (text_in answer.entry) self.old.expected) }
-        ensures writes { WritesUnless result (E.contents sink.old) (E.contents sink.new)
-            (call_report (subject_at self.old.scenario) list.now known.now
-            (checked asked.entry) answer.entry self.old.expected) }
+        ensures reports { Reports (subject_at self.old.scenario) asked.entry.given.number result
+            (E.contents sink.old) (E.contents sink.new) }
         ensures forgets { self.new.expected ≡ nothing_awaited }
         ensures same { subject_at self.new.scenario ≡ subject_at self.old.scenario }
         ensures works { OnOk result (E.has_failed sink.new ≡ false) }
         ensures failing { Fails result (E.has_failed sink.new) false }
     {
-        let judged = self.check(list, asked, known, answer, sink);
+        let judged = match answer {
+            Some(answer) => self.check(list, asked, known, answer, sink),
+            None => Ok(false),
+        };
         self.forget_expected();
         judged
     }
@@ -96,89 +93,117 @@ impl<'a> ReplyChecker<'a> {
         list: &StartList,
         asked: JudgedLine<'_>,
         known: &NameTable,
-        answer: Option<LineAnswer<'_>>,
-        sink: &mut E,
-    ) -> Result<bool, LineRunFault>
-        requires { E.has_failed sink.old ≡ false }
-        ensures judged { IfOk result (λ complained. complained
-            ≡ is_other (is_passed asked.entry.line.now) (option_copied asked.entry.reply)
-            (text_in answer.entry) self.now.expected) }
-        ensures writes { WritesUnless result (E.contents sink.old) (E.contents sink.new)
-            (call_report (subject_at self.now.scenario) list.now known.now
-            (checked asked.entry) answer.entry self.now.expected) }
-        ensures works { OnOk result (E.has_failed sink.new ≡ false) }
-        ensures failing { Fails result (E.has_failed sink.new) false }
-    {
-        match (asked.reply, answer) {
-            (_, None) => Ok(false),
-            (None, Some(answer)) => self.judge_silent(list, asked, answer, sink),
-            (Some(reply), Some(answer)) => {
-                let place = asked.given.place(known, column_of(asked.line, reply));
-                self.judge_answer(ExpectedReply { place, reply }, answer, sink)
-            }
-        }
-    }
-
-    // Writes an error if log lines are expected of a call without an expected reply, or if the call's name is unknown.
-    #[inline(always)]
-    fn judge_silent<E: Sink>(
-        &self,
-        list: &StartList,
-        asked: JudgedLine<'_>,
         answer: LineAnswer<'_>,
         sink: &mut E,
     ) -> Result<bool, LineRunFault>
         requires { E.has_failed sink.old ≡ false }
-        ensures judged { IfOk result (λ complained. complained ≡ (is_some self.now.expected.first
-            || is_unknown_call (is_passed asked.entry.line.now) answer.entry.reply.now)) }
-        ensures writes { WritesUnless result (E.contents sink.old) (E.contents sink.new)
-            (silent_report (subject_at self.now.scenario) list.now (checked asked.entry)
-            answer.entry self.now.expected) }
+        ensures judged { IfOk result (λ complained. complained
+            ≡ (not (can_pass (option_copied asked.entry.reply) answer.entry.reply.now || is_meant_line asked.entry.given.line.now)
+            || differs (option_copied asked.entry.reply) (answer_text answer.entry) self.now.expected)) }
+        ensures reports { Reports (subject_at self.now.scenario) asked.entry.given.number result
+            (E.contents sink.old) (E.contents sink.new) }
+        ensures works { OnOk result (E.has_failed sink.new ≡ false) }
+        ensures failing { Fails result (E.has_failed sink.new) false }
+    {
+        if !(can_pass(asked.reply, answer.reply) || is_meant_line(asked.given.line)) {
+            return self.report_misread(list, asked, known, answer, sink);
+        }
+        match asked.reply {
+            Some(reply) => self.check_reply(asked, known, reply, answer, sink),
+            None => self.check_silent(asked.given.number, sink),
+        }
+    }
+
+    // Writes an error if log lines are expected of a call without an expected reply.
+    fn check_silent<E: Sink>(&self, number: u64, sink: &mut E) -> Result<bool, LineRunFault>
+        requires { E.has_failed sink.old ≡ false }
+        ensures judged { IfOk result (λ complained. complained ≡ is_some self.now.expected.first) }
+        ensures reports { Reports (subject_at self.now.scenario) number result
+            (E.contents sink.old) (E.contents sink.new) }
         ensures works { OnOk result (E.has_failed sink.new ≡ false) }
         ensures failing { Fails result (E.has_failed sink.new) false }
     {
         if self.expected.first().is_some() {
-            let place = FilePlace::Byte(asked.given.number, 1);
-            return self.complain(place, b"log lines are expected, but no reply", sink);
+            self.complain(
+                LinePlace::first(number),
+                &[b"log lines are expected, but no reply"],
+                sink,
+            )
+        } else {
+            Ok(false)
         }
-        if !is_unknown_call(asked.line, answer) {
-            return Ok(false);
-        }
-        let near = near_component(list, answer.name);
-        let place = asked.given.start();
-        report_unknown(self.scenario, sink, place, answer.name, near)?;
-        Ok(true)
     }
 
     // Writes an error if a reply differs from the expected one, or else if its log lines do.
-    fn judge_answer<E: Sink>(
+    fn check_reply<E: Sink>(
         &self,
-        wish: ExpectedReply<'_>,
+        asked: JudgedLine<'_>,
+        known: &NameTable,
+        reply: &[u8],
         answer: LineAnswer<'_>,
         sink: &mut E,
     ) -> Result<bool, LineRunFault>
         requires { E.has_failed sink.old ≡ false }
         ensures judged { IfOk result (λ complained. complained
-            ≡ (not (meets answer.entry.reply.now wish.entry.reply.now)
-            || not (bytes_eq answer.entry.lines.now self.now.expected.lines))) }
-        ensures writes { WritesUnless result (E.contents sink.old) (E.contents sink.new)
-            (answer_report (subject_at self.now.scenario) wish.entry.place answer.entry
-            wish.entry.reply.now self.now.expected) }
+            ≡ differs (Some reply.now) (answer_text answer.entry) self.now.expected) }
+        ensures reports { Reports (subject_at self.now.scenario) asked.entry.given.number result
+            (E.contents sink.old) (E.contents sink.new) }
         ensures works { OnOk result (E.has_failed sink.new ≡ false) }
         ensures failing { Fails result (E.has_failed sink.new) false }
     {
-        if !meets(answer.reply, wish.reply) {
-            report_reply(self.scenario, sink, wish.place, answer, wish.reply)?;
-            return Ok(true);
+        let number = asked.given.number;
+        if !meets(answer.reply, reply) {
+            let column = asked.column(known, column_of(asked.line, reply));
+            return self.complain_of_reply(LinePlace { number, column }, answer, reply, sink);
         }
         let expected = self.expected.lines();
         if answer.lines != expected {
-            let lines = without_last(answer.lines);
+            let column = asked.column(known, column_of(asked.line, reply));
             let expected = without_last(expected);
-            report_log_lines(self.scenario, sink, wish.place, lines, expected)?;
-            return Ok(true);
+            let found = without_last(answer.lines);
+            let pieces: &[&[u8]] = &[
+                b"expected the log lines `",
+                expected,
+                b"`, found `",
+                found,
+                b"`",
+            ];
+            return self.complain(LinePlace { number, column }, pieces, sink);
         }
         Ok(false)
+    }
+
+    // Writes that a line wasn't understood, or that its caller has exited. Returns true.
+    #[inline(never)]
+    fn report_misread<E: Sink>(
+        &self,
+        list: &StartList,
+        asked: JudgedLine<'_>,
+        known: &NameTable,
+        answer: LineAnswer<'_>,
+        sink: &mut E,
+    ) -> Result<bool, LineRunFault>
+        requires { E.has_failed sink.old ≡ false }
+        ensures told { IfOk result (λ complained. complained ≡ true) }
+        ensures reports { Reports (subject_at self.now.scenario) asked.entry.given.number result
+            (E.contents sink.old) (E.contents sink.new) }
+        ensures works { OnOk result (E.has_failed sink.new ≡ false) }
+        ensures failing { Fails result (E.has_failed sink.new) false }
+    {
+        let number = asked.given.number;
+        match Misreading::of(asked, answer.reply) {
+            Some(found) => {
+                let column = asked.column(known, found.column);
+                let near = found.near(self.alloc, list);
+                let at = LinePlace { number, column };
+                self.complain_of_text(at, found.words(), found.text, near, sink)
+            }
+            None => {
+                let reply = asked.reply.unwrap_or(b"");
+                let column = asked.column(known, column_of(asked.line, reply));
+                self.complain_of_reply(LinePlace { number, column }, answer, reply, sink)
+            }
+        }
     }
 
     /// Removes the expected log lines, after a call that was answered or skipped.
@@ -198,14 +223,14 @@ impl<'a> ReplyChecker<'a> {
     ) -> Result<bool, LineRunFault>
         requires { E.has_failed sink.old ≡ false }
         ensures told { IfOk result (λ complained. complained ≡ true) }
-        ensures writes { WritesUnless result (E.contents sink.old) (E.contents sink.new)
-            (bad_line_report (subject_at self.now.scenario) given.entry.number given.entry.line.now fault) }
+        ensures reports { Reports (subject_at self.now.scenario) given.entry.number result
+            (E.contents sink.old) (E.contents sink.new) }
         ensures works { OnOk result (E.has_failed sink.new ≡ false) }
         ensures failing { Fails result (E.has_failed sink.new) true }
     {
         let token = String::from_utf8_lossy(self.alloc, token_at(given.line, fault.column))?;
         let message = fault.reason.about(token.as_str()).to_string(self.alloc)?;
-        self.complain(given.at(fault.column), message.as_bytes(), sink)
+        self.complain(given.at(fault.column), &[message.as_bytes()], sink)
     }
 
     /// Writes what is wrong with a name in a line. Returns true. The error is a failed write or that the host is out of memory.
@@ -217,14 +242,14 @@ impl<'a> ReplyChecker<'a> {
     ) -> Result<bool, LineRunFault>
         requires { E.has_failed sink.old ≡ false }
         ensures told { IfOk result (λ complained. complained ≡ true) }
-        ensures writes { WritesUnless result (E.contents sink.old) (E.contents sink.new)
-            (bad_name_report (subject_at self.now.scenario) given.entry.number given.entry.line.now fault) }
+        ensures reports { Reports (subject_at self.now.scenario) given.entry.number result
+            (E.contents sink.old) (E.contents sink.new) }
         ensures works { OnOk result (E.has_failed sink.new ≡ false) }
         ensures failing { Fails result (E.has_failed sink.new) true }
     {
         let token = String::from_utf8_lossy(self.alloc, token_at(given.line, fault.column))?;
         let message = fault.reason.about(token.as_str()).to_string(self.alloc)?;
-        self.complain(given.at(fault.column), message.as_bytes(), sink)
+        self.complain(given.at(fault.column), &[message.as_bytes()], sink)
     }
 
     /// Writes why the directive at a column can't be followed. Returns true. The error is a failed write.
@@ -237,26 +262,26 @@ impl<'a> ReplyChecker<'a> {
     ) -> Result<bool, LineRunFault>
         requires { E.has_failed sink.old ≡ false }
         ensures told { IfOk result (λ complained. complained ≡ true) }
-        ensures writes { WritesUnless result (E.contents sink.old) (E.contents sink.new)
-            (misplaced_report (subject_at self.now.scenario) given.entry.number column why) }
+        ensures reports { Reports (subject_at self.now.scenario) given.entry.number result
+            (E.contents sink.old) (E.contents sink.new) }
         ensures works { OnOk result (E.has_failed sink.new ≡ false) }
         ensures failing { Fails result (E.has_failed sink.new) false }
     {
-        self.complain(given.at(column), why.words().as_bytes(), sink)
+        self.complain(given.at(column), &[why.words().as_bytes()], sink)
     }
 
     /// Writes that a line has more than 8192 bytes. Returns true. The error is a failed write.
     pub fn report_too_long<E: Sink>(&self, number: u64, sink: &mut E) -> Result<bool, LineRunFault>
         requires { E.has_failed sink.old ≡ false }
         ensures told { IfOk result (λ complained. complained ≡ true) }
-        ensures writes { WritesUnless result (E.contents sink.old) (E.contents sink.new)
-            (too_long_report (subject_at self.now.scenario) number) }
+        ensures reports { Reports (subject_at self.now.scenario) number result
+            (E.contents sink.old) (E.contents sink.new) }
         ensures works { OnOk result (E.has_failed sink.new ≡ false) }
         ensures failing { Fails result (E.has_failed sink.new) false }
     {
         self.complain(
-            FilePlace::Byte(number, 1),
-            b"line of more than 8192 bytes",
+            LinePlace::first(number),
+            &[b"line of more than 8192 bytes"],
             sink,
         )
     }
@@ -273,66 +298,91 @@ impl<'a> ReplyChecker<'a> {
     {
         match self.expected.first() {
             Some(line) => {
-                self.complain(
-                    FilePlace::Byte(line, 1),
-                    b"no call follows this log line",
+                let place = FilePlace::Byte(line, 1);
+                report(
+                    self.scenario,
                     sink,
-                )
+                    place,
+                    &[b"no call follows this log line"],
+                )?;
+                Ok(true)
             }
             None => Ok(false),
         }
     }
 
-    // Writes an error with this message.
+    // Writes an error in a line with a message of these pieces. Returns true.
     fn complain<E: Sink>(
         &self,
-        place: FilePlace,
-        words: &[u8],
+        at: LinePlace,
+        pieces: &[&[u8]],
         sink: &mut E,
     ) -> Result<bool, LineRunFault>
         requires { E.has_failed sink.old ≡ false }
         ensures told { IfOk result (λ complained. complained ≡ true) }
-        ensures writes { WritesUnless result (E.contents sink.old) (E.contents sink.new)
-            (diagnostic (subject_at self.now.scenario) place AnError (words.now ∷ [])) }
+        ensures reports { Reports (subject_at self.now.scenario) at.number result
+            (E.contents sink.old) (E.contents sink.new) }
         ensures works { OnOk result (E.has_failed sink.new ≡ false) }
         ensures failing { Fails result (E.has_failed sink.new) false }
     {
-        report(self.scenario, sink, place, &[words])?;
+        let place = FilePlace::Byte(at.number, at.column as u64);
+        report(self.scenario, sink, place, pieces)?;
+        Ok(true)
+    }
+
+    // Writes the error of a text that isn't understood, with the text that may be meant. Returns true.
+    fn complain_of_text<E: Sink>(
+        &self,
+        at: LinePlace,
+        words: &[u8],
+        text: &[u8],
+        near: Option<&[u8]>,
+        sink: &mut E,
+    ) -> Result<bool, LineRunFault>
+        requires { E.has_failed sink.old ≡ false }
+        ensures told { IfOk result (λ complained. complained ≡ true) }
+        ensures reports { Reports (subject_at self.now.scenario) at.number result
+            (E.contents sink.old) (E.contents sink.new) }
+        ensures works { OnOk result (E.has_failed sink.new ≡ false) }
+        ensures failing { Fails result (E.has_failed sink.new) false }
+    {
+        match near {
+            Some(near) => {
+                let pieces: &[&[u8]] = &[words, b" `", text, b"`; did you mean `", near, b"`?"];
+                self.complain(at, pieces, sink)
+            }
+            None if text.is_empty() => self.complain(at, &[words, b" nothing"], sink),
+            None => self.complain(at, &[words, b" `", text, b"`"], sink),
+        }
+    }
+
+    // Writes the error of a reply that differs from the expected one. Returns true.
+    fn complain_of_reply<E: Sink>(
+        &self,
+        at: LinePlace,
+        answer: LineAnswer<'_>,
+        expected: &[u8],
+        sink: &mut E,
+    ) -> Result<bool, LineRunFault>
+        requires { E.has_failed sink.old ≡ false }
+        ensures told { IfOk result (λ complained. complained ≡ true) }
+        ensures reports { Reports (subject_at self.now.scenario) at.number result
+            (E.contents sink.old) (E.contents sink.new) }
+        ensures works { OnOk result (E.has_failed sink.new ≡ false) }
+        ensures failing { Fails result (E.has_failed sink.new) false }
+    {
+        let place = FilePlace::Byte(at.number, at.column as u64);
+        report_reply(self.scenario, sink, place, answer, expected)?;
         Ok(true)
     }
 }
 
-// Returns whether the name of a line's call is unknown. A line that is passed to the engine unchanged may have an unknown name.
-fn is_unknown_call(line: &[u8], answer: LineAnswer<'_>) -> bool
-    ensures { result ≡ is_unknown_call (is_passed line.now) answer.entry.reply.now }
-{
-    is_refused(answer, Refusal::UnknownComponent) && !is_passed(line)
-}
-
-// Returns whether a reply is this refusal.
-fn is_refused(answer: LineAnswer<'_>, refusal: Refusal) -> bool
-    ensures { result ≡ bytes_eq answer.entry.reply.now (refusal_name refusal) }
-{
-    matches!(answer.outcome, Outcome::Refused(other) if other == refusal)
-}
-
-// An expected reply, and the place of its first byte.
-#[derive(Clone, Copy)]
-struct ExpectedReply<'a> {
-    place: FilePlace,
-    reply: &'a [u8],
-}
-
 // Returns the column at which the reply at the end of a line begins.
-fn column_of(line: &[u8], reply: &[u8]) -> usize
-    ensures { result ≡ reply_column line.now reply.now }
-{
+fn column_of(line: &[u8], reply: &[u8]) -> usize {
     end_of(line).saturating_sub(reply.len()) + 1
 }
 
 // Returns log lines without the last newline.
-fn without_last(lines: &[u8]) -> &[u8]
-    ensures { result.now ≡ without_last lines.now }
-{
+fn without_last(lines: &[u8]) -> &[u8] {
     &lines[..lines.len().saturating_sub(1)]
 }

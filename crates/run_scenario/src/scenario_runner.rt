@@ -8,7 +8,7 @@ ghost use Rattle.line_friendly.specs.Theorems.{IsBare, IsPlain};
 ghost use Rattle.run_lines.specs.Next.{OutputsWork};
 ghost use Rattle.run_scenario.specs.RunCalls.{text_of_steps};
 ghost use Rattle.run_scenario.specs.ScenarioRuns.{CountsOne, LeadsSteps, RunsLine, Remains, StopsSteps, counted, point, tally};
-ghost use Rattle.run_scenario.specs.LineSteps.{resolved_at, steps_of};
+ghost use Rattle.run_scenario.specs.LineSteps.{is_meant_line, resolved_at, steps_of};
 ghost use Rattle.run_scenario.specs.RunReports.{ReportsLine, WritesReports, scope_of};
 ghost use Rattle.run_scenario.specs.Writes.{start_at};
 ghost use Rattle.view_diagnostics.specs.Diagnostics.{subject_at};
@@ -78,7 +78,7 @@ impl<W: CallObserver, E: Sink> ScenarioRunner<'_, '_, '_, '_, '_, '_, '_, W, E> 
         ensures plays { RunsLine (option_copied self.old.run.now.only) (W.tells self.old.observer.now)
             W.takes (W.sees self.old.observer.now self.old.run.now.list.now)
             (W.sees self.new.observer.now self.old.run.now.list.now)
-            (resolved_at (option_copied self.old.run.now.only) self.old.state.now.position
+            (is_meant_line line.now) (resolved_at (option_copied self.old.run.now.only) self.old.state.now.position
             line.now)
             (K.has_failed writer.new || E.has_failed self.new.complaints.now) result
             (point core.old self.old.state.now.position self.old.state.now.checker.expected
@@ -102,11 +102,11 @@ impl<W: CallObserver, E: Sink> ScenarioRunner<'_, '_, '_, '_, '_, '_, '_, W, E> 
 
     // Runs a plain call: answers it, reports the answer, and checks it. Each step is inlined, so that the call and its answer aren't
     // copied from one to the next.
-    fn run_plain_line<R: Router + Drop, K: Sink>(
+    fn run_plain_line<'x, R: Router + Drop, K: Sink>(
         &mut self,
         core: &mut Core<R>,
-        line: &[u8],
-        call: NamedCall<'_>,
+        line: &'x [u8],
+        call: NamedCall<'x>,
         gathered: &mut WriteBuffer,
         writer: &mut K,
     ) -> Result<bool, LineRunFault>
@@ -127,7 +127,7 @@ impl<W: CallObserver, E: Sink> ScenarioRunner<'_, '_, '_, '_, '_, '_, '_, W, E> 
         ensures plays { RunsLine (option_copied self.old.run.now.only) (W.tells self.old.observer.now)
             W.takes (W.sees self.old.observer.now self.old.run.now.list.now)
             (W.sees self.new.observer.now self.old.run.now.list.now)
-            (resolved_at (option_copied self.old.run.now.only) self.old.state.now.position
+            (is_meant_line line.now) (resolved_at (option_copied self.old.run.now.only) self.old.state.now.position
             line.now)
             (K.has_failed writer.new || E.has_failed self.new.complaints.now) result
             (point core.old self.old.state.now.position self.old.state.now.checker.expected
@@ -151,7 +151,9 @@ impl<W: CallObserver, E: Sink> ScenarioRunner<'_, '_, '_, '_, '_, '_, '_, W, E> 
             self.buffers,
         );
         match report_call(self.observer, core, list, &heard, gathered, writer) {
-            Ok(()) => self.state.take_plain(list, line, &heard, self.complaints),
+            Ok(()) => self
+                .state
+                .take_plain(list, line, call, &heard, self.complaints),
             Err(fault) => Err(fault),
         }
     }
@@ -177,7 +179,7 @@ impl<W: CallObserver, E: Sink> ScenarioRunner<'_, '_, '_, '_, '_, '_, '_, W, E> 
         ensures plays { RunsLine (option_copied self.old.run.now.only) (W.tells self.old.observer.now)
             W.takes (W.sees self.old.observer.now self.old.run.now.list.now)
             (W.sees self.new.observer.now self.old.run.now.list.now)
-            (resolved_at (option_copied self.old.run.now.only) self.old.state.now.position
+            (is_meant_line line.now) (resolved_at (option_copied self.old.run.now.only) self.old.state.now.position
             line.now)
             (K.has_failed writer.new || E.has_failed self.new.complaints.now) result
             (point core.old self.old.state.now.position self.old.state.now.checker.expected

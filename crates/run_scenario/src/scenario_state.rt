@@ -1,18 +1,15 @@
 //! The state of a run between two lines.
 ghost use Rattle.std.specs.Prelude.{◌≡◌, ◌||◌, IfErr, IfOk, OnErr, OnOk, false, true};
 ghost use Rattle.std.specs.Option.{option_copied};
-ghost use Rattle.std.specs.Io.KnownBytes.{Appends};
-ghost use Rattle.line_friendly.specs.Friendly.{is_passed};
 ghost use Rattle.run_lines.specs.Faults.{Fails};
 ghost use Rattle.line_names.specs.Views.{directive_view, filled_view};
 ghost use Rattle.line_steps.specs.ResolvedViews.{call_view, resolved_view};
 ghost use Rattle.run_scenario.specs.Faults.{takes_memory};
 ghost use Rattle.run_scenario.specs.CallAnswers.{answer_of};
-ghost use Rattle.run_scenario.specs.Judging.{awaited_after, is_complained, is_other, nothing_awaited, text_in};
-ghost use Rattle.run_scenario.specs.LineSteps.{Arrives, binds_names, learnt_by, plain_line, position_with};
+ghost use Rattle.run_scenario.specs.Judging.{awaited_after, is_complained, nothing_awaited, text_in};
+ghost use Rattle.run_scenario.specs.LineSteps.{Arrives, binds_names, is_meant_line, learnt_by, plain_line, position_with};
 ghost use Rattle.line_steps.specs.RunPosition.{arrived, crosses, position_following, is_due, passed};
-ghost use Rattle.run_scenario.specs.Reports.{call_report, checked_call};
-ghost use Rattle.run_scenario.specs.RunReports.{line_report, scope_of};
+ghost use Rattle.run_scenario.specs.Reports.{Reports};
 ghost use Rattle.view_diagnostics.specs.Diagnostics.{subject_at};
 ghost use Rattle.run_lines.specs.declared.line_run_fault.LineRunFault.TheVariants.{NoMemory as NoRoom};
 
@@ -23,7 +20,7 @@ use crate::source_line::{JudgedLine, SourceLine};
 use line_names::{Directive, FilledLine};
 use line_steps::{ResolvedLine, RunPosition, ScenarioCall};
 use list_parser::StartList;
-use run_lines::{LineAnswer, LineRunFault, Sink};
+use run_lines::{LineAnswer, LineRunFault, NamedCall, Sink};
 use std::alloc::Global;
 use view_diagnostics::Subject;
 
@@ -61,7 +58,7 @@ impl<'a> ScenarioState<'a> {
     ) -> Result<bool, LineRunFault>
         requires works { E.has_failed complaints.old ≡ false }
         ensures judged { IfOk result (λ complained. complained ≡ is_complained
-            (resolved_view step.now.resolved) (text_in (answer_of step.now.answered))
+            (is_meant_line line.now) (resolved_view step.now.resolved) (text_in (answer_of step.now.answered))
             self.old.checker.expected) }
         ensures expects { OnOk result (self.new.checker.expected ≡ awaited_after
             self.old.position.number (resolved_view step.now.resolved) self.old.checker.expected) }
@@ -69,10 +66,8 @@ impl<'a> ScenarioState<'a> {
             (resolved_view step.now.resolved) (answer_of step.now.answered) self.new.position) }
         ensures failing { Fails result (E.has_failed complaints.new)
             (takes_memory false (resolved_view step.now.resolved) || crosses self.old.position) }
-        ensures reports { OnOk result (Appends (E.contents complaints.old) (E.contents complaints.new)
-            (line_report (scope_of (subject_at self.old.checker.scenario) list.now) self.old.position
-            line.now (resolved_view step.now.resolved) (answer_of step.now.answered)
-            self.old.checker.expected)) }
+        ensures reports { Reports (subject_at self.old.checker.scenario) self.old.position.number result
+            (E.contents complaints.old) (E.contents complaints.new) }
         ensures subject { subject_at self.new.checker.scenario ≡ subject_at self.old.checker.scenario }
     {
         match self.take_turn(list, line, step, complaints) {
@@ -91,7 +86,7 @@ impl<'a> ScenarioState<'a> {
     ) -> Result<bool, LineRunFault>
         requires works { E.has_failed complaints.old ≡ false }
         ensures judged { IfOk result (λ complained. complained ≡ is_complained
-            (resolved_view step.now.resolved) (text_in (answer_of step.now.answered))
+            (is_meant_line line.now) (resolved_view step.now.resolved) (text_in (answer_of step.now.answered))
             self.old.checker.expected) }
         ensures expects { OnOk result (self.new.checker.expected ≡ awaited_after
             self.old.position.number (resolved_view step.now.resolved) self.old.checker.expected) }
@@ -99,10 +94,8 @@ impl<'a> ScenarioState<'a> {
             (resolved_view step.now.resolved) (answer_of step.now.answered)) }
         ensures failing { Fails result (E.has_failed complaints.new)
             (takes_memory false (resolved_view step.now.resolved)) }
-        ensures reports { OnOk result (Appends (E.contents complaints.old) (E.contents complaints.new)
-            (line_report (scope_of (subject_at self.old.checker.scenario) list.now) self.old.position
-            line.now (resolved_view step.now.resolved) (answer_of step.now.answered)
-            self.old.checker.expected)) }
+        ensures reports { Reports (subject_at self.old.checker.scenario) self.old.position.number result
+            (E.contents complaints.old) (E.contents complaints.new) }
         ensures subject { subject_at self.new.checker.scenario ≡ subject_at self.old.checker.scenario }
     {
         let number = self.position.pass();
@@ -136,31 +129,32 @@ impl<'a> ScenarioState<'a> {
     /// Accepts a plain call on the machine of a list: checks its answer, and enters and leaves the rounds after it. Returns
     /// whether the line has an error. The error is a failed write or that the host is out of memory.
     #[inline(always)]
-    pub fn take_plain<E: Sink>(
+    pub fn take_plain<'x, E: Sink>(
         &mut self,
         list: &StartList,
-        line: &[u8],
+        line: &'x [u8],
+        call: NamedCall<'x>,
         heard: &Option<ObservedCall<'_>>,
         complaints: &mut E,
     ) -> Result<bool, LineRunFault>
         requires works { E.has_failed complaints.old ≡ false }
         ensures judged { IfOk result (λ complained. complained ≡ is_complained
-            (plain_line line.now) (text_in (answer_of heard.now)) self.old.checker.expected) }
+            (is_meant_line line.now) (plain_line line.now) (text_in (answer_of heard.now)) self.old.checker.expected) }
         ensures expects { OnOk result (self.new.checker.expected ≡ awaited_after
             self.old.position.number (plain_line line.now) self.old.checker.expected) }
         ensures stands { OnOk result (Arrives self.old.position
             (plain_line line.now) (answer_of heard.now) self.new.position) }
         ensures failing { Fails result (E.has_failed complaints.new)
             (takes_memory false (plain_line line.now) || crosses self.old.position) }
-        ensures reports { OnOk result (Appends (E.contents complaints.old) (E.contents complaints.new)
-            (line_report (scope_of (subject_at self.old.checker.scenario) list.now) self.old.position
-            line.now (plain_line line.now) (answer_of heard.now) self.old.checker.expected)) }
+        ensures reports { Reports (subject_at self.old.checker.scenario) self.old.position.number result
+            (E.contents complaints.old) (E.contents complaints.new) }
         ensures subject { subject_at self.new.checker.scenario ≡ subject_at self.old.checker.scenario }
     {
         let number = self.position.pass();
         let asked = JudgedLine {
             given: SourceLine { number, line },
             line,
+            call: Some(call),
             reply: None,
         };
         let known = self.position.known();
@@ -209,20 +203,20 @@ impl<'a> ScenarioState<'a> {
     ) -> Result<bool, LineRunFault>
         requires works { E.has_failed complaints.old ≡ false }
         ensures judged { IfOk result (λ complained. complained
-            ≡ is_complained (call_view call.now) (text_in answer.entry) self.old.checker.expected) }
+            ≡ is_complained (is_meant_line given.entry.line.now) (call_view call.now) (text_in answer.entry) self.old.checker.expected) }
         ensures forgets { self.new.checker.expected ≡ nothing_awaited }
         ensures stands { OnOk result
             (self.new.position ≡ position_with self.old.position (call_view call.now) answer.entry) }
         ensures failing { Fails result (E.has_failed complaints.new)
             (takes_memory false (call_view call.now)) }
-        ensures reports { OnOk result (Appends (E.contents complaints.old) (E.contents complaints.new)
-            (call_report (subject_at self.old.checker.scenario) list.now self.old.position.known
-            (checked_call given.entry call.now) answer.entry self.old.checker.expected)) }
+        ensures reports { Reports (subject_at self.old.checker.scenario) given.entry.number result
+            (E.contents complaints.old) (E.contents complaints.new) }
         ensures subject { subject_at self.new.checker.scenario ≡ subject_at self.old.checker.scenario }
     {
         let asked = JudgedLine {
             given,
             line: call.filled.line,
+            call: call.call,
             reply: call.reply,
         };
         let known = self.position.known();

@@ -1,12 +1,10 @@
 //! Lines of a scenario before substitution.
 ghost use Rattle.std.specs.Prelude.{◌≡◌};
-ghost use Rattle.line_names.specs.Filling.{source_column};
-ghost use Rattle.line_steps.specs.ResolvedLines.{start_column};
-ghost use Rattle.view_diagnostics.specs.declared.place.FilePlace.TheVariants.{Byte as AByte};
+ghost use Rattle.run_scenario.specs.LineSteps.{is_meant_line};
 
-use line_friendly::trimmed_line;
+use line_friendly::{is_meant, is_passed};
 use line_names::{NameTable, source_column};
-use view_diagnostics::FilePlace;
+use run_lines::NamedCall;
 
 /// A line of a scenario before substitution.
 #[derive(Clone, Copy)]
@@ -17,38 +15,60 @@ pub struct SourceLine<'a> {
     pub line: &'a [u8],
 }
 
-/// A line that is checked: before and after substitution, and with its expected reply, if it has one.
+/// A place in a line of a scenario.
+#[derive(Clone, Copy)]
+pub(crate) struct LinePlace {
+    /// The number of the line, from 1 on.
+    pub(crate) number: u64,
+    /// The column, from 1 on.
+    pub(crate) column: usize,
+}
+
+impl LinePlace {
+    /// Returns the place of the first byte of the line with this number.
+    pub(crate) fn first(number: u64) -> LinePlace
+        ensures { result.number ≡ number }
+    {
+        LinePlace { number, column: 1 }
+    }
+}
+
+impl SourceLine<'_> {
+    /// Returns the place at a column of the line.
+    pub(crate) fn at(self, column: usize) -> LinePlace
+        ensures { result.number ≡ self.entry.number }
+    {
+        LinePlace {
+            number: self.number,
+            column,
+        }
+    }
+}
+
+/// A line that is checked: before and after substitution, with its call and with its expected reply, if it has them.
 #[derive(Clone, Copy)]
 pub struct JudgedLine<'a> {
     /// The line before substitution.
     pub given: SourceLine<'a>,
     /// The line after substitution.
     pub line: &'a [u8],
+    /// The call that the engine parses of the line; nothing if it is no call.
+    pub call: Option<NamedCall<'a>>,
     /// The expected reply.
     pub reply: Option<&'a [u8]>,
 }
 
-impl<'a> SourceLine<'a> {
-    /// Returns the place of the first character of the line.
-    pub fn start(self) -> FilePlace
-        ensures { result ≡ AByte self.entry.number (start_column self.entry.line.now) }
-    {
-        let before = self.line.len() - trimmed_line(self.line).len();
-        FilePlace::Byte(self.number, before as u64 + 1)
+impl<'a> JudgedLine<'a> {
+    /// Returns the column, before substitution, of the text at a column of the filled line. `known` holds the names that the line was
+    /// filled with.
+    pub(crate) fn column(self, known: &NameTable, column: usize) -> usize {
+        source_column(self.given.line, known, column)
     }
+}
 
-    /// Returns the place of the text at a column of the line.
-    pub fn at(self, column: usize) -> FilePlace
-        ensures { result ≡ AByte self.entry.number column }
-    {
-        FilePlace::Byte(self.number, column as u64)
-    }
-
-    /// Returns the place of the text at a column of the filled line, if `known` holds the names that it was filled with.
-    pub fn place(self, known: &NameTable, column: usize) -> FilePlace
-        ensures { result ≡ AByte self.entry.number
-            (source_column known.now self.entry.line.now column) }
-    {
-        self.at(source_column(self.line, known, column))
-    }
+/// Returns whether a line may have any reply: it is passed to the engine unchanged after a `!`, or its expectation ends in a `!`.
+pub fn is_meant_line(line: &[u8]) -> bool
+    ensures { result ≡ is_meant_line line.now }
+{
+    is_passed(line) || is_meant(line)
 }
