@@ -3,31 +3,31 @@ use Rattle.std.proofs.Common.{◌≡◌, ℕ, ◌<◌, ◌≤◌, ◌+◌, List,
 use Rattle.std.specs.Prelude.{IfOk, OnOk, MatchOption, Option, Some, None, Result, Ok, Err}
 use Rattle.std.specs.Str.{IsUtf8}
 use Rattle.std.proofs.lemmas.List.{append_assoc, append-nil, drop_all, drop_more, map-append}
-use Rattle.list_policy.specs.Verdict.{MessageAt}
-use Rattle.cli_base.specs.PolicyVerdict.{IsNoPolicy, note_message}
+use Rattle.list_policy.specs.Verdict.{PlaceAt}
+use Rattle.cli_base.specs.PolicyVerdict.{IsNoPolicy, note_place}
 use Rattle.cli_base.specs.declared.policy_verdict.PolicyDiagnostic.{PolicyDiagnostic}
 
-module _ {X : Type 0} (noted_as : X → MessageAt) where
+module _ {X : Type 0} (noted_as : X → PlaceAt) where
   -- what is noted and what is left to be noted are all
-  abbrev pub NotedTo : List X → List MessageAt → ℕ → List PolicyDiagnostic → Type 0
-  NotedTo all before place notes = map note_message notes ++ map noted_as (drop place all) ≡ before ++ map noted_as all
+  abbrev pub NotedTo : List X → List PlaceAt → ℕ → List PolicyDiagnostic → Type 0
+  NotedTo all before place notes = map note_place notes ++ map noted_as (drop place all) ≡ before ++ map noted_as all
 
-  pub noted_more : (all : List X) (before : List MessageAt) (place next : ℕ) (one : X) (note : PolicyDiagnostic) (old new : List PolicyDiagnostic)
-      → next ≡ place + 1 → place < length all → one ≡ get_or all place one → note_message note ≡ noted_as one → new ≡ old ++ note ∷ []
+  pub noted_more : (all : List X) (before : List PlaceAt) (place next : ℕ) (one : X) (note : PolicyDiagnostic) (old new : List PolicyDiagnostic)
+      → next ≡ place + 1 → place < length all → one ≡ get_or all place one → note_place note ≡ noted_as one → new ≡ old ++ note ∷ []
       → NotedTo all before place old → NotedTo all before next new
   noted_more all before place next one note old new after within is same more noted =
-      ap (λ n. map note_message new ++ map noted_as (drop n all)) after
-      ∙ (ap (λ ns. map note_message ns ++ map noted_as (drop (place + 1) all)) more
-      ∙ (ap (λ ps. ps ++ map noted_as (drop (place + 1) all)) (map-append note_message old (note ∷ []))
-      ∙ (append_assoc (map note_message old) (note_message note ∷ []) (map noted_as (drop (place + 1) all))
-      ∙ (ap (λ p. map note_message old ++ p ∷ map noted_as (drop (place + 1) all)) (same ∙ ap noted_as is)
-      ∙ (ap (λ (xs : List X). map note_message old ++ map noted_as xs) (sym (drop_more all place one within)) ∙ noted)))))
+      ap (λ n. map note_place new ++ map noted_as (drop n all)) after
+      ∙ (ap (λ ns. map note_place ns ++ map noted_as (drop (place + 1) all)) more
+      ∙ (ap (λ ps. ps ++ map noted_as (drop (place + 1) all)) (map-append note_place old (note ∷ []))
+      ∙ (append_assoc (map note_place old) (note_place note ∷ []) (map noted_as (drop (place + 1) all))
+      ∙ (ap (λ p. map note_place old ++ p ∷ map noted_as (drop (place + 1) all)) (same ∙ ap noted_as is)
+      ∙ (ap (λ (xs : List X). map note_place old ++ map noted_as xs) (sym (drop_more all place one within)) ∙ noted)))))
 
-  pub noted_all : (all : List X) (before : List MessageAt) (place : ℕ) (notes : List PolicyDiagnostic) → length all ≤ place
-      → NotedTo all before place notes → map note_message notes ≡ before ++ map noted_as all
+  pub noted_all : (all : List X) (before : List PlaceAt) (place : ℕ) (notes : List PolicyDiagnostic) → length all ≤ place
+      → NotedTo all before place notes → map note_place notes ≡ before ++ map noted_as all
   noted_all all before place notes end noted =
-      sym (append-nil (map note_message notes))
-      ∙ (ap (λ (xs : List X). map note_message notes ++ map noted_as xs) (sym (drop_all place all end)) ∙ noted)
+      sym (append-nil (map note_place notes))
+      ∙ (ap (λ (xs : List X). map note_place notes ++ map noted_as xs) (sym (drop_all place all end)) ∙ noted)
 
 -- ---- bytes that are no policy, and bytes that are one
 

@@ -1,8 +1,8 @@
--- The result of a check of a start list against a policy: its messages, and its exit status.
-use Rattle.std.specs.Prelude.{ℕ, List, ◌<◌, ◌⊎◌, Bool, false, length, map, Option, Some, None, IfSome, MatchOption, Result, Ok, Err, string_bytes}
+-- The result of a check of a start list against a policy: the places of its diagnostics, and its exit status.
+use Rattle.std.specs.Prelude.{ℕ, List, ◌<◌, ◌⊎◌, Bool, false, length, map, Option, Some, None, IfSome, MatchOption, Result, Ok, Err}
 use Rattle.std.specs.Str.{IsUtf8}
 use Rattle.list_policy.specs.Status.{exit_status}
-use Rattle.list_policy.specs.Verdict.{IsVerdict, MessageAt}
+use Rattle.list_policy.specs.Verdict.{IsVerdict, PlaceAt}
 use Rattle.own_model.specs.Listed.{Listed}
 use Rattle.cli_base.specs.Files.{IsTextAt, front}
 use Rattle.cli_base.specs.ListFailures.{read_lacks_memory}
@@ -18,14 +18,14 @@ verdict_status (Held broken) = exit_status 0 (length broken.items)
 verdict_status (Faulty faults) = exit_status (length faults.items) 0
 verdict_status (ReadFailure why) = 2
 
--- the message of a diagnostic
-abbrev pub note_message : PolicyDiagnostic → MessageAt
-note_message note = record { line = note.line; column = note.column; text = string_bytes note.text }
+-- the place of a diagnostic
+abbrev pub note_place : PolicyDiagnostic → PlaceAt
+note_place note = record { line = note.line; column = note.column }
 
--- the messages of the breaches, or of the faults; none if the policy isn't read
-abbrev pub verdict_notes : PolicyVerdict → Option (Result (List MessageAt) (List MessageAt))
-verdict_notes (Held broken) = Some (Ok (map note_message broken.items))
-verdict_notes (Faulty faults) = Some (Err (map note_message faults.items))
+-- the places of the breaches, or of the faults; none if the policy isn't read
+abbrev pub verdict_notes : PolicyVerdict → Option (Result (List PlaceAt) (List PlaceAt))
+verdict_notes (Held broken) = Some (Ok (map note_place broken.items))
+verdict_notes (Faulty faults) = Some (Err (map note_place faults.items))
 verdict_notes (ReadFailure why) = None
 
 -- the host is out of memory for the text of a policy

@@ -3,10 +3,10 @@ ghost use Rattle.std.specs.Prelude.{◌≡◌, ◌++◌, ◌≤◌, false, List,
 ghost use Rattle.list_policy.specs.Components.{fault_at};
 ghost use Rattle.list_policy.specs.Demand.{AreBreaches};
 ghost use Rattle.list_policy.specs.Line.{line_at};
-ghost use Rattle.list_policy.specs.Verdict.{AreBrokenAt, IsVerdict, breach_message, fault_message};
+ghost use Rattle.list_policy.specs.Verdict.{AreBrokenAt, IsVerdict, breach_place, flaw_place};
 ghost use Rattle.list_policy.specs.declared.breach.Breach.{Breach};
 ghost use Rattle.cli_base.specs.Files.{IsTextAt};
-ghost use Rattle.cli_base.specs.PolicyVerdict.{HasNoPolicy, IsNoPolicy, IsVerdictAt, note_message, policy_lacks_memory, verdict_notes, verdict_status};
+ghost use Rattle.cli_base.specs.PolicyVerdict.{HasNoPolicy, IsNoPolicy, IsVerdictAt, note_place, policy_lacks_memory, verdict_notes, verdict_status};
 
 use crate::files::{FileReadMessage, read_list};
 use crate::host::Host;
@@ -179,7 +179,7 @@ fn fault_notes(
     faults: &[PolicyFault<'_>],
 ) -> Result<Vec<PolicyDiagnostic>, AllocError>
     ensures { IfOk result (λ notes.
-        map note_message notes.items ≡ map fault_message (map fault_at faults.now)) }
+        map note_place notes.items ≡ map flaw_place (map fault_at faults.now)) }
 {
     let mut notes = Vec::new(alloc);
     for place in 0..faults.len() {
@@ -191,7 +191,7 @@ fn fault_notes(
 // Returns the diagnostic of a fault.
 fn fault_note(alloc: Global, fault: &PolicyFault<'_>) -> Result<PolicyDiagnostic, AllocError>
     ensures { IfOk result (λ note.
-        note_message note ≡ fault_message (fault_at fault.now)) }
+        note_place note ≡ flaw_place (fault_at fault.now)) }
 {
     let flaw = &fault.flaw;
     let text = format!(in alloc; "{flaw}")?;
@@ -209,7 +209,7 @@ fn broken_lines(
     lines: &[PolicyLine],
 ) -> Result<Vec<PolicyDiagnostic>, AllocError>
     ensures { IfOk result (λ broken.
-        AreBrokenAt list.now (map line_at lines.now) (map note_message broken.items)) }
+        AreBrokenAt list.now (map line_at lines.now) (map note_place broken.items)) }
 {
     let mut broken = Vec::new(alloc);
     for place in 0..lines.len() {
@@ -226,8 +226,8 @@ fn add_broken(
     line: &PolicyLine,
 ) -> Result<(), AllocError>
     ensures { OnOk result ((found : List Breach) × AreBreaches list.now (line_at line.now) found
-        × (map note_message broken.new.items
-        ≡ map note_message broken.old.items ++ map (breach_message list.now (line_at line.now)) found)) }
+        × (map note_place broken.new.items
+        ≡ map note_place broken.old.items ++ map (breach_place (line_at line.now)) found)) }
 {
     let breaches = line.breaches(alloc, list)?;
     add_notes(alloc, broken, list, line, breaches.as_slice())
@@ -241,8 +241,8 @@ fn add_notes(
     line: &PolicyLine,
     breaches: &[Breach],
 ) -> Result<(), AllocError>
-    ensures { OnOk result (map note_message broken.new.items
-        ≡ map note_message broken.old.items ++ map (breach_message list.now (line_at line.now)) breaches.now) }
+    ensures { OnOk result (map note_place broken.new.items
+        ≡ map note_place broken.old.items ++ map (breach_place (line_at line.now)) breaches.now) }
 {
     for place in 0..breaches.len() {
         broken.push(broken_by(alloc, list, line, &breaches[place])?)?;
@@ -258,7 +258,7 @@ fn broken_by(
     breach: &Breach,
 ) -> Result<PolicyDiagnostic, AllocError>
     ensures { IfOk result (λ note.
-        note_message note ≡ breach_message list.now (line_at line.now) breach.now) }
+        note_place note ≡ breach_place (line_at line.now) breach.now) }
 {
     let message = BreachText::of(alloc, list, line, breach)?;
     let text = format!(in alloc; "{message}")?;

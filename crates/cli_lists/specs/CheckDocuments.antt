@@ -19,12 +19,12 @@ use Rattle.list_findings.specs.Phrases.{phrase_of, phrase_text}
 use Rattle.list_findings.specs.Spare.{advice_on, if_any}
 use Rattle.list_findings.specs.declared.finding.Finding.{Finding}
 use Rattle.list_findings.specs.declared.unused_budget.UnusedBudget.{UnusedBudget}
-use Rattle.list_policy.specs.Verdict.{MessageAt}
 use Rattle.list_review.specs.declared.review.Review.{Review}
 use Rattle.view_json.specs.Listings.{Extends}
 use Rattle.cli_options.specs.declared.command_options.CheckOptions.{CheckOptions}
 use Rattle.cli_base.specs.ListFaults.{message_at}
-use Rattle.cli_base.specs.PolicyVerdict.{IsVerdictAt, note_message}
+use Rattle.cli_base.specs.PolicyVerdict.{IsVerdictAt}
+use Rattle.cli_base.specs.declared.policy_verdict.PolicyDiagnostic.{PolicyDiagnostic}
 use Rattle.cli_base.specs.declared.policy_verdict.PolicyVerdict.{PolicyVerdict}
 use Rattle.cli_base.specs.declared.policy_verdict.PolicyVerdict.TheVariants.{Held, Faulty, ReadFailure}
 use Rattle.cli_lists.specs.ListStatus.{IsReviewOf, is_refused}
@@ -65,13 +65,13 @@ review_objects path review = map (finding_object path) review.findings.items ++ 
 
 -- ---- a policy
 
-abbrev pub note_object : List ℕ → List ℕ → MessageAt → List Member
-note_object kind path note = placed_object kind path note.line note.column note.text
+abbrev pub note_object : List ℕ → List ℕ → PolicyDiagnostic → List Member
+note_object kind path note = placed_object kind path note.line note.column (string_bytes note.text)
 
 -- the breaches of a policy or its faults, at their places, or why it isn't read
 abbrev pub verdict_objects : List ℕ → PolicyVerdict → List (List Member)
-verdict_objects path (Held broken) = map (λ note. note_object (codes "breach") path (note_message note)) broken.items
-verdict_objects path (Faulty faults) = map (λ note. note_object (codes "fault") path (note_message note)) faults.items
+verdict_objects path (Held broken) = map (note_object (codes "breach") path) broken.items
+verdict_objects path (Faulty faults) = map (note_object (codes "fault") path) faults.items
 verdict_objects path (ReadFailure why) = file_object (codes "fault") path (string_bytes why) ∷ []
 
 -- a policy's objects are those of the verdict on the list by the policy at its path

@@ -3,7 +3,6 @@ ghost use Rattle.std.specs.Prelude.{◌≡◌, ◌∷◌, [], map, string_bytes,
 ghost use Rattle.view_json.specs.Documents.{field_data, text_data};
 ghost use Rattle.view_json.specs.Listings.{Extends};
 ghost use Rattle.list_findings.specs.Spare.{if_any};
-ghost use Rattle.cli_base.specs.PolicyVerdict.{note_message};
 ghost use Rattle.cli_lists.specs.CheckDocuments.{ListsFault, advice_objects, faulty_part, file_object, finding_at, finding_object, flaw_object, note_object, placed_at, placed_object, remark_object, review_objects, verdict_objects};
 
 use cli_base::{ListFaultMessage, PolicyDiagnostic, PolicyVerdict};
@@ -235,7 +234,7 @@ fn add_notes(
     notes: &[PolicyDiagnostic],
 ) -> Result<(), AllocError>
     ensures { OnOk result (Extends listing.old listing.new
-        (map (λ note. note_object kind.now path.now (note_message note)) notes.now)) }
+        (map (note_object kind.now path.now) notes.now)) }
 {
     for noted in notes {
         add_note(listing, kind, path, noted)?;
@@ -251,7 +250,7 @@ fn add_note(
     noted: &PolicyDiagnostic,
 ) -> Result<(), AllocError>
     ensures { OnOk result (Extends listing.old listing.new
-        (note_object kind.now path.now (note_message noted.now) ∷ [])) }
+        (note_object kind.now path.now noted.now ∷ [])) }
 {
     add_placed(
         listing,

@@ -3,7 +3,6 @@ use Rattle.std.specs.Prelude.{◌≡◌, ℕ, List, [], ◌∷◌, ◌++◌, map
 use Rattle.std.specs.List.{slice_get}
 use Rattle.std.specs.Option.{option_map, unwrap_or}
 use Rattle.own_model.specs.Listed.{Listed}
-use Rattle.list_policy.specs.BreachTexts.{breach_text}
 use Rattle.list_policy.specs.Demand.{AreBreaches}
 use Rattle.list_policy.specs.Line.{LineAt}
 use Rattle.list_policy.specs.declared.breach.Breach.{Breach}
@@ -33,17 +32,20 @@ abbrev pub place_at : Listed → LineAt → Breach → BreachPlace
 place_at list line breach =
     record { line = line.number; column = line.column; client = (paths_of list breach).0; server = (paths_of list breach).1 }
 
--- with its message
-abbrev pub breach_at : Listed → LineAt → Breach → BreachAt
-breach_at list line breach = record { place = place_at list line breach; text = breach_text list line breach }
-
 -- the breaches of a line are added
-abbrev pub AddsBreaches : Listed → LineAt → List BreachAt → List BreachAt → Type 0
-AddsBreaches list line old new = (breaches : List Breach) × AreBreaches list line breaches × (new ≡ old ++ map (breach_at list line) breaches)
+abbrev pub AddsBreaches : Listed → LineAt → List BreachPlace → List BreachPlace → Type 0
+AddsBreaches list line old new = (breaches : List Breach) × AreBreaches list line breaches × (new ≡ old ++ map (place_at list line) breaches)
 
--- all breaches of a policy's lines, line by line, each with its place and its message
+-- the places of all breaches of a policy's lines, line by line
+abbrev pub ArePlaces : Listed → List LineAt → List BreachPlace → Type 0
+ArePlaces list [] found = found ≡ []
+ArePlaces list (line ∷ lines) found =
+    (breaches : List Breach) × (others : List BreachPlace) × (found ≡ map (place_at list line) breaches ++ others)
+    × AreBreaches list line breaches × ArePlaces list lines others
+
+abbrev pub places : List BreachAt → List BreachPlace
+places breaches = map (λ (breach : BreachAt). breach.place) breaches
+
+-- all breaches of a policy's lines, line by line, each with its place
 abbrev pub ArePlaced : Listed → List LineAt → List BreachAt → Type 0
-ArePlaced list [] found = found ≡ []
-ArePlaced list (line ∷ lines) found =
-    (breaches : List Breach) × (others : List BreachAt) × (found ≡ map (breach_at list line) breaches ++ others)
-    × AreBreaches list line breaches × ArePlaced list lines others
+ArePlaced list lines found = ArePlaces list lines (places found)

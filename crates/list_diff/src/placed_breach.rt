@@ -1,9 +1,8 @@
 //! The breaches of a policy by a start list, with their places in the policy and the paths of their components.
-ghost use Rattle.std.specs.Prelude.{◌≡◌, ◌++◌, map, IfOk, OnOk, string_bytes};
+ghost use Rattle.std.specs.Prelude.{◌≡◌, ◌++◌, map, IfOk, OnOk};
 ghost use Rattle.std.specs.Option.{option_copied};
-ghost use Rattle.list_policy.specs.BreachTexts.{breach_text};
 ghost use Rattle.list_policy.specs.Line.{line_at};
-ghost use Rattle.list_diff.specs.PlacedBreaches.{AddsBreaches, ArePlaced, breach_at, path_of, paths_of};
+ghost use Rattle.list_diff.specs.PlacedBreaches.{AddsBreaches, ArePlaced, path_of, paths_of, place_at, places};
 
 use list_parser::StartList;
 use list_policy::{Breach, BreachText, PolicyLine};
@@ -67,7 +66,7 @@ fn add_breaches<'a>(
     line: &PolicyLine,
 ) -> Result<(), AllocError>
     ensures { OnOk result
-        (AddsBreaches list.now (line_at line.now) found.old.items found.new.items) }
+        (AddsBreaches list.now (line_at line.now) (places found.old.items) (places found.new.items)) }
 {
     let breaches = line.breaches(alloc, list)?;
     add_placed(alloc, found, list, line, breaches.as_slice())
@@ -81,8 +80,8 @@ fn add_placed<'a>(
     line: &PolicyLine,
     breaches: &[Breach],
 ) -> Result<(), AllocError>
-    ensures { OnOk result (found.new.items
-        ≡ found.old.items ++ map (breach_at list.now (line_at line.now)) breaches.now) }
+    ensures { OnOk result (places found.new.items
+        ≡ places found.old.items ++ map (place_at list.now (line_at line.now)) breaches.now) }
 {
     for breach in breaches {
         let one = placed(alloc, list, line, breach)?;
@@ -98,9 +97,9 @@ fn placed<'a>(
     line: &PolicyLine,
     breach: &Breach,
 ) -> Result<PlacedBreach<'a>, AllocError>
-    ensures { IfOk result (λ one. one ≡ breach_at list.now (line_at line.now) breach.now) }
+    ensures { IfOk result (λ one. one.place ≡ place_at list.now (line_at line.now) breach.now) }
 {
-    let text = message_of(alloc, list, line, breach)?;
+    let text = BreachText::of(alloc, list, line, breach)?.to_string(alloc)?;
     let (client, server) = paths_of(list, breach);
     Ok(PlacedBreach {
         line: line.number,
@@ -109,19 +108,6 @@ fn placed<'a>(
         server,
         text,
     })
-}
-
-// The message of a breach of a line.
-fn message_of(
-    alloc: Global,
-    list: &StartList,
-    line: &PolicyLine,
-    breach: &Breach,
-) -> Result<String, AllocError>
-    ensures { IfOk result (λ text.
-        string_bytes text ≡ breach_text list.now (line_at line.now) breach.now) }
-{
-    BreachText::of(alloc, list, line, breach)?.to_string(alloc)
 }
 
 // The paths of the components of a breach.

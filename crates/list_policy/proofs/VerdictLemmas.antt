@@ -8,24 +8,24 @@ use Rattle.list_policy.specs.Components.{FaultAt, fault_at}
 use Rattle.list_policy.specs.Demand.{AreBreaches}
 use Rattle.list_policy.specs.Line.{LineAt, line_at}
 use Rattle.list_policy.specs.Reading.{Reads}
-use Rattle.list_policy.specs.Verdict.{AreBrokenAt, IsVerdict, MessageAt, breach_message, fault_message}
+use Rattle.list_policy.specs.Verdict.{AreBrokenAt, IsVerdict, PlaceAt, breach_place, flaw_place}
 use Rattle.list_policy.specs.declared.breach.Breach.{Breach}
 use Rattle.list_policy.specs.declared.demand.PolicyLine.{PolicyLine}
 use Rattle.list_policy.specs.declared.fault.PolicyFault.{PolicyFault}
 use Rattle.list_policy.specs.declared.policy_text.Policy.{Policy}
 
 -- what the lines that are left have makes all that lines have, after what was found
-abbrev pub AreBrokenUpTo : Listed → List LineAt → List LineAt → List MessageAt → Type 0
-AreBrokenUpTo list lines left messages =
-    (others : List MessageAt) → AreBrokenAt list left others → AreBrokenAt list lines (messages ++ others)
+abbrev pub AreBrokenUpTo : Listed → List LineAt → List LineAt → List PlaceAt → Type 0
+AreBrokenUpTo list lines left places =
+    (others : List PlaceAt) → AreBrokenAt list left others → AreBrokenAt list lines (places ++ others)
 
 pub broken_none : (list : Listed) (lines : List LineAt) → AreBrokenUpTo list lines lines []
 broken_none list lines = λ others broken. broken
 
 -- one line more
 pub broken_more : (list : Listed) (lines : List LineAt) (texts : List PolicyLine) (place next : ℕ) (line : PolicyLine)
-    (found : List Breach) (old new : List MessageAt) → next ≡ place + 1 → place < length texts → line ≡ get_or texts place line
-    → AreBreaches list (line_at line) found → new ≡ old ++ map (breach_message list (line_at line)) found
+    (found : List Breach) (old new : List PlaceAt) → next ≡ place + 1 → place < length texts → line ≡ get_or texts place line
+    → AreBreaches list (line_at line) found → new ≡ old ++ map (breach_place (line_at line)) found
     → AreBrokenUpTo list lines (map line_at (drop place texts)) old → AreBrokenUpTo list lines (map line_at (drop next texts)) new
 broken_more list lines texts place next line found old new after within is breaches more before =
     λ others broken.
@@ -34,20 +34,20 @@ broken_more list lines texts place next line found old new after within is breac
     ∙ (ap (λ (l : PolicyLine). line_at l ∷ map line_at (drop (place + 1) texts)) (sym is)
     ∙ ap (λ n. line_at line ∷ map line_at (drop n texts)) (sym after)) in
     subst (λ ms. AreBrokenAt list lines ms)
-    (sym (ap (λ ms. ms ++ others) more ∙ append_assoc old (map (breach_message list (line_at line)) found) others))
-    (before (map (breach_message list (line_at line)) found ++ others)
-    (subst (λ ls. AreBrokenAt list ls (map (breach_message list (line_at line)) found ++ others)) (sym left)
+    (sym (ap (λ ms. ms ++ others) more ∙ append_assoc old (map (breach_place (line_at line)) found) others))
+    (before (map (breach_place (line_at line)) found ++ others)
+    (subst (λ ls. AreBrokenAt list ls (map (breach_place (line_at line)) found ++ others)) (sym left)
     (found, others, refl, breaches, broken)))
 
 -- no line is left
-pub broken_all : (list : Listed) (lines : List LineAt) (texts : List PolicyLine) (place : ℕ) (messages : List MessageAt) → length texts ≤ place
-    → AreBrokenUpTo list lines (map line_at (drop place texts)) messages → AreBrokenAt list lines messages
-broken_all list lines texts place messages end before =
-    subst (λ ms. AreBrokenAt list lines ms) (append-nil messages)
+pub broken_all : (list : Listed) (lines : List LineAt) (texts : List PolicyLine) (place : ℕ) (places : List PlaceAt) → length texts ≤ place
+    → AreBrokenUpTo list lines (map line_at (drop place texts)) places → AreBrokenAt list lines places
+broken_all list lines texts place places end before =
+    subst (λ ms. AreBrokenAt list lines ms) (append-nil places)
     (before [] (subst (λ (xs : List PolicyLine). AreBrokenAt list (map line_at xs) []) (sym (drop_all place texts end)) refl))
 
 -- the verdict of a policy without faults, and of one with faults
-pub held_is : (list : Listed) (text : List ℕ) (policy : Policy) (lines : List PolicyLine) (faults : List PolicyFault) (broken : List MessageAt) (b : Bool)
+pub held_is : (list : Listed) (text : List ℕ) (policy : Policy) (lines : List PolicyLine) (faults : List PolicyFault) (broken : List PlaceAt) (b : Bool)
     → Reads list text policy → faults ≡ policy.faults.items → b ≡ nat_eq (length faults) 0 → b ≡ true → lines ≡ policy.lines.items
     → AreBrokenAt list (map line_at lines) broken → IsVerdict list text (Ok broken)
 held_is list text policy lines faults broken b reads faults_are test is lines_are are = (
@@ -59,10 +59,10 @@ some_left : {X Y : Type 0} (f : X → Y) (xs : List X) (b : Bool) → b ≡ nat_
 some_left f [] b test is same = cc
 some_left f (x ∷ xs) b test is same = cc
 
-pub faulty_is : (list : Listed) (text : List ℕ) (policy : Policy) (faults : List PolicyFault) (messages : List MessageAt) (b : Bool)
+pub faulty_is : (list : Listed) (text : List ℕ) (policy : Policy) (faults : List PolicyFault) (places : List PlaceAt) (b : Bool)
     → Reads list text policy → faults ≡ policy.faults.items → b ≡ nat_eq (length faults) 0 → b ≡ false
-    → messages ≡ map fault_message (map fault_at faults) → IsVerdict list text (Err messages)
-faulty_is list text policy faults messages b reads faults_are test is are = (
-  (λ none. some_left (λ (fault : PolicyFault). fault_message (fault_at fault)) faults b test is (sym (map-map fault_message fault_at faults) ∙ (sym are ∙ none))),
-  are ∙ ap (λ (fs : List FaultAt). map fault_message fs) (ap (λ (fs : List PolicyFault). map fault_at fs) faults_are ∙ reads.faults),
+    → places ≡ map flaw_place (map fault_at faults) → IsVerdict list text (Err places)
+faulty_is list text policy faults places b reads faults_are test is are = (
+  (λ none. some_left (λ (fault : PolicyFault). flaw_place (fault_at fault)) faults b test is (sym (map-map flaw_place fault_at faults) ∙ (sym are ∙ none))),
+  are ∙ ap (λ (fs : List FaultAt). map flaw_place fs) (ap (λ (fs : List PolicyFault). map fault_at fs) faults_are ∙ reads.faults),
 )

@@ -1,11 +1,9 @@
 pub mod Cuts
 pub mod Line
 pub mod Statement
-pub mod FlawTexts
 pub mod Components
 pub mod Reading
 pub mod Demand
 pub mod Status
 pub mod Claims
-pub mod BreachTexts
 pub mod Verdict

@@ -1,7 +1,4 @@
 //! Why a text is no policy for a start list.
-ghost use Rattle.std.specs.Prelude.{Some};
-ghost use Rattle.list_policy.specs.FlawTexts.{flaw_text};
-ghost use Rattle.list_policy.specs.Statement.{flaw_at};
 
 use list_reach::Unnamed;
 use std::fmt;
@@ -26,8 +23,6 @@ pub enum PolicyFlaw<'a> {
 }
 
 impl fmt::Display for PolicyFlaw<'_> {
-    ghost output = { λ flaw. Some (flaw_text (flaw_at flaw)) };
-
     fn fmt<W: fmt::Write>(&self, f: &mut fmt::Formatter<W>) -> fmt::Result {
         match self {
             PolicyFlaw::NoDemand => f.write_str(
