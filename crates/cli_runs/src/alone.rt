@@ -9,8 +9,8 @@ use crate::run_request::{NONE_EARLIER, RunRequest, run_chosen};
 use crate::view::RunView;
 use cli_base::{
     Host, Machine, MachineChoice, Origin, OutputStream, Printing, Settings, UNWRITTEN, Writer,
-    boot_status, no_memory, plain_writer, report_boot_fault, scenario_text, status_after,
-    status_of, text_of, unfolded, watched_reader,
+    no_memory, plain_writer, report_boot_fault, scenario_text, status_after, status_of, text_of,
+    unfolded, watched_reader,
 };
 use cli_options::AloneOptions;
 use line_rounds::UnfoldedText;
@@ -247,12 +247,7 @@ impl<'a> ScriptComparison<'a> {
         );
         match compared {
             Ok(compared) => self.print(rt, options, compared, writer),
-            Err(fault) => {
-                if !self.silent {
-                    report_boot_fault(rt, settings.form, self.machine, &fault);
-                }
-                boot_status(&fault)
-            }
+            Err(fault) => report_boot_fault(rt, settings.form, self.machine, &fault),
         }
     }
 
