@@ -2,6 +2,7 @@
 import itertools
 import os
 import re
+import subprocess
 import threading
 
 import pytest
@@ -147,3 +148,16 @@ def test_write_to_a_pipe(nethrywel, tmp_path):
     ran = nethrywel("record", "--write", pipe)
     writer.join()
     assert (ran.status, ran.err) == (1, f"error: cannot write {pipe}: not a regular file\n") and pipe.is_fifo()
+    assert nethrywel("record", "--write", "/dev/null") == (1, "", "error: cannot write /dev/null: not a regular file\n")
+
+
+def test_write_after_a_change(nethrywel, scenario):
+    """A scenario that is changed while it is recorded stays as it was changed."""
+    scenario.write_text("alice quota\n" + "alice alloc $size\n" * 2000)
+    with subprocess.Popen([nethrywel.path, "record", "--write", scenario], stderr=subprocess.PIPE, text=True) as ran:
+        # The errors fill the pipe, so the command waits after the first of them.
+        ran.stderr.readline()
+        scenario.write_text("bob quota")
+        said = ran.stderr.read()
+    assert said.endswith(f"error: cannot write {scenario}: it was changed meanwhile\n"), said[-200:]
+    assert (ran.returncode, scenario.read_text()) == (1, "bob quota")

@@ -2,6 +2,7 @@
 use std::fs::{File, OpenOptions, Permissions};
 use std::io::{ErrorKind, Write};
 use std::os::unix::fs::OpenOptionsExt;
+use std::path::PathBuf;
 use std::{fs, io};
 
 /// The number of names that are tried for a new file.
@@ -10,26 +11,42 @@ const MOST_NAMES: usize = 100;
 /// The rights of a new file until it is written: only its owner reads and writes it.
 const OWN: u32 = 0o600;
 
-/// Replaces the content of a regular file, and keeps its rights. The old content stays until the new content is complete. Errors:
-/// the path can't be resolved, the file isn't regular, a write fails.
-pub fn replace_file(rt: &HostRuntime, path: &str, text: &[u8]) -> io::Result<()> {
-    let path = fs::canonicalize(rt, path)?;
-    let found = fs::metadata(rt, path.as_str())?;
-    if !found.is_file() {
-        return Err(io::Error::new(ErrorKind::Other, "not a regular file"));
+/// Replaces the content `old` of a regular file, and keeps its rights. The old content stays until the new content is complete. The
+/// same content isn't written. Errors: the path can't be resolved, the file isn't regular, its content is another one by now, a write
+/// fails.
+pub fn replace_file(rt: &HostRuntime, path: &str, old: &[u8], new: &[u8]) -> io::Result<()> {
+    let (path, rights) = regular_file(rt, path)?;
+    if fs::read(rt, path.as_str())?.as_slice() != old {
+        return Err(io::Error::new(ErrorKind::Other, "it was changed meanwhile"));
     }
-    write_by_new(rt, path.as_str(), text, Some(found.permissions()))
+    if old == new {
+        return Ok(());
+    }
+    write_by_new(rt, path.as_str(), new, Some(rights))
 }
 
 /// Writes a file: a regular or a new file whole or not at all, a device or a pipe directly. Returns the error of the step that
 /// fails.
 pub fn write_file(rt: &HostRuntime, path: &str, text: &[u8]) -> io::Result<()> {
     match fs::metadata(rt, path) {
-        Ok(found) if found.is_file() => replace_file(rt, path, text),
+        Ok(found) if found.is_file() => {
+            let (path, rights) = regular_file(rt, path)?;
+            write_by_new(rt, path.as_str(), text, Some(rights))
+        }
         Ok(_) => fs::write(rt, path, text),
         Err(error) if error.kind() == ErrorKind::NotFound => write_by_new(rt, path, text, None),
         Err(error) => Err(error),
     }
+}
+
+// Returns the resolved path of a regular file, and its rights.
+fn regular_file(rt: &HostRuntime, path: &str) -> io::Result<(PathBuf, Permissions)> {
+    let path = fs::canonicalize(rt, path)?;
+    let found = fs::metadata(rt, path.as_str())?;
+    if !found.is_file() {
+        return Err(io::Error::new(ErrorKind::Other, "not a regular file"));
+    }
+    Ok((path, found.permissions()))
 }
 
 // Writes a text into a new file with these rights, and renames it to the path. A write that fails removes the new file.

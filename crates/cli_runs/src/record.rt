@@ -163,7 +163,7 @@ fn report_unread(
     Ok(())
 }
 
-// Writes a recording to standard output or to the scenario's file, and returns the exit status. An unchanged file isn't written.
+// Writes a recording to standard output or to the scenario's file, and returns the exit status.
 fn write_recording(
     rt: &HostRuntime,
     form: DiagnosticForm,
@@ -176,10 +176,7 @@ fn write_recording(
     if !asked.write {
         return status_of(rt, io::writer(rt).write_all(new));
     }
-    if old == new {
-        return 0;
-    }
-    match replace_file(rt, asked.scenario, new) {
+    match replace_file(rt, asked.scenario, old, new) {
         Ok(()) => 0,
         Err(error) => {
             report_write_failure(rt, form, asked.scenario, &error);
