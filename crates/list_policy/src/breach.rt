@@ -3,7 +3,6 @@ ghost use Rattle.std.specs.Prelude.{◌≡◌, ◌<◌, ◌++◌, ℕ, List, len
 ghost use Rattle.std.specs.Option.{option_to_list};
 ghost use Rattle.own_model.specs.Listed.{Listed};
 ghost use Rattle.list_reach.specs.Reach.{NoneRouted};
-ghost use Rattle.list_reach.specs.ClientReach.{DescribesReach};
 ghost use Rattle.list_reach.specs.RangeReach.{IsShortestInRange, NoneRoutedInRange};
 ghost use Rattle.list_policy.specs.Demand.{AreBreaches, FindsAt, FindsBudget, FindsFor, FindsReach, IsBroken, IsKept, IsRoutedIn, IsRoutedThere, NoneRoutedIn, leads_there, named_label, service_at};
 ghost use Rattle.list_policy.specs.Line.{line_at};
@@ -12,7 +11,7 @@ use crate::budget::excess_at;
 use crate::demand::{BudgetLimit, Demand, LabelRange, PolicyLine, concerns};
 use list_labels::{ClientLabel, LabelCondition, SessionRequests};
 use list_parser::StartList;
-use list_reach::{ClientReach, Reach, shortest_in_range};
+use list_reach::shortest_in_range;
 use list_routes::route;
 use std::alloc::{AllocError, Global};
 
@@ -274,27 +273,7 @@ fn label_there(
         (NoneRouted list.now client (service_at list.now server) server)
         (IsRoutedThere list.now client (service_at list.now server) server)) }
 {
-    let wishes = SessionRequests {
-        list,
-        client,
-        service: service_at(list, server).as_bytes(),
-    };
-    let ways = ClientReach::of(alloc, wishes)?;
-    Ok(label_of(ways.reach(server)))
-}
-
-// A label that is routed there, if there is one.
-fn label_of(reach: Reach) -> Option<ClientLabel>
-    ensures { (list : Listed) (client : ℕ) (service : List ℕ) (server : ℕ)
-        → DescribesReach list client service server reach
-        → MatchOption result (NoneRouted list client service server)
-        (IsRoutedThere list client service server) }
-{
-    match reach {
-        Reach::Always => ClientLabel::read(&[]),
-        Reach::By(label) => Some(label),
-        Reach::Never => None,
-    }
+    label_matching(alloc, list, client, server, &LabelCondition::none())
 }
 
 /// Returns the name of the service of a server, by the server's number, or an empty text for another component.

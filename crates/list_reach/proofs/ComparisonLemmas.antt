@@ -135,7 +135,7 @@ first_class [] place within = absurd (omega (arith, within))
 first_class (class ∷ classes) place within = (get_or (class ∷ classes) place class, slice_get-get_or (class ∷ classes) place class within)
 
 -- each compared label can be given, and is routed as both lists route it
-given_at : (before after : List ℕ → Option ℕ) (comparison : RouteComparison) (one : RoutedLabel) → Compares before after comparison
+pub given_at : (before after : List ℕ → Option ℕ) (comparison : RouteComparison) (one : RoutedLabel) → Compares before after comparison
     → Contains comparison.routed.items one → IsGiven one.label × (one ≡ routes_of before after one.label)
 given_at before after comparison one compares there =
     let classes = comparison.classes.classes.items in
@@ -199,11 +199,11 @@ set_found moves comparison inside witness labels is union shown before after com
     set_is moves before after comparison inside (record { labels = labels; witness = witness }) is compares union shown
 
 -- the labels that a server of one list has, against no list
-server_from : (child : Option ℕ) (server : ℕ) → (is_to child (Some server) && true) ≡ true → child ≡ Some server
+pub server_from : (child : Option ℕ) (server : ℕ) → (is_to child (Some server) && true) ≡ true → child ≡ Some server
 server_from None server is = cc
 server_from (Some child) server is = ap (λ n. Some n) (eqb-true child server (and_parts (child == server) true is).0)
 
-server_to : (child : Option ℕ) (server : ℕ) → child ≡ Some server → (is_to child (Some server) && true) ≡ true
+pub server_to : (child : Option ℕ) (server : ℕ) → child ≡ Some server → (is_to child (Some server) && true) ≡ true
 server_to None server is = cc
 server_to (Some child) server is = and_from (child == server) true (eq-eqb child server (cc)) refl
 

@@ -7,5 +7,6 @@ pub mod WaysLemmas
 pub mod WishLemmas
 pub mod NamedLemmas
 pub mod ComparisonLemmas
+pub mod ReachLemmas
 pub mod TableTextLemmas
 mod RouteTextLemmas

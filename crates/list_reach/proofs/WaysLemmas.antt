@@ -1,28 +1,15 @@
 -- What is told of a server, by labels that show where all given ones lead.
-use Rattle.std.proofs.Common.{◌≡◌, ℕ, ◌<◌, ◌≤◌, ◌+◌, zero, suc, Bool, true, false, ◌&&◌, List, [], ◌∷◌, length, get_or, refl, sym, ap, ◌∙◌, arith, ◌⊎◌, inl, inr, nat_lt, Option, Some, None}
-use Rattle.std.specs.List.{list_all}
+use Rattle.std.proofs.Common.{◌≡◌, ℕ, ◌<◌, ◌≤◌, ◌+◌, zero, suc, Bool, true, false, List, [], length, get_or, refl, sym, ap, ◌∙◌, arith, ◌⊎◌, inl, inr, nat_lt, Option, Some, None}
 use Rattle.std.proofs.lemmas.Bool.Decides.{nat_tests}
 use Rattle.std.proofs.lemmas.List.{get_or_default}
 use Rattle.std.proofs.lemmas.List.Elements.{All-contains}
-use Rattle.std.proofs.lemmas.List.Sums.{AllPass-from_list_all}
 use Rattle.own_model.specs.Listed.{Listed}
-use Rattle.list_reach.specs.Reach.{AllRouted, IsShortest, NoneRouted, SomeNotRouted}
-use Rattle.list_classes.specs.Representatives.{IsTold, IsToldIn, KeptLabel, RepresentAll, RepresentRange}
-use Rattle.list_reach.specs.ClientReach.{AreRoutes, IsBest, IsLeast, is_child, is_shorter, leads}
+use Rattle.list_reach.specs.Reach.{AllRouted, IsShortest}
+use Rattle.list_classes.specs.Representatives.{IsToldIn, KeptLabel, RepresentRange}
+use Rattle.list_reach.specs.ClientReach.{IsBest, IsLeast, is_child, is_shorter, leads}
 use Rattle.list_labels.specs.LabelRanges.{AskedLabel}
 use Rattle.list_labels.specs.GivenLabels.{IsGiven}
 use Rattle.list_reach.specs.RangeReach.{IsShortestInRange, NoneRoutedInRange}
-
--- ---- from labels that stand for all others
-
-pub ways_of : (list : Listed) (client : ℕ) (service : List ℕ) (kept : List KeptLabel)
-    → RepresentAll list client service kept → AreRoutes list client service kept
-ways_of list client service kept stand =
-    record {
-      told = stand.told;
-      covers = λ label given. let any = stand.covers label given in
-          (any.0, any.1, any.2, any.3, record { short = any.4.short; alike = any.4.alike });
-    }
 
 -- ---- which one is the shortest
 
@@ -128,50 +115,6 @@ best_taken kept server place best one here within is leading shorter =
 
 -- ---- what is told
 
-pub never_leads : (list : Listed) (client : ℕ) (service : List ℕ) (kept : List KeptLabel) (server : ℕ)
-    → IsBest kept server (length kept) None → AreRoutes list client service kept → NoneRouted list client service server
-never_leads list client service kept server none ways label given leading =
-    let any = ways.covers label given in
-    let lost : leads server (get_or kept any.0 any.1) ≡ false = none any.0 any.1 any.2 in
-    let found : is_child server any.1.child ≡ true = is_child_of server any.1.child (any.4.alike ∙ leading) in
-    let same : leads server (get_or kept any.0 any.1) ≡ true = ap (λ (o : KeptLabel). leads server o) any.3 ∙ found in
-    cc
-
-pub always_leads : (list : Listed) (client : ℕ) (service : List ℕ) (kept : List KeptLabel) (server : ℕ)
-    → list_all (leads server) kept ≡ true → AreRoutes list client service kept → AllRouted list client service server
-always_leads list client service kept server all ways label given =
-    let any = ways.covers label given in
-    let passes = AllPass-from_list_all (leads server) kept all in
-    let here : leads server any.1 ≡ true =
-    All-contains (λ (o : KeptLabel). leads server o ≡ true) kept any.1 passes (any.0, any.2, any.3) in
-    sym any.4.alike ∙ is_child_true server any.1.child here
-
--- some one fails a test
-not_all_of : (p : KeptLabel → Bool) (x : KeptLabel) (xs : List KeptLabel) (b : Bool) → p x ≡ b → (b && list_all p xs) ≡ false
-    → (list_all p xs ≡ false → (y : KeptLabel) × (k : ℕ) × (k < length xs) × (get_or xs k y ≡ y) × (p y ≡ false))
-    → (y : KeptLabel) × (k : ℕ) × (k < length (x ∷ xs)) × (get_or (x ∷ xs) k y ≡ y) × (p y ≡ false)
-not_all_of p x xs false is none rest = (x, 0, omega arith, refl, is)
-not_all_of p x xs true is none rest =
-    let one = rest none in
-    let within : one.1 < length xs = one.2 in
-    (one.0, suc one.1, omega arith, one.3, one.4)
-
-not_all : (p : KeptLabel → Bool) (xs : List KeptLabel) → list_all p xs ≡ false
-    → (x : KeptLabel) × (k : ℕ) × (k < length xs) × (get_or xs k x ≡ x) × (p x ≡ false)
-not_all p [] none = cc
-not_all p (x ∷ xs) none = not_all_of p x xs (p x) refl none (λ rest. not_all p xs rest)
-
-pub some_stray : (list : Listed) (client : ℕ) (service : List ℕ) (kept : List KeptLabel) (server : ℕ)
-    → list_all (leads server) kept ≡ false → AreRoutes list client service kept → SomeNotRouted list client service server
-some_stray list client service kept server none ways =
-    let one = not_all (leads server) kept none in
-    let told = All-contains (IsTold list client service) kept one.0 ways.told (one.1, one.2, one.3) in (
-      one.0.label,
-      told.given,
-      λ is. let found : is_child server one.0.child ≡ true = is_child_of server one.0.child (told.leads ∙ is) in
-          let lost : is_child server one.0.child ≡ false = one.4 in cc,
-    )
-
 least_at : (kept : List KeptLabel) (server place : ℕ) (one two : KeptLabel) (k : ℕ) → IsLeast kept server (length kept) place
     → get_or kept place one ≡ one → k < length kept → get_or kept k two ≡ two → leads server two ≡ true → (most : ℕ) → length two.label ≤ most
     → length one.label ≤ most
@@ -183,24 +126,6 @@ least_at kept server place one two k best is within there leading most short =
     let mine = ap (λ (o : KeptLabel). length o.label) is in
     let other = ap (λ (o : KeptLabel). length o.label) at in
     omega arith
-
-pub shortest_leads : (list : Listed) (client : ℕ) (service : List ℕ) (kept : List KeptLabel) (server place : ℕ) (one : KeptLabel)
-    → IsBest kept server (length kept) (Some place) → get_or kept place one ≡ one → AreRoutes list client service kept
-    → IsShortest list client service server one.label
-shortest_leads list client service kept server place one best is ways =
-    let within : place < length kept = best.within in
-    let told = All-contains (IsTold list client service) kept one ways.told (place, within, is) in
-    let leading : leads server one ≡ true = sym (ap (λ (o : KeptLabel). leads server o) is) ∙ best.leading one in
-    record {
-      given = told.given;
-      leads = sym told.leads ∙ is_child_true server one.child leading;
-      least = λ other given leads_there.
-          let any = ways.covers other given in
-          let there : is_child server any.1.child ≡ true = is_child_of server any.1.child (any.4.alike ∙ leads_there) in
-          least_at kept server place one any.1 any.0 best is any.2 any.3 there (length other) any.4.short;
-    }
-
--- ---- the same of the labels of a range
 
 pub range_never : (range : AskedLabel) (list : Listed) (client : ℕ) (service : List ℕ) (kept : List KeptLabel) (server : ℕ)
     → IsBest kept server (length kept) None → RepresentRange range list client service kept → NoneRoutedInRange range list client service server

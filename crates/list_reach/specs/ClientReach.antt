@@ -1,21 +1,10 @@
 -- To which entries a client's requests for a service are routed, for every given label.
-use Rattle.std.specs.Prelude.{◌≡◌, ℕ, ◌<◌, ◌≤◌, ◌==◌, Bool, true, false, List, length, nat_lt, slice_index_or, Option, Some, None, All, Any}
+use Rattle.std.specs.Prelude.{◌≡◌, ℕ, ◌<◌, ◌≤◌, ◌==◌, Bool, true, false, List, length, nat_lt, slice_index_or, Option, Some, None}
 use Rattle.own_model.specs.Listed.{Listed}
-use Rattle.list_labels.specs.GivenLabels.{IsGiven, leads_to}
 use Rattle.list_reach.specs.Reach.{IsShortest, AllRouted, NoneRouted, SomeNotRouted}
-use Rattle.list_classes.specs.Representatives.{IsTold, KeptLabel}
+use Rattle.list_classes.specs.Representatives.{KeptLabel}
 use Rattle.list_reach.specs.declared.client_reach.Reach.{Reach}
 use Rattle.list_reach.specs.declared.client_reach.Reach.TheVariants.{Always, By, Never}
-
--- a kept label is routed as another one is, and is no longer
-pub record LeadsAlike (list : Listed) (client : ℕ) (service label : List ℕ) (kept : KeptLabel) : Type 0 where
-  pub short : length kept.label ≤ length label
-  pub alike : kept.child ≡ leads_to list client service label
-
--- the kept labels show to which entries all given ones are routed
-pub record AreRoutes (list : Listed) (client : ℕ) (service : List ℕ) (kept : List KeptLabel) : Type 0 where
-  pub told : All (IsTold list client service) kept
-  pub covers : (label : List ℕ) → IsGiven label → Any (LeadsAlike list client service label) kept
 
 -- the reach of a server: all given labels are routed there, or a shortest one is and some aren't, or none is
 abbrev pub DescribesReach : Listed → ℕ → List ℕ → ℕ → Reach → Type 0

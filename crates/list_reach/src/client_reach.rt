@@ -1,16 +1,14 @@
-//! To which servers a client's requests for a service are routed, for every label that the client can give.
+//! Whether a client's requests for a service are routed to a server, and a shortest label of a range that is.
 ghost use Rattle.std.specs.Prelude.{◌≡◌, ◌<◌, ◌+◌, ℕ, List, length, slice_index_or, IfOk, IfSome, MatchOption};
-ghost use Rattle.std.specs.List.{list_all};
 ghost use Rattle.own_model.specs.Listed.{Listed};
 ghost use Rattle.list_labels.specs.LabelRanges.{AskedLabel};
 ghost use Rattle.list_classes.specs.Representatives.{RepresentRange};
-ghost use Rattle.list_reach.specs.ClientReach.{AreRoutes, IsBest, DescribesReach, is_shorter, leads};
+ghost use Rattle.list_reach.specs.ClientReach.{IsBest, is_shorter, leads};
 ghost use Rattle.list_reach.specs.RangeReach.{IsShortestInRange, NoneRoutedInRange};
 
-use list_classes::{RoutedLabel, representatives_in, representatives_of};
+use list_classes::{RoutedLabel, representatives_in};
 use list_labels::{ClientLabel, LabelCondition, SessionRequests};
 use std::alloc::{AllocError, Global};
-use std::marker::Model;
 
 /// The reach from a client to a server: whether requests for a service are routed there.
 #[derive(Drop)]
@@ -21,50 +19,6 @@ pub enum Reach {
     By(ClientLabel),
     /// No label is routed to the server.
     Never,
-}
-
-/// The reach of a client's requests for a service: labels that represent all labels that the client can give, with their servers.
-#[derive(Drop)]
-pub struct ClientReach {
-    kept: Vec<RoutedLabel>,
-}
-
-impl Model for ClientReach {
-    ghost use Rattle.std.specs.Prelude.{List};
-    ghost use Rattle.list_classes.specs.Representatives.{KeptLabel};
-
-    ghost Value = { List KeptLabel };
-
-    ghost view = { λ ways. ways.kept.items };
-}
-
-impl ClientReach {
-    /// Computes the reach of a client's requests for a service. Fails if the host is out of memory.
-    pub fn of(alloc: Global, wishes: SessionRequests<'_>) -> Result<ClientReach, AllocError>
-        requires client { wishes.client < length wishes.list.now.entries }
-        ensures { IfOk result (λ ways.
-            AreRoutes wishes.entry.list.now wishes.entry.client wishes.entry.service.now ways) }
-    {
-        Ok(ClientReach {
-            kept: representatives_of(alloc, wishes)?,
-        })
-    }
-
-    /// Returns with which labels the requests are routed to the component of a number.
-    pub fn reach(&self, server: usize) -> Reach
-        ensures { (list : Listed) (client : ℕ) (service : List ℕ) → AreRoutes list client service
-            self.now → DescribesReach list client service server result }
-    {
-        let kept = self.kept.as_slice();
-        match shortest(kept, server) {
-            None => Reach::Never,
-            Some(_) if all_lead(kept, server) => Reach::Always,
-            Some(place) => {
-                let one = &kept[place];
-                Reach::By(one.label.copy())
-            }
-        }
-    }
 }
 
 /// Returns a shortest label of those that match a condition and with which the requests are routed to the component of a number, or
@@ -156,11 +110,4 @@ fn is_shorter(kept: &[RoutedLabel], one: &RoutedLabel, best: Option<usize>) -> b
         }
         None => true,
     }
-}
-
-// Whether all labels are routed to a server.
-fn all_lead(kept: &[RoutedLabel], server: usize) -> bool
-    ensures { result ≡ list_all (leads server) kept.now }
-{
-    kept.iter().all(|one| leads(one, server))
 }

@@ -1,9 +1,14 @@
 //! Which labels of a client's requests for a service are routed to a server on one of two start lists alone.
-ghost use Rattle.std.specs.Prelude.{◌≡◌, ◌<◌, ◌++◌, ◌∷◌, [], ℕ, List, length, map, Option, IfOk, IfSome, OnOk};
+ghost use Rattle.std.specs.Prelude.{◌≡◌, ◌<◌, ◌++◌, ◌∷◌, [], ℕ, List, length, map, None, Option, Some, IfOk, IfSome, OnOk};
+ghost use Rattle.std.specs.List.{list_all};
 ghost use Rattle.std.specs.Option.{option_copied};
-ghost use Rattle.list_reach.specs.Comparisons.{Compares, IsSetBy};
+ghost use Rattle.own_model.specs.Listed.{Listed};
+ghost use Rattle.list_labels.specs.GivenLabels.{leads_to};
+ghost use Rattle.list_reach.specs.ClientReach.{DescribesReach};
+ghost use Rattle.list_reach.specs.Comparisons.{Compares, IsSetBy, IsShortestBy};
 ghost use Rattle.list_reach.specs.RoutedLabels.{IsShortest, IsWitness, RoutedLabel, class_routes, is_gained, is_lost, is_moved, is_shorter, is_to, routed_on, routes_of};
 
+use crate::client_reach::Reach;
 use list_classes::{LabelClass, LabelClasses, described};
 use list_labels::{ClientLabel, LabelCondition, LabelSet, SessionRequests};
 use list_routes::route;
@@ -102,6 +107,26 @@ impl RouteComparison {
         self.moved(alloc, LabelMove { is_gain, was, now })
     }
 
+    /// Returns with which labels requests are routed to a server after, by the server's number and a shortest of these labels. It
+    /// is the reach on one list, if no request is routed before.
+    pub(crate) fn reach(&self, server: usize, witness: Option<ClientLabel>) -> Reach
+        ensures { (list : Listed) (client : ℕ) (service : List ℕ)
+            → Compares (routed_on None) (leads_to list client service) self.now
+            → IsShortestBy (routed_on None) (leads_to list client service) (is_gained None (Some server)) witness
+            → DescribesReach list client service server result }
+    {
+        let moves = LabelMove {
+            is_gain: true,
+            was: None,
+            now: Some(server),
+        };
+        match witness {
+            None => Reach::Never,
+            Some(_) if all_moved(moves, self.routed.as_slice()) => Reach::Always,
+            Some(label) => Reach::By(label),
+        }
+    }
+
     // The labels that a server gains or loses.
     fn moved(&self, alloc: Global, moves: LabelMove) -> Result<WitnessedSet, AllocError>
         ensures { IfOk result (λ found. (before after : List ℕ → Option ℕ)
@@ -114,6 +139,13 @@ impl RouteComparison {
             witness: shortest_label(moves, routed),
         })
     }
+}
+
+// Whether a server gains or loses the label of each class.
+fn all_moved(moves: LabelMove, routed: &[LabelRoutes]) -> bool
+    ensures { result ≡ list_all (is_moved moves) routed.now }
+{
+    routed.iter().all(|one| is_moved(moves, one))
 }
 
 // Of each class whether a server gains or loses its labels.

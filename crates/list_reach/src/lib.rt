@@ -19,7 +19,7 @@ mod services;
 mod texts;
 mod theorems;
 
-pub use client_reach::{ClientReach, Reach, shortest_in_range};
+pub use client_reach::{Reach, shortest_in_range};
 pub use comparison::{RouteComparison, WitnessedSet};
 pub use component_numbers::{ComponentKind, Unnamed, numbers};
 pub use paths::{pieces, selects, trimmed};

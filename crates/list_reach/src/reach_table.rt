@@ -11,11 +11,10 @@ ghost use Rattle.list_reach.specs.Paths.{is_chosen, path_of};
 ghost use Rattle.list_reach.specs.Rows.{AddsRows, provider_rows, row_of, rows, script_rows, service_rows};
 ghost use Rattle.list_reach.specs.Table.{IsTrue};
 ghost use Rattle.list_reach.specs.TableTexts.{cell_column, gap_of, head_text, lines_of, margin, next_gap, script_line, server_column, server_text, sets_of, sets_text, shown_in, spaces, start_text, table_at, aligned_table, text_before, width};
-ghost use Rattle.list_reach.specs.ClientReach.{AreRoutes};
 ghost use Rattle.list_reach.specs.Comparisons.{Compares};
 ghost use Rattle.list_reach.specs.RoutedLabels.{routed_on};
 
-use crate::client_reach::{ClientReach, Reach};
+use crate::client_reach::Reach;
 use crate::comparison::RouteComparison;
 use crate::component_numbers::{ComponentKind, is_sought};
 use crate::reach_cell::ReachCell;
@@ -67,7 +66,6 @@ struct ServiceReach<'a> {
     list: &'a StartList,
     client: usize,
     service: &'a str,
-    ways: ClientReach,
     sets: RouteComparison,
 }
 
@@ -183,7 +181,6 @@ fn add_service<'a>(
         list,
         client,
         service,
-        ways: ClientReach::of(alloc, wishes)?,
         sets: RouteComparison::of(alloc, None, Some(wishes))?,
     };
     add_cells(cells, chosen, &found)
@@ -196,8 +193,6 @@ fn add_cells<'a>(
     chosen: &ReachFilter,
     found: &ServiceReach<'a>,
 ) -> Result<(), AllocError>
-    requires ways { AreRoutes found.now.list.now found.now.client found.now.service.now
-        found.now.ways }
     requires sets { Compares (routed_on None) (leads_to found.now.list.now found.now.client
         found.now.service.now) found.now.sets }
     requires cells { All (IsTrue found.now.list.now) cells.old.items }
@@ -221,8 +216,6 @@ fn add_cell<'a>(
     found: &ServiceReach<'a>,
     server: usize,
 ) -> Result<(), AllocError>
-    requires ways { AreRoutes found.now.list.now found.now.client found.now.service.now
-        found.now.ways }
     requires sets { Compares (routed_on None) (leads_to found.now.list.now found.now.client
         found.now.service.now) found.now.sets }
     requires cells { All (IsTrue found.now.list.now) cells.old.items }
@@ -231,8 +224,9 @@ fn add_cell<'a>(
         ∷ []) cells.new.items) }
 {
     let alloc = found.alloc;
-    let reach = found.ways.reach(server);
-    let labels = found.sets.gained(alloc, None, Some(server))?.labels;
+    let gained = found.sets.gained(alloc, None, Some(server))?;
+    let labels = gained.labels;
+    let reach = found.sets.reach(server, gained.witness);
     let shown = shown_of(alloc, &reach, &labels)?;
     cells.push(ReachCell {
         client: found.client,

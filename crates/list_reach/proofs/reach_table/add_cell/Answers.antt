@@ -12,10 +12,10 @@ pub returns : goal.returns
 returns c =
     let found = c.args.found.now in
     let row : Row = record { client = found.client; service = found.service.now; server = c.args.server } in
+    let gains = c.in_ok-gained.ensures (routed_on None) (leads_to found.list.now found.client found.service.now) c.requires.sets in
     subst (λ cells. AddsRows found.list.now c.args.cells.now.items (row ∷ []) cells) (sym c.in_ok-push.ensures.items)
     (adds_one row_of (IsTrue found.list.now) c.args.cells.now.items _ c.requires.cells
     (record {
-      reach = c.reach-reach.ensures found.list.now found.client found.service.now c.requires.ways;
-      labels = set_of_server found.list.now found.client found.service.now c.args.server _
-          (c.in_ok-labels.ensures (routed_on None) (leads_to found.list.now found.client found.service.now) c.requires.sets);
+      reach = c.reach-reach.ensures found.list.now found.client found.service.now c.requires.sets gains.witness;
+      labels = set_of_server found.list.now found.client found.service.now c.args.server _ gains;
     }))

@@ -7,5 +7,5 @@ use Rattle.list_reach.proofs.reach_table.add_service.Goals as goal
 
 pub add_cells-requires-clause-sets : goal.add_cells-requires-clause-sets
 add_cells-requires-clause-sets c =
-    subst (λ (s : List ℕ). Compares (routed_on None) (leads_to c.args.list.now c.args.client s) c.in_ok-of-2.field-0) c.as_bytes.ensures.value
-    c.in_ok-of-2.ensures
+    subst (λ (s : List ℕ). Compares (routed_on None) (leads_to c.args.list.now c.args.client s) c.in_ok-of.field-0) c.as_bytes.ensures.value
+    c.in_ok-of.ensures
