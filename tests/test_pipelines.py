@@ -116,3 +116,15 @@ def test_accounts_table(nethrywel, words):
     wanted = [one for it in owners for one in (it, *(part for part in parts if part["name"] == it.get("name")))]
     shown = [(name, *map(ram_of, row[:3]), *(None if it == "-" else int(it) for it in row[3:])) for name, *row in rows]
     assert shown == [(title_of(it), *figures_of(it)) for it in wanted]
+
+
+def test_names_of_files(nethrywel, tmp_path):
+    """The name of a file ends no line of a report, and no argument has an effect on a terminal."""
+    path = tmp_path / "a\n1..0 \x1b[31m#.scenario"
+    path.write_text("alice open LOG ram_quota=4K, cap_quota=2\n")
+    out = nethrywel("test", "--coverage", path.name, cwd=tmp_path).ok()
+    assert "ok 1 - a\\x0a1..0 \\x1b[31m\\#.scenario\n" in out
+    assert "# coverage: a\\x0a1..0 \\x1b[31m\\#.scenario: default-route[0], alice LOG\n" in out
+    assert json.loads(nethrywel("test", "--coverage", "--json", path.name, cwd=tmp_path).out)[-1]["scenario"] == path.name
+    ran = nethrywel("te\x1b[31mst")
+    assert ran.status == 2 and "'te\\u001b[31mst'" in ran.err and "\x1b" not in ran.err

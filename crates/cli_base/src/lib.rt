@@ -39,7 +39,8 @@ pub use policy_verdict::{
 };
 pub use replacing::{replace_file, write_file};
 pub use reports::{
-    Spot, error_line, report, report_error, report_write_failure, summarize, summarize_errors,
+    Spot, error_line, print_refusal, report, report_error, report_write_failure, summarize,
+    summarize_errors,
 };
 pub use scenario_reader::{Printing, Reader, silent_reader, watched_reader};
 pub use settings::{Settings, names_given};

@@ -1,6 +1,7 @@
 //! Diagnostics of a command, on standard error or in a text.
 use crate::streams::{OutputStream as Stream, Writer, plain_writer, text_of};
 use arrayvec::ArrayString;
+use clap::Error;
 use run_devices::Sink;
 use std::alloc::AllocError;
 use std::fmt::{Display, Write};
@@ -78,6 +79,31 @@ pub fn report_write_failure(rt: &HostRuntime, form: DiagnosticForm, path: &str, 
         Spot::nowhere(),
         &format_args!("cannot write {path}: {}", SystemReason(*error)),
     );
+}
+
+/// Prints the help that arguments ask for, or why they are refused. There control characters except newlines are escapes.
+pub fn print_refusal(rt: &HostRuntime, error: &Error) -> io::Result<()> {
+    match error.to_string(rt.alloc()) {
+        Ok(text) if error.use_stderr() => eprint!(rt; "{}", ShownLines(text.as_str())),
+        _ => error.print(rt),
+    }
+}
+
+// Lines without control characters.
+#[derive(Clone, Copy)]
+struct ShownLines<'a>(&'a str);
+
+impl fmt::Display for ShownLines<'_> {
+    fn fmt<W: fmt::Write>(&self, f: &mut fmt::Formatter<W>) -> fmt::Result {
+        for character in self.0.chars() {
+            if character.is_control() && character != '\n' {
+                write!(f, "\\u{:04x}", character as u32)?;
+            } else {
+                f.write_char(character)?;
+            }
+        }
+        Ok(())
+    }
 }
 
 /// The operating system's reason of a failure, without its number.

@@ -8,6 +8,7 @@ use std::io;
 use std::io::Write;
 use view_coverage::{CoverageReport, cover};
 use view_diagnostics::DiagnosticForm;
+use view_test_report::printed_path;
 
 /// The name of the machine of scenarios without a start list.
 const BUILT_IN: &str = "built-in machine";
@@ -55,9 +56,16 @@ impl CoveragePrinter {
         case: TestCase<'_>,
         exchanges: &[Exchange],
     ) -> Result<(), AllocError> {
-        let coverage = cover(rt.alloc(), case.list, exchanges)?;
+        let alloc = rt.alloc();
+        let coverage = cover(alloc, case.list, exchanges)?;
         let name = case.machine.path().unwrap_or(BUILT_IN);
-        self.report.add(case.list, name, case.scenario, coverage)
+        if self.json {
+            return self.report.add(case.list, name, case.scenario, coverage);
+        }
+        let name = printed_path(alloc, name)?;
+        let scenario = printed_path(alloc, case.scenario)?;
+        self.report
+            .add(case.list, name.as_str(), scenario.as_str(), coverage)
     }
 
     /// Prints the coverage as lines of comments, or as a document, if it is asked for. Returns the error of a write that fails.

@@ -11,7 +11,8 @@ ghost use Rattle.nethrywel.specs.CommandStatus.{AloneAnswers, AnswersBy, Answers
 use clap::Error;
 use clap::error::ErrorKind;
 use cli_base::{
-    Coloring, Host, REFUSED, Settings, Spot, UNWRITTEN, names_given, report_error, status_of,
+    Coloring, Host, REFUSED, Settings, Spot, UNWRITTEN, names_given, print_refusal, report_error,
+    status_of,
 };
 use cli_budgets::print_minimum_budgets;
 use cli_lists::{check_list, compare_lists, show_reach, show_route, show_tree};
@@ -69,7 +70,7 @@ fn answer_words<H: Host>(host: &H, words: &[String]) -> u8
 fn refuse(rt: &HostRuntime, error: &Error) -> u8
     ensures { RefusesBy error.now result }
 {
-    let printed = error.print(rt);
+    let printed = print_refusal(rt, error);
     match error.kind() {
         ErrorKind::DisplayHelp | ErrorKind::DisplayVersion => status_of(rt, printed),
         ErrorKind::OutOfMemory => UNWRITTEN,

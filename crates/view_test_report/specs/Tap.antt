@@ -1,16 +1,17 @@
 -- The Test Anything Protocol.
 use Rattle.std.specs.Prelude.{ℕ, ◌==◌, ◌||◌, Bool, true, false, List, [], ◌∷◌, ◌++◌, codes, decimal, flat_map, nat_lt, string_bytes, if◌then◌else◌}
+use Rattle.hex.specs.Hex.{encode_lower}
 use Rattle.view_test_report.specs.declared.test_result.TestResult.{TestResult}
 
 -- the first lines of a report of so many trials
 abbrev pub tap_plan : ℕ → List ℕ
 tap_plan count = codes "TAP version 13\n1.." ++ decimal count ++ 10 ∷ []
 
--- a byte of a name: after a backslash if it has a meaning, and a question mark if it isn't printed
+-- a byte of a name: after a backslash if it has a meaning, and in hexadecimal digits if it isn't printed
 abbrev pub named_byte : ℕ → List ℕ
 named_byte byte =
     if byte == 35 || byte == 92 then 92 ∷ byte ∷ []
-    else (if nat_lt byte 32 || byte == 127 then 63 ∷ [] else byte ∷ [])
+    else (if nat_lt byte 32 || byte == 127 then 92 ∷ 120 ∷ encode_lower (byte ∷ []) else byte ∷ [])
 
 abbrev pub named : List ℕ → List ℕ
 named name = flat_map named_byte name

@@ -10,6 +10,6 @@ mod theorems;
 mod xml;
 
 pub use junit::junit_document;
-pub use tap::{tap_plan, tap_point};
+pub use tap::{printed_path, tap_plan, tap_point};
 pub use test_result::{TestResult, TimedResult, failures};
 pub use theorems::texts_stay_inside;

@@ -3,6 +3,7 @@ ghost use Rattle.std.specs.Prelude.{◌≡◌, ◌++◌, string_bytes, IfOk, OnO
 ghost use Rattle.view_test_report.specs.Tap.{named, noted, tap_plan, tap_point};
 
 use crate::test_result::TestResult;
+use crate::xml::add_digits;
 use std::alloc::{AllocError, Global};
 
 /// Renders the first lines of a report of this number of trials. The error is out of memory.
@@ -24,7 +25,15 @@ pub fn tap_point(alloc: Global, number: usize, trial: &TestResult) -> Result<Vec
     Ok(text)
 }
 
-// Adds a name: a backslash before each `#` and each backslash, and a question mark for each byte that isn't printed.
+/// Returns a path as a report has it: a backslash before each `#` and each backslash, and each byte that isn't printed in hexadecimal
+/// digits. The error is out of memory.
+pub fn printed_path(alloc: Global, path: &str) -> Result<String, AllocError> {
+    let mut text = Vec::new(alloc);
+    add_name(&mut text, path.as_bytes())?;
+    String::from_utf8_lossy(alloc, text.as_slice())
+}
+
+// Adds a name: a backslash before each `#` and each backslash, and each byte that isn't printed in hexadecimal digits.
 fn add_name(text: &mut Vec<u8>, name: &[u8]) -> Result<(), AllocError>
     ensures { OnOk result (text.new.items ≡ text.old.items ++ named name.now) }
 {
@@ -32,7 +41,7 @@ fn add_name(text: &mut Vec<u8>, name: &[u8]) -> Result<(), AllocError>
         match *byte {
             b'#' => text.extend_from_slice(b"\\#")?,
             b'\\' => text.extend_from_slice(b"\\\\")?,
-            byte if byte < b' ' || byte == 127 => text.push(b'?')?,
+            byte if byte < b' ' || byte == 127 => add_digits(text, byte)?,
             byte => text.push(byte)?,
         }
     }

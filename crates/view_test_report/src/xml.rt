@@ -47,8 +47,8 @@ fn add_byte(text: &mut Vec<u8>, byte: u8) -> Result<(), AllocError>
     }
 }
 
-// Adds a byte in hexadecimal digits.
-fn add_digits(text: &mut Vec<u8>, byte: u8) -> Result<(), AllocError>
+/// Adds a byte in hexadecimal digits. The error is out of memory.
+pub(crate) fn add_digits(text: &mut Vec<u8>, byte: u8) -> Result<(), AllocError>
     ensures { OnOk result (text.new.items ≡ text.old.items ++ 92 ∷ 120 ∷ encode_lower (byte ∷ [])) }
 {
     let mut escape = *b"\\x00";
