@@ -2,6 +2,7 @@
 import csv
 import io
 import json
+import os
 import re
 import shutil
 from decimal import Decimal
@@ -40,6 +41,27 @@ def test_unwritten_junit(nethrywel, tmp_path):
     ran = nethrywel("test", "good", "--junit", tmp_path / "junit.xml", cwd=FILES / "all", **limit)
     assert ran.status == 1 and f"cannot write {tmp_path}/junit.xml: " in ran.err
     assert [(it.name, it.read_text()) for it in tmp_path.iterdir()] == [("junit.xml", "old")]
+
+
+@pytest.mark.parametrize("name", ["good/listed.scenario", "good/listed.json", "more/wrong.scenario"])
+def test_junit_in_place_of_an_input(nethrywel, tmp_path, name):
+    """A document doesn't replace what a test reads, by a link neither, and then nothing is run."""
+    shutil.copytree(FILES / "all", tmp_path / "all")
+    (tmp_path / "link").symlink_to(tmp_path / "all" / name)
+    for path in (f"all/{name}", "link"):
+        ran = nethrywel("test", "all", "--filter", "plain", "--junit", path, cwd=tmp_path)
+        assert ran == (2, "", f"error: --junit: expected a file that no test reads, found `{path}`\n")
+    assert (tmp_path / "link").read_text() == (FILES / "all" / name).read_text()
+
+
+@pytest.mark.parametrize("name", ["a.scenario", "a.policy", "a.json"])
+def test_pipe_as_a_test(nethrywel, tmp_path, name):
+    """A pipe that nobody writes doesn't stop a run of tests: it is refused before."""
+    (tmp_path / "a.scenario").write_text("alice quota\n")
+    (tmp_path / name).unlink(missing_ok=True)
+    os.mkfifo(tmp_path / name)
+    for path, named in (".", f"./{name}"), ("a.scenario", name):
+        assert nethrywel("test", path, cwd=tmp_path, timeout=20) == (2, "", f"{named}: error: expected a regular file\n")
 
 
 def test_progress_of_tests(nethrywel):

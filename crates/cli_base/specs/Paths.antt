@@ -11,6 +11,10 @@ is_scenario path = ends_with nat_eq path (codes ".scenario")
 abbrev pub is_policy : List ℕ → Bool
 is_policy path = ends_with nat_eq path (codes ".policy")
 
+-- a path is that of a start list
+abbrev pub is_list : List ℕ → Bool
+is_list path = ends_with nat_eq path (codes ".json")
+
 -- the path of a policy without its ending
 abbrev pub policy_stem : List ℕ → List ℕ
 policy_stem path = if is_policy path then take (length path - 7) path else path

@@ -4,6 +4,7 @@ ghost use Rattle.std.specs.Option.{option_copied};
 ghost use Rattle.clap.specs.Words.{HasKind, kind_of};
 ghost use Rattle.clap.specs.declared.error.kind.ErrorKind.TheVariants.{InvalidValue, OutOfMemory};
 ghost use Rattle.cli_base.specs.Files.{front_of};
+ghost use Rattle.cli_base.specs.declared.host.FileKind.TheVariants.{Regular};
 ghost use Rattle.cli_base.specs.declared.host.ReadFailure.TheVariants.{NoMemory as NoRoom};
 
 use clap::Error;
@@ -29,6 +30,17 @@ pub enum ReadFailure {
     Broken,
     /// The host is out of memory.
     NoMemory,
+}
+
+/// What is at a path.
+#[derive(Clone, Copy, PartialEq, Eq)]
+pub enum FileKind {
+    /// A folder.
+    Folder,
+    /// A regular file.
+    Regular,
+    /// A device, a pipe or a socket.
+    Other,
 }
 
 impl From<AllocError> for ReadFailure {
@@ -73,9 +85,13 @@ pub trait Host {
         ensures bytes { IfOk result (λ file. IfSome (text_at self.now path.now) (λ bytes.
             Self.File.remaining file ≡ Some bytes)) };
 
-    /// Returns whether the path is that of a folder, or the operating system's error if there is no such file or folder.
-    fn is_folder(&self, path: &str) -> io::Result<bool>
-        ensures { IfSome (text_at self.now path.now) (λ _. result ≡ Ok false) };
+    /// Returns what is at a path, or the operating system's error if nothing is.
+    fn kind_at(&self, path: &str) -> io::Result<FileKind>
+        ensures { IfSome (text_at self.now path.now) (λ _. result ≡ Ok Regular) };
+
+    /// Returns whether two paths are those of one file. What is at no path, or can't be resolved, is no file.
+    fn is_same(&self, path: &str, other: &str) -> bool
+        ensures { result ≡ true → text_at self.now path.now ≡ text_at self.now other.now };
 
     /// Returns whether there is a file at a path, or the operating system's error if that isn't known.
     fn exists(&self, path: &str) -> io::Result<bool>
@@ -109,8 +125,22 @@ impl Host for HostRuntime {
         fs::open(self, path)
     }
 
-    fn is_folder(&self, path: &str) -> io::Result<bool> {
-        Ok(fs::metadata(self, path)?.is_dir())
+    fn kind_at(&self, path: &str) -> io::Result<FileKind> {
+        let found = fs::metadata(self, path)?;
+        Ok(if found.is_dir() {
+            FileKind::Folder
+        } else if found.is_file() {
+            FileKind::Regular
+        } else {
+            FileKind::Other
+        })
+    }
+
+    fn is_same(&self, path: &str, other: &str) -> bool {
+        match (fs::canonicalize(self, path), fs::canonicalize(self, other)) {
+            (Ok(path), Ok(other)) => path.as_str() == other.as_str(),
+            _ => false,
+        }
     }
 
     fn exists(&self, path: &str) -> io::Result<bool> {

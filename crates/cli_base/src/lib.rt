@@ -27,13 +27,13 @@ mod unfolding;
 pub use advice::{Warnings, warned_status};
 pub use coloring::Coloring;
 pub use files::{FileReadMessage, read_list, read_whole, scenario_text};
-pub use host::{Host, ReadFailure, STANDARD_INPUT};
+pub use host::{FileKind, Host, ReadFailure, STANDARD_INPUT};
 pub use lines::LineStarts;
 pub use list_fault::{ListFaultMessage, fault_spot, tell_fault};
 pub use list_file::{StartListFailure, start_list};
 pub use machine::{Machine, report_boot_fault};
 pub use machine_choice::MachineChoice;
-pub use paths::{is_policy, is_scenario, machine_path, policy_path};
+pub use paths::{is_list, is_policy, is_scenario, machine_path, policy_path};
 pub use policy_verdict::{
     PolicyDiagnostic, PolicyReadFailure, PolicyVerdict, check_policy, policy_text,
 };

@@ -1,6 +1,6 @@
 //! Scenarios and policies by the names of their files, and the start lists and policies next to them.
 ghost use Rattle.std.specs.Prelude.{◌≡◌, ◌++◌, codes, string_bytes, IfOk};
-ghost use Rattle.cli_base.specs.Paths.{is_policy, is_scenario, policy_stem, stem_of};
+ghost use Rattle.cli_base.specs.Paths.{is_list, is_policy, is_scenario, policy_stem, stem_of};
 
 use std::alloc::{AllocError, Global};
 
@@ -22,6 +22,13 @@ pub fn is_policy(path: &str) -> bool
     ensures { result ≡ is_policy path.now }
 {
     path.as_bytes().ends_with(POLICY)
+}
+
+/// Returns whether a path is that of a start list: it ends with `.json`.
+pub fn is_list(path: &str) -> bool
+    ensures { result ≡ is_list path.now }
+{
+    path.as_bytes().ends_with(b".json")
 }
 
 /// Returns the path of the machine next to a scenario or a policy: `NAME.json` for `NAME.scenario` and `NAME.policy`. The error is

@@ -1,5 +1,5 @@
 -- Files and filters.
-use Rattle.std.proofs.Common.{◌≡◌, ◌||◌, ◌∙◌, ◌<◌, ◌≤◌, ◌+◌, ◌++◌, refl, sym, ap, append_assoc, append-nil, map, ℕ, Bool, false, true≢false, get_or, Global, List, [], ◌∷◌, length, nat_eq, Option, Result, Ok, Err, IfErr, IfOk, IfSome, String, subst, take}
+use Rattle.std.proofs.Common.{◌≡◌, inl, inr, ◌||◌, ◌∙◌, ◌<◌, ◌≤◌, ◌+◌, ◌++◌, refl, sym, ap, append_assoc, append-nil, map, ℕ, Bool, false, true≢false, get_or, Global, List, [], ◌∷◌, length, nat_eq, Option, Result, Ok, Err, IfErr, IfOk, IfSome, String, subst, take}
 use Rattle.std.specs.Borrow.{Bor}
 use Rattle.std.specs.Global.{Vec}
 use Rattle.std.specs.List.{list_any}
@@ -7,14 +7,15 @@ use Rattle.std.specs.Prelude.{string_bytes}
 use Rattle.std.specs.Result.{IsErrAnd}
 use Rattle.std.proofs.lemmas.List.{get_or_default, length-map, take_all, take_more}
 use Rattle.cli_base.specs.Files.{IsUnknown}
-use Rattle.cli_tests.specs.Outcome.{LacksPath, search_lacks_memory}
+use Rattle.cli_base.specs.declared.host.FileKind.TheVariants.{Folder, Other, Regular}
+use Rattle.cli_tests.specs.Outcome.{IsNoInput, IsNoTest, LacksInput, LacksPath, search_lacks_memory}
 use Rattle.cli_tests.specs.Plan.{AreAdded, AreFiles, AreFilesAt, IsPolicyBeside, has_text, is_selected, path_of, with_file}
 use Rattle.cli_tests.specs.declared.file_search.SearchFailure.{SearchFailure}
 use Rattle.cli_tests.specs.declared.file_search.SearchFailure.TheVariants.{NoMemory}
 use Rattle.cli_tests.specs.declared.planned_test.PlannedTest.{PlannedTest}
 
 -- a mapped element passes a test if the element passes the mapped test
-any_of_map : {X Y : Type 0} (p : X → Bool) (h : Y → X) (ys : List Y) → list_any p (map h ys) ≡ list_any (λ y. p (h y)) ys
+pub any_of_map : {X Y : Type 0} (p : X → Bool) (h : Y → X) (ys : List Y) → list_any p (map h ys) ≡ list_any (λ y. p (h y)) ys
 any_of_map p h [] = refl
 any_of_map p h (y ∷ ys) = ap (λ b. p (h y) || b) (any_of_map p h ys)
 
@@ -27,6 +28,13 @@ selected_by texts test is_empty found length_is some found_is =
     ap (λ n. nat_eq n 0) (length-map texts (λ (text : Bor (List ℕ)). text.now)) ∙ sym length_is ∙ some in
     found_is ∙ sym (any_of_map (has_text (path_of test)) (λ (text : Bor (List ℕ)). text.now) texts)
     ∙ sym (ap (λ b. b || list_any (has_text (path_of test)) (map (λ (text : Bor (List ℕ)). text.now) texts)) some_mapped)
+
+-- what is no regular file
+pub no_folder : Folder ≡ Regular → ⊥
+no_folder is = cc
+
+pub no_other : Other ≡ Regular → ⊥
+no_other is = cc
 
 -- ---- a search that fails
 
@@ -48,9 +56,9 @@ module _ (texts : List ℕ → Option (List ℕ)) where
 
   -- and may not be found
   pub unknown_fails : {T : Type 0} (path : List ℕ) (result : Result T SearchFailure) → IsUnknown texts path
-      → IfErr result (λ failure. search_lacks_memory failure ≡ false → IsUnknown texts path)
+      → IfErr result (λ failure. search_lacks_memory failure ≡ false → IsNoTest texts path)
   unknown_fails path (Ok found) unknown = tt
-  unknown_fails path (Err failure) unknown = λ room. unknown
+  unknown_fails path (Err failure) unknown = λ room. inl unknown
 
   -- the files of one path more
   files_more : (paths : List (Bor (List ℕ))) (path : Bor (List ℕ)) (files found : List (String Global))
@@ -78,11 +86,17 @@ module _ (texts : List ℕ → Option (List ℕ)) where
       → AreFiles texts (take place paths) files → AreFiles texts paths files
   files_all paths place files end are = subst (λ those. AreFiles texts those files) (take_all place paths end) are
 
-  -- one of the paths isn't known
+  -- one of the paths has no test
   pub lacks_path : (paths : List (Bor (List ℕ))) (place : ℕ) (other : Bor (List ℕ)) → place < length paths
-      → IsUnknown texts (get_or paths place other).now → LacksPath texts paths
-  lacks_path paths place other within unknown =
-      (place, get_or paths place other, within, get_or_default paths place (get_or paths place other) other within, unknown)
+      → IsNoTest texts (get_or paths place other).now → LacksPath texts paths
+  lacks_path paths place other within none =
+      (place, get_or paths place other, within, get_or_default paths place (get_or paths place other) other within, none)
+
+  -- one of the tests has an input that is refused
+  pub lacks_input : (machine junit : Option (Bor (List ℕ))) (tests : List PlannedTest) (place : ℕ) (other : PlannedTest) → place < length tests
+      → IsNoInput texts junit (get_or tests place other) → LacksInput texts machine junit tests
+  lacks_input machine junit tests place other within none =
+      inr (place, get_or tests place other, within, get_or_default tests place (get_or tests place other) other within, none)
 
   -- ---- the tests of files
 

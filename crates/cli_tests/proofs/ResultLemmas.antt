@@ -24,13 +24,13 @@ use Rattle.cli_tests.specs.declared.planned_test.PlannedTest.{PlannedTest}
 -- ---- a file
 
 -- a file isn't known if the host doesn't tell of it what it would tell then
-pub told_unknown : {E : Type 0} (known : Option (List ℕ)) (told would : Bool) (result : Result Bool E) → result ≡ Ok told → told ≢ would
+pub told_unknown : {E K : Type 0} (known : Option (List ℕ)) (told would : K) (result : Result K E) → result ≡ Ok told → told ≢ would
     → IfSome known (λ text. result ≡ Ok would) → known ≡ None
 told_unknown None told would result is other known = refl
 told_unknown (Some text) told would result is other known = absurd (other cc)
 
 -- nor is it if the host can't tell
-pub untold_unknown : {E : Type 0} (known : Option (List ℕ)) (error : E) (would : Bool) (result : Result Bool E) → result ≡ Err error
+pub untold_unknown : {E K : Type 0} (known : Option (List ℕ)) (error : E) (would : K) (result : Result K E) → result ≡ Err error
     → IfSome known (λ text. result ≡ Ok would) → known ≡ None
 untold_unknown None error would result is known = refl
 untold_unknown (Some text) error would result is known = absurd cc

@@ -10,13 +10,15 @@ use Rattle.view_test_report.specs.Trials.{failed_among}
 use Rattle.view_test_report.specs.declared.test_result.TimedResult.{TimedResult}
 use Rattle.cli_options.specs.declared.command_options.TestOptions.{TestOptions}
 use Rattle.cli_base.specs.Files.{IsUnknown}
+use Rattle.cli_base.specs.MachineChoice.{list_beside}
+use Rattle.cli_base.specs.Paths.{is_list}
 use Rattle.cli_base.specs.Statuses.{EndsAs}
 use Rattle.cli_base.specs.declared.settings.Settings.{Settings}
-use Rattle.cli_tests.specs.Plan.{AreSelected}
+use Rattle.cli_tests.specs.Plan.{AreFound, AreSelected, path_of}
 use Rattle.cli_tests.specs.PolicyTest.{IsPolicyResult}
 use Rattle.cli_tests.specs.ScenarioTest.{IsScenarioResult}
 use Rattle.cli_tests.specs.declared.file_search.SearchFailure.{SearchFailure}
-use Rattle.cli_tests.specs.declared.file_search.SearchFailure.TheVariants.{Unreadable, Nothing, Unselected, NoMemory}
+use Rattle.cli_tests.specs.declared.file_search.SearchFailure.TheVariants as search
 use Rattle.cli_tests.specs.declared.planned_test.PlannedTest.{PlannedTest}
 use Rattle.cli_tests.specs.declared.planned_test.PlannedTest.TheVariants.{Scenario, Policy}
 use Rattle.cli_tests.specs.declared.test.TestOutcome.{TestOutcome}
@@ -84,17 +86,44 @@ pub record HasTested (texts : List ℕ → Option (List ℕ)) (asked : TestOptio
 
 -- the host is out of memory for the search
 abbrev pub search_lacks_memory : SearchFailure → Bool
-search_lacks_memory (Unreadable path error) = false
-search_lacks_memory (Nothing path) = false
-search_lacks_memory (Unselected filters) = false
-search_lacks_memory NoMemory = true
+search_lacks_memory (search.Unreadable path error) = false
+search_lacks_memory (search.List path) = false
+search_lacks_memory (search.Irregular path) = false
+search_lacks_memory (search.Replaced path) = false
+search_lacks_memory (search.Nothing path) = false
+search_lacks_memory (search.Unselected filters) = false
+search_lacks_memory search.NoMemory = true
 
--- no tests are found: a path can't be read, as far as it is known, or the filters select nothing
+-- a path has no tests: it can't be read, as far as it is known, or is that of a start list
+abbrev pub IsNoTest : (List ℕ → Option (List ℕ)) → List ℕ → Type 0
+IsNoTest texts path = IsUnknown texts path ⊎ (is_list path ≡ true)
+
 abbrev pub LacksPath : (List ℕ → Option (List ℕ)) → List (Bor (List ℕ)) → Type 0
-LacksPath texts paths = Any (λ path. IsUnknown texts path.now) paths
+LacksPath texts paths = Any (λ path. IsNoTest texts path.now) paths
 
+-- a JUnit document would replace the file of a path, which has the same text
+abbrev pub IsReplaced : (List ℕ → Option (List ℕ)) → Option (Bor (List ℕ)) → List ℕ → Type 0
+IsReplaced texts junit path = IsSomeAnd junit (λ to. texts path ≡ texts to.now)
+
+-- no test reads the file of a path: it isn't regular, or it would be replaced
+abbrev pub IsNoInputFile : (List ℕ → Option (List ℕ)) → Option (Bor (List ℕ)) → List ℕ → Type 0
+IsNoInputFile texts junit path = IsUnknown texts path ⊎ IsReplaced texts junit path
+
+-- the same of the file of a test, or of the start list next to it
+abbrev pub IsNoInput : (List ℕ → Option (List ℕ)) → Option (Bor (List ℕ)) → PlannedTest → Type 0
+IsNoInput texts junit test = IsNoInputFile texts junit (path_of test) ⊎ IsNoInputFile texts junit (list_beside (path_of test))
+
+-- the same of one of these tests, or the list of another path would be replaced
+abbrev pub LacksInput : (List ℕ → Option (List ℕ)) → Option (Bor (List ℕ)) → Option (Bor (List ℕ)) → List PlannedTest → Type 0
+LacksInput texts machine junit tests =
+    IsSomeAnd machine (λ path. IsReplaced texts junit path.now) ⊎ Any (λ test. IsNoInput texts junit test) tests
+
+-- tests are refused: a path has none, an input of them is refused, or the filters select nothing
 abbrev pub LacksTests : (List ℕ → Option (List ℕ)) → TestOptions → Type 0
-LacksTests texts asked = LacksPath texts asked.paths.items ⊎ AreSelected texts asked.paths.items asked.filters.items []
+LacksTests texts asked =
+    LacksPath texts asked.paths.items
+    ⊎ (((tests : List PlannedTest) × AreFound texts asked.paths.items tests × LacksInput texts asked.machine asked.junit tests)
+    ⊎ AreSelected texts asked.paths.items asked.filters.items [])
 
 -- a threshold that is no percentage is refused, and so is a command without tests
 abbrev pub TestsRefused : (List ℕ → Option (List ℕ)) → TestOptions → Type 0

@@ -63,6 +63,10 @@ AreAdded texts before (file ∷ files) tests = (beside : Option (String Global))
 abbrev pub ArePlanned : (List ℕ → Option (List ℕ)) → List (String Global) → List PlannedTest → Type 0
 ArePlanned texts files tests = AreAdded texts [] files tests
 
+-- tests are those of the files of paths
+abbrev pub AreFound : (List ℕ → Option (List ℕ)) → List (Bor (List ℕ)) → List PlannedTest → Type 0
+AreFound texts paths tests = (files : List (String Global)) × AreFiles texts paths files × ArePlanned texts files tests
+
 -- ---- filters
 
 -- the path of a test's file
@@ -80,6 +84,5 @@ is_selected texts test = length texts == 0 || list_any (has_text (path_of test))
 
 -- tests are those of the files of paths that the texts of filters select, in their order
 abbrev pub AreSelected : (List ℕ → Option (List ℕ)) → List (Bor (List ℕ)) → List (Bor (List ℕ)) → List PlannedTest → Type 0
-AreSelected texts paths filters tests = (files : List (String Global)) × AreFiles texts paths files
-    × ((found : List PlannedTest) × ArePlanned texts files found
-    × (tests ≡ filter (is_selected (map (λ given. given.now) filters)) found))
+AreSelected texts paths filters tests = (found : List PlannedTest) × AreFound texts paths found
+    × (tests ≡ filter (is_selected (map (λ given. given.now) filters)) found)

@@ -1,10 +1,12 @@
 //! The files of paths: a file itself, and all scenarios and policies of a folder and the folders below it.
 ghost use Rattle.std.specs.Prelude.{◌≡◌, ◌++◌, false, IfErr, IfOk, IfSome, OnOk};
-ghost use Rattle.cli_base.specs.Files.{IsUnknown};
-ghost use Rattle.cli_tests.specs.Outcome.{LacksPath, search_lacks_memory};
+ghost use Rattle.cli_tests.specs.Outcome.{IsNoTest, LacksPath, search_lacks_memory};
 ghost use Rattle.cli_tests.specs.Plan.{AreFiles, AreFilesAt};
 
-use cli_base::{Host, REFUSED, ReadFailure, Spot, is_policy, is_scenario, no_memory, report_error};
+use cli_base::{
+    FileKind, Host, REFUSED, ReadFailure, Spot, is_list, is_policy, is_scenario, no_memory,
+    report_error,
+};
 use std::alloc::{AllocError, AllocFailed};
 use std::fs::DirEntry;
 use std::io::ErrorKind;
@@ -15,10 +17,16 @@ use view_diagnostics::DiagnosticForm;
 const MOST_FOLDERS: usize = 100_000;
 
 /// The reason for which the files of paths aren't found.
-#[derive(Clone, Copy)]
+#[derive(Drop)]
 pub(crate) enum SearchFailure<'a> {
     /// The file or folder of this path can't be read.
     Unreadable(&'a str, io::Error),
+    /// The path is that of a start list.
+    List(&'a str),
+    /// The file of this path isn't regular.
+    Irregular(String),
+    /// The JUnit document of this path would replace a file that a test reads.
+    Replaced(&'a str),
     /// Neither this folder nor a folder below it has a scenario or a policy.
     Nothing(&'a str),
     /// The path of no test has one of these texts.
@@ -63,6 +71,27 @@ impl SearchFailure<'_> {
                 report_error(rt, form, Spot::nowhere(), &unread.about(path));
                 REFUSED
             }
+            SearchFailure::List(path) => {
+                let message = "expected a scenario, a policy or a folder, found a start list";
+                report_error(rt, form, Spot::file(path), &message);
+                REFUSED
+            }
+            SearchFailure::Irregular(path) => {
+                report_error(
+                    rt,
+                    form,
+                    Spot::file(path.as_str()),
+                    &"expected a regular file",
+                );
+                REFUSED
+            }
+            SearchFailure::Replaced(path) => {
+                let message = format_args!(
+                    "--junit: expected a file that no test reads, found `{path}`"
+                );
+                report_error(rt, form, Spot::nowhere(), &message);
+                REFUSED
+            }
             SearchFailure::Nothing(path) => {
                 let message = "no file in this folder ends with .scenario or .policy";
                 report_error(rt, form, Spot::file(path), &message);
@@ -93,8 +122,8 @@ impl fmt::Display for UnselectedMessage<'_> {
     }
 }
 
-/// Returns the scenarios and policies of paths in their order, those of a folder sorted by bytes. Errors: a path can't be read, a
-/// folder has none of them, the host is out of memory.
+/// Returns the scenarios and policies of paths in their order, those of a folder sorted by bytes. Errors: a path can't be read or is
+/// that of a start list, a folder has none of them, the host is out of memory.
 pub(crate) fn files_at<'a, H: Host>(
     host: &H,
     paths: &[&'a str],
@@ -115,12 +144,13 @@ pub(crate) fn files_at<'a, H: Host>(
 fn files_of<'a, H: Host>(host: &H, path: &'a str) -> Result<Vec<String>, SearchFailure<'a>>
     ensures found { IfOk result (λ files. AreFilesAt (H.text_at host.now) path.now files.items) }
     ensures failed { IfErr result (λ failure. search_lacks_memory failure ≡ false
-        → IsUnknown (H.text_at host.now) path.now) }
+        → IsNoTest (H.text_at host.now) path.now) }
 {
     let rt = host.rt();
-    match host.is_folder(path) {
-        Ok(true) => files_in(rt, path),
-        Ok(false) => Ok(vec![in rt.alloc(); String::from_str(rt.alloc(), path)?]?),
+    match host.kind_at(path) {
+        Ok(FileKind::Folder) => files_in(rt, path),
+        Ok(_) if is_list(path) => Err(SearchFailure::List(path)),
+        Ok(_) => Ok(vec![in rt.alloc(); String::from_str(rt.alloc(), path)?]?),
         Err(error) => Err(failure_of(path, error)),
     }
 }

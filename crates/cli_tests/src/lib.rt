@@ -7,6 +7,7 @@
 mod coverage_printer;
 mod file_presence;
 mod file_search;
+mod input_check;
 mod planned_test;
 mod policy_test;
 mod scenario_run;

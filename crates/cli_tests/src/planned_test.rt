@@ -80,8 +80,8 @@ impl PlannedTest {
     ghost use Rattle.std.specs.Prelude.{◌≡◌};
     ghost use Rattle.cli_tests.specs.Plan.{path_of};
 
-    // Returns the path of the test's file.
-    fn path(&self) -> &str
+    /// Returns the path of the test's file.
+    pub(crate) fn path(&self) -> &str
         ensures { result.now ≡ path_of self.now }
     {
         match self {

@@ -8,6 +8,7 @@ ghost use Rattle.cli_tests.specs.ScenarioTest.{IsFound};
 
 use crate::coverage_printer::CoveragePrinter;
 use crate::file_search::{SearchFailure, files_at};
+use crate::input_check::check_inputs;
 use crate::planned_test::{PlannedTest, planned_tests, select_tests};
 use crate::policy_test::test_policy;
 use crate::scenario_test::{TestConditions, test_scenario};
@@ -151,7 +152,7 @@ fn refuse_threshold(rt: &HostRuntime, form: DiagnosticForm, text: &str) -> u8
     REFUSED
 }
 
-// Returns the tests of the paths that the filters select. Errors: those of the search, the filters select none.
+// Returns the tests of the paths that the filters select. Errors: those of the search and of the inputs, the filters select none.
 fn tests_at<'a, H: Host>(
     host: &H,
     asked: &'a TestOptions<'a>,
@@ -164,6 +165,7 @@ fn tests_at<'a, H: Host>(
 {
     let files = files_at(host, asked.paths.as_slice())?;
     let mut tests = planned_tests(host, files)?;
+    check_inputs(host, tests.as_slice(), asked.machine, asked.junit)?;
     select_tests(&mut tests, asked.filters.as_slice());
     if tests.is_empty() {
         return Err(SearchFailure::Unselected(asked.filters.as_slice()));

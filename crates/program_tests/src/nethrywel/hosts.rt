@@ -3,7 +3,7 @@ ghost use Rattle.std.specs.Prelude.{◌∷◌, [], codes, if◌then◌else◌, S
 ghost use Rattle.std.specs.Str.{bytes_eq};
 
 use clap::Error;
-use cli_base::{Host, ReadFailure, scenario_text};
+use cli_base::{FileKind, Host, ReadFailure, scenario_text};
 use std::io;
 use std::process::Abort;
 use view_diagnostics::DiagnosticForm;
@@ -56,12 +56,16 @@ impl<'a> Host for StatedHost<'a> {
         }
     }
 
-    fn is_folder(&self, path: &str) -> io::Result<bool> {
+    fn kind_at(&self, path: &str) -> io::Result<FileKind> {
         if path == self.path {
-            Ok(false)
+            Ok(FileKind::Regular)
         } else {
             Err(io::Error::from(io::ErrorKind::NotFound))
         }
+    }
+
+    fn is_same(&self, _path: &str, _other: &str) -> bool {
+        false
     }
 
     fn exists(&self, path: &str) -> io::Result<bool> {

@@ -21,21 +21,17 @@ returns-in_err-tests-clause-failed g c =
 pub returns-then-is_empty-clause-failed : goal.returns-then-is_empty-clause-failed
 returns-then-is_empty-clause-failed g c = λ room.
     let none : length c.select_tests.new.tests.items ≡ 0 = grind (arith, nat_tests, c.is_empty.ensures, c.if-is_empty.true) in
-    inr (
-      c.in_ok-files.files.items,
-      rw c.as_slice.ensures.value at c.in_ok-files.ensures.found,
-      (
-        c.in_ok-tests.tests.items,
-        c.in_ok-tests.ensures,
-        sym (nil_from_length _ none) ∙ (rw c.as_slice-2.ensures.value at c.select_tests.ensures),
-      ),
-    )
+    inr (inr (
+      c.in_ok-tests.tests.items,
+      (c.in_ok-files.files.items, rw c.as_slice.ensures.value at c.in_ok-files.ensures.found, c.in_ok-tests.ensures),
+      sym (nil_from_length _ none) ∙ (rw c.as_slice-3.ensures.value at c.select_tests.ensures),
+    ))
 
 pub returns-clause-selected : goal.returns-clause-selected
 returns-clause-selected g c = (
-  c.in_ok-files.files.items,
-  rw c.as_slice.ensures.value at c.in_ok-files.ensures.found,
-  (c.in_ok-tests.tests.items, c.in_ok-tests.ensures, rw c.as_slice-2.ensures.value at c.select_tests.ensures),
+  c.in_ok-tests.tests.items,
+  (c.in_ok-files.files.items, rw c.as_slice.ensures.value at c.in_ok-files.ensures.found, c.in_ok-tests.ensures),
+  rw c.as_slice-3.ensures.value at c.select_tests.ensures,
 )
 
 pub returns-clause-some : goal.returns-clause-some
