@@ -16,7 +16,7 @@ use Rattle.cli_base.specs.declared.list_file.StartListFailure.{StartListFailure}
 use Rattle.cli_base.specs.declared.machine.Machine.{Machine}
 use Rattle.cli_base.specs.declared.settings.Settings.{Settings}
 use Rattle.view_test_report.specs.declared.test_result.TestResult.{TestResult}
-use Rattle.cli_tests.specs.ScenarioTest.{IsFileResult, IsFound, IsListFor, IsMachineResult, IsScenarioResult, IsTextResult, IsUnfoldedResult, IsUnreadResult, PassesBy, is_warned, warnings_of}
+use Rattle.cli_tests.specs.ScenarioTest.{IsFileResult, IsFound, IsListFor, IsMachineResult, IsScenarioResult, IsTextResult, IsUnfoldedResult, IsUnreadResult, PassesBy, has_call, is_warned, warnings_of}
 use Rattle.cli_tests.proofs.RunLemmas.{less_known}
 
 -- the host is out of memory exactly if the status is 1
@@ -39,18 +39,19 @@ module _ {E : Type 0} where
   module _ (strict : Bool) (settings : Settings) (list : Listed) where
     -- ---- a text
 
-    -- the lines that are run, with the warnings about the text
-    pub warned_result : (text : List ℕ) (lines : UnfoldedText) (marks : List RoundMark) (bytes : List ℕ) (warnings : List Advice) (answered : Bool)
-        (result : Result TestResult E) → marks ≡ lines.marks → bytes ≡ lines.text → warnings ≡ warnings_of list text
-        → PassesBy settings list marks (Some bytes) answered
-        → IfOk result (λ test. test.passed ≡ (answered && not (is_warned strict warnings)))
+    -- the lines that are run, one of which is a call, with the warnings about the text
+    pub warned_result : (text : List ℕ) (lines : UnfoldedText) (marks : List RoundMark) (bytes : List ℕ) (warnings : List Advice)
+        (answered called : Bool) (result : Result TestResult E) → marks ≡ lines.marks → bytes ≡ lines.text → warnings ≡ warnings_of list text
+        → PassesBy settings list marks (Some bytes) answered → called ≡ (answered && has_call lines.text)
+        → IfOk result (λ test. test.passed ≡ (called && not (is_warned strict warnings)))
         → IfOk result (λ test. IsUnfoldedResult strict settings list text lines test.passed)
-    warned_result text lines marks bytes warnings answered (Ok test) marked read found passes warned = (
+    warned_result text lines marks bytes warnings answered called (Ok test) marked read found passes is warned = (
       answered,
       subst (λ b. PassesBy settings list lines.marks (Some b) answered) read (subst (λ ms. PassesBy settings list ms (Some bytes) answered) marked passes),
-      warned ∙ ap (λ ws. answered && not (is_warned strict ws)) found,
+      warned ∙ ap (λ c. c && not (is_warned strict warnings)) is
+          ∙ ap (λ ws. (answered && has_call lines.text) && not (is_warned strict ws)) found,
     )
-    warned_result text lines marks bytes warnings answered (Err error) marked read found passes warned = tt
+    warned_result text lines marks bytes warnings answered called (Err error) marked read found passes is warned = tt
 
     -- rounds that unfold
     pub unfolded_result : (text : List ℕ) (known : NameTable) (lines : UnfoldedText) (result : Result TestResult E) → known ≡ names_of settings

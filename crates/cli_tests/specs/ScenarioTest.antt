@@ -1,10 +1,11 @@
 -- The result of a scenario's test.
-use Rattle.std.specs.Prelude.{◌≡◌, ℕ, ◌==◌, ◌&&◌, ◌⊎◌, Bool, false, true, not, nat_lt, List, [], length, MatchBool, MatchResult, IfErr, IfNone, IfOk, IfSome, Option, Some, None, Result, Ok, Err}
-use Rattle.std.specs.List.{slice_split}
+use Rattle.std.specs.Prelude.{◌≡◌, ℕ, ◌==◌, ◌&&◌, ◌⊎◌, Bool, false, true, codes, not, nat_eq, nat_lt, List, [], ◌∷◌, length, MatchBool, MatchResult, IfErr, IfNone, IfOk, IfSome, Option, Some, None, Result, Ok, Err}
+use Rattle.std.specs.List.{list_any, slice_split, starts_with}
 use Rattle.own_model.specs.Listed.{Listed, start_list_of}
 use Rattle.own_model.specs.StartList.{Boots}
 use Rattle.line_advice.specs.Advice.{Advice, is_newline, scenario_advice}
 use Rattle.line_advice.specs.Services.{kinds_of, services_of}
+use Rattle.line_friendly.specs.Friendly.{trimmed_line}
 use Rattle.line_names.specs.RoundMarks.{RoundMark}
 use Rattle.line_rounds.specs.Unfolding.{UnfoldedText}
 use Rattle.line_steps.specs.RunPosition.{RunPosition, first_position}
@@ -84,11 +85,24 @@ warnings_of list text =
 abbrev pub is_warned : Bool → List Advice → Bool
 is_warned strict warnings = strict && nat_lt 0 (length warnings)
 
--- the lines that are run are the unfolded ones; with `--strict` a warning about the text fails the test
+-- a line is a call: neither blank nor a comment, a directive or an expected log line
+abbrev pub is_call_text : List ℕ → Bool
+is_call_text [] = false
+is_call_text (byte ∷ rest) =
+    not (byte == 35) && (not (byte == 64) && (not (byte == 13) && not (starts_with nat_eq (byte ∷ rest) (codes "=> "))))
+
+abbrev pub is_call : List ℕ → Bool
+is_call line = is_call_text (trimmed_line line)
+
+-- a line of a text is one
+abbrev pub has_call : List ℕ → Bool
+has_call text = list_any is_call (slice_split is_newline text)
+
+-- the lines that are run are the unfolded ones, one of which is a call; with `--strict` a warning about the text fails the test
 abbrev pub IsUnfoldedResult : Bool → Settings → Listed → List ℕ → UnfoldedText → Bool → Type 0
 IsUnfoldedResult strict settings list text lines passed =
     (answered : Bool) × PassesBy settings list lines.marks (Some lines.text) answered
-    × (passed ≡ (answered && not (is_warned strict (warnings_of list text))))
+    × (passed ≡ ((answered && has_call lines.text) && not (is_warned strict (warnings_of list text))))
 
 -- rounds that don't unfold fail the test
 abbrev pub IsTextResult : Bool → Settings → Listed → List ℕ → Bool → Type 0

@@ -1,20 +1,25 @@
 //! Scenarios that are run as tests, each on its machine.
-ghost use Rattle.std.specs.Prelude.{◌≡◌, ◌&&◌, false, not, IfOk};
+ghost use Rattle.std.specs.Prelude.{◌≡◌, ◌&&◌, false, map, not, ℕ, List, IfOk};
+ghost use Rattle.std.specs.Borrow.{Bor};
+ghost use Rattle.std.specs.List.{list_any, slice_split};
 ghost use Rattle.std.specs.Option.{option_copied};
+ghost use Rattle.line_advice.specs.Advice.{is_newline};
 ghost use Rattle.line_rounds.specs.Views.{whole_view};
 ghost use Rattle.cli_base.specs.ListFailures.{lacks_memory};
-ghost use Rattle.cli_tests.specs.ScenarioTest.{IsFileResult, IsFound, IsMachineResult, IsScenarioResult, IsTextResult, IsUnfoldedResult, IsUnreadResult, is_warned};
+ghost use Rattle.cli_tests.specs.ScenarioTest.{IsFileResult, IsFound, IsMachineResult, IsScenarioResult, IsTextResult, IsUnfoldedResult, IsUnreadResult, has_call, is_call, is_warned};
 
 use crate::coverage_printer::CoveragePrinter;
 use crate::file_presence::may_exist;
+use crate::policy_test::add_error;
 use crate::scenario_run::{TestCase, failed, test_lines};
 use cli_base::{
     Host, Machine, Origin, ReadFailure, Settings, Spot, StartListFailure, UNWRITTEN, Warnings,
     error_line, machine_path, read_whole, rounds_spot, rounds_token,
 };
 use cli_options::TestOptions;
+use line_friendly::trimmed_line;
 use line_rounds::{UnfoldError, UnfoldedText, unfold};
-use std::alloc::AllocError;
+use std::alloc::{AllocError, Global};
 use view_test_report::TestResult;
 
 /// The error of a scenario that has no warnings since it isn't read whole, where a warning is a fault.
@@ -175,8 +180,66 @@ fn test_unfolded<'a, H: Host>(
     let rt = host.rt();
     let warnings = Warnings::of(rt, case.list, None, case.scenario, text)?;
     let origin: Origin<'_, H::File> = Origin::Held(lines.bytes());
-    let result = test_lines(rt, case, origin, lines.marks(), coverings)?;
-    warned(rt, &warnings, case.strict, result)
+    let run = test_lines(rt, case, origin, lines.marks(), coverings)?;
+    let called = with_call(rt, lines.bytes(), run)?;
+    warned(rt, &warnings, case.strict, called)
+}
+
+// Returns the result of a scenario of unfolded lines. The test fails if no line is a call.
+fn with_call(rt: &HostRuntime, text: &[u8], trial: TestResult) -> Result<TestResult, AllocError>
+    ensures { IfOk result (λ test. test.passed ≡ (trial.passed && has_call text.now)) }
+{
+    let found = has_call(rt.alloc(), text)?;
+    let told = report_of(rt, &trial, found)?;
+    Ok(TestResult {
+        name: trial.name,
+        passed: trial.passed && found,
+        told,
+    })
+}
+
+// Returns the report on a run, after an error if no line is a call.
+fn report_of(rt: &HostRuntime, trial: &TestResult, found: bool) -> Result<Vec<u8>, AllocError> {
+    let mut report = Vec::new(rt.alloc());
+    if !found {
+        let message = "expected at least one call, found none";
+        add_error(rt, &mut report, Spot::file(trial.name.as_str()), &message)?;
+    }
+    report.extend_from_slice(trial.told.as_slice())?;
+    Ok(report)
+}
+
+// Returns whether a line of a text is a call. The error is out of memory.
+fn has_call(alloc: Global, text: &[u8]) -> Result<bool, AllocError>
+    ensures { IfOk result (λ found. found ≡ has_call text.now) }
+{
+    let lines = lines_of(alloc, text)?;
+    Ok(any_call(&lines))
+}
+
+// Returns the lines of a text, without newlines. The error is out of memory.
+fn lines_of(alloc: Global, text: &[u8]) -> Result<Vec<&[u8]>, AllocError>
+    ensures { IfOk result (λ lines. map (λ line. line.now) lines.items ≡ slice_split is_newline text.now) }
+{
+    text.split(|byte| *byte == b'\n').collect(alloc)
+}
+
+// Returns whether one of these lines is a call.
+fn any_call(lines: &[&[u8]]) -> bool
+    ensures { result ≡ list_any (λ (line : Bor (List ℕ)). is_call line.now) lines.now }
+{
+    lines.iter().any(|line| is_call(line))
+}
+
+// Returns whether a line is a call: neither blank nor a comment, a directive or an expected log line.
+fn is_call(line: &[u8]) -> bool
+    ensures { result ≡ is_call line.now }
+{
+    let text = trimmed_line(line);
+    match text.first() {
+        None | Some(b'#' | b'@' | b'\r') => false,
+        Some(_) => !text.starts_with(b"=> "),
+    }
 }
 
 // Returns a result with warnings before its diagnostics. With `strict` the test fails by them.
