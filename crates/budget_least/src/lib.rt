@@ -1,6 +1,6 @@
 //! The budgets that the accounts of a scenario need: every budget under which none of an account's calls is short of quota.
 //!
-//! `view_budgets`, `cli_budgets` and `cli_lists` call it. For example `BudgetReport::of(alloc, question, start)?.accounts()` has the intervals of
+//! `cli_budgets` and `cli_lists` call it. For example `BudgetReport::of(alloc, question, start)?.accounts()` has the intervals of
 //! sufficient budgets of each account.
 #![tactic(auto)]
 

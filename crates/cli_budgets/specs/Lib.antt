@@ -1,2 +1,3 @@
+pub mod ReportDocuments
 pub mod BudgetPrinting
 pub mod BudgetStatus

@@ -7,6 +7,8 @@ ghost use Rattle.cli_base.specs.Unfolding.{EndsUnfolded};
 ghost use Rattle.cli_budgets.specs.BudgetPrinting.{IsReportIn, format_asked};
 ghost use Rattle.cli_budgets.specs.BudgetStatus.{BudgetsEnd, EndsMeasured, LacksReport, measured_status};
 
+use crate::budget_text::BudgetText;
+use crate::documents::budget_documents;
 use budget_least::{BudgetChoice, BudgetQuery, BudgetReport, UnmeasuredLine};
 use cli_base::{
     Host, Machine, MachineChoice, Settings, Spot, UNWRITTEN, no_memory, report_boot_fault,
@@ -18,7 +20,6 @@ use list_parser::BootFault;
 use std::alloc::{AllocError, Global};
 use std::io;
 use std::io::Write;
-use view_budgets::{BudgetText, budget_documents};
 use view_diagnostics::DiagnosticForm;
 
 // The form in which a report is printed.
@@ -169,7 +170,7 @@ fn rendered(
     ensures { IfOk result (λ text. IsReportIn format report.now machine.now scenario.now text.items) }
 {
     match format {
-        BudgetFormat::Text => Ok(BudgetText::of(report).to_string(alloc)?.into_bytes()),
+        BudgetFormat::Text => Ok(BudgetText(report).to_string(alloc)?.into_bytes()),
         BudgetFormat::Documents => Ok(budget_documents(alloc, report)?),
         BudgetFormat::List => match report.start_list(alloc, machine) {
             Ok(text) => Ok(text),

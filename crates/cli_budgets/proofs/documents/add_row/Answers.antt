@@ -1,5 +1,5 @@
 -- The fields are the members.
-use Rattle.view_budgets.proofs.documents.add_row.Goals as goal
+use Rattle.cli_budgets.proofs.documents.add_row.Goals as goal
 
 pub returns : goal.returns
 returns c =

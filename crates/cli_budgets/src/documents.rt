@@ -5,8 +5,7 @@ ghost use Rattle.std.specs.Option.{option_map};
 ghost use Rattle.budget_meter.specs.Needs.{amounts_of};
 ghost use Rattle.view_json.specs.Documents.{field_data, list_data, number_or_null, objects_in};
 ghost use Rattle.view_json.specs.Listings.{Extends};
-ghost use Rattle.view_budgets.specs.Documents.{account_documents, machine_members, members_with, named_line, named_lines, unmeasured_data, unmeasured_object, IsReportJson};
-ghost use Rattle.view_budgets.specs.Text.{path_of};
+ghost use Rattle.cli_budgets.specs.ReportDocuments.{account_documents, machine_members, members_with, named_line, named_lines, unmeasured_data, unmeasured_object, path_of, IsReportJson};
 
 use budget_least::{Budget, BudgetReport, MachineSize, UnmeasuredLine};
 use budget_search::{AccountBudgets, BudgetInterval, SessionKey};
@@ -16,7 +15,10 @@ use view_json::{JsonField, Listing, ObjectList, ObjectListBuilder};
 
 /// Returns a list of JSON with a document for each interval of each account, and then one for the machine. The error is that the
 /// host is out of memory.
-pub fn budget_documents(alloc: Global, report: &BudgetReport<'_>) -> Result<Vec<u8>, AllocError>
+pub(crate) fn budget_documents(
+    alloc: Global,
+    report: &BudgetReport<'_>,
+) -> Result<Vec<u8>, AllocError>
     ensures { IfOk result (λ text. IsReportJson report.now text.items) }
 {
     let mut listing = Listing::new(alloc);

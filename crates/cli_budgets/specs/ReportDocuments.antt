@@ -1,11 +1,12 @@
 -- A report as JSON.
 use Rattle.std.specs.Prelude.{◌≡◌, ℕ, List, [], ◌∷◌, ◌++◌, codes, if◌then◌else◌, map, Option}
-use Rattle.std.specs.List.{flat_map}
-use Rattle.std.specs.Option.{option_map}
+use Rattle.std.specs.List.{flat_map, slice_get}
+use Rattle.std.specs.Option.{option_map, option_map_or}
 use Rattle.serde_json.specs.Data.{Data, array}
 use Rattle.serde_json.specs.View.{items_of}
 use Rattle.view_json.specs.Documents.{list_text, number_data, number_or_null, object_of, text_data, Member}
 use Rattle.own_model.specs.Amounts.{Amounts}
+use Rattle.own_model.specs.Listed.{Listed}
 use Rattle.budget_search.specs.BudgetIntervals.{safe_of}
 use Rattle.budget_search.specs.declared.account_budgets.AccountBudgets.{AccountBudgets}
 use Rattle.budget_search.specs.declared.budget_intervals.BudgetInterval.{BudgetInterval}
@@ -14,9 +15,12 @@ use Rattle.budget_least.specs.Unmeasured.{is_named_with, reason_text}
 use Rattle.budget_least.specs.declared.machine_size.MachineSize.{MachineSize}
 use Rattle.budget_least.specs.declared.report.BudgetReport.{BudgetReport}
 use Rattle.budget_least.specs.declared.unmeasured_line.UnmeasuredLine.{UnmeasuredLine}
-use Rattle.view_budgets.specs.Text.{path_of}
 
 -- ---- accounts
+
+-- the path of the component of an account
+abbrev pub path_of : Listed → AccountBudgets → List ℕ
+path_of list account = option_map_or (λ entry. entry.path) (slice_get list.entries account.component) []
 
 -- the lines of an account that aren't measured
 abbrev pub named_line : AccountBudgets → UnmeasuredLine → List UnmeasuredLine

@@ -9,8 +9,8 @@ use Rattle.budget_search.specs.declared.budget_intervals.BudgetInterval.{BudgetI
 use Rattle.budget_least.specs.Report.{list_of, sum_of, unmeasured_of, HasSmallestMachine}
 use Rattle.budget_least.specs.declared.machine_size.MachineSize.{MachineSize}
 use Rattle.budget_least.specs.declared.report.BudgetReport.{BudgetReport}
-use Rattle.view_budgets.specs.Documents.{interval_documents, interval_members, machine_members, members_with, named_lines, unmeasured_data, IsReportJson}
-use Rattle.view_budgets.specs.Text.{path_of}
+use Rattle.cli_budgets.specs.ReportDocuments.{interval_documents, interval_members, machine_members, members_with, named_lines, unmeasured_data, IsReportJson}
+use Rattle.cli_budgets.specs.ReportDocuments.{path_of}
 
 -- one interval more
 pub interval_next : (report : BudgetReport) (account : AccountBudgets) (path : List ℕ) (unmeasured : Data) (rows : List BudgetInterval) (i : ℕ) (row : BudgetInterval) →

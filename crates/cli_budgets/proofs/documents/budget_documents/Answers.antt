@@ -1,8 +1,8 @@
 -- The accounts, and then the machine.
 use Rattle.std.proofs.Common.{[]}
 use Rattle.view_json.proofs.ListingLemmas.{extends_then}
-use Rattle.view_budgets.proofs.DocumentLemmas.{is_report}
-use Rattle.view_budgets.proofs.documents.budget_documents.Goals as goal
+use Rattle.cli_budgets.proofs.ReportLemmas.{is_report}
+use Rattle.cli_budgets.proofs.documents.budget_documents.Goals as goal
 
 pub returns : goal.returns
 returns c =

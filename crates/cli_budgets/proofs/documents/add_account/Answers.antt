@@ -1,10 +1,10 @@
 -- One more.
 use Rattle.std.proofs.Common.{◌∙◌, ap}
 use Rattle.view_json.proofs.ListingLemmas.{extends_more}
-use Rattle.view_budgets.specs.Documents.{named_lines, unmeasured_data}
-use Rattle.view_budgets.specs.Text.{path_of}
-use Rattle.view_budgets.proofs.DocumentLemmas.{interval_next}
-use Rattle.view_budgets.proofs.documents.add_account.Goals as goal
+use Rattle.cli_budgets.specs.ReportDocuments.{named_lines, unmeasured_data}
+use Rattle.cli_budgets.specs.ReportDocuments.{path_of}
+use Rattle.cli_budgets.proofs.ReportLemmas.{interval_next}
+use Rattle.cli_budgets.proofs.documents.add_account.Goals as goal
 
 pub loop-row-preserved : goal.loop-row-preserved
 loop-row-preserved c =
