@@ -24,7 +24,7 @@ use Rattle.cli_engine.specs.declared.program.Task.{Task}
 use Rattle.cli_engine.specs.declared.program.Task.TheVariants as task
 use Rattle.run_lines.specs.declared.run_fault.RunFault.{RunFault}
 use Rattle.run_lines.specs.declared.run_fault.RunFault.TheVariants.{WriteFault}
-use Rattle.run_engine.specs.declared.engine.RunSummary.{RunSummary}
+use Rattle.run_engine.specs.declared.engine.Summary.{Summary}
 use Rattle.run_devices.proofs.GatheredLemmas.{Appends-more}
 
 -- a scenario from the machine's start
@@ -145,7 +145,7 @@ pub ruleset scenarios = (told_alone, stopped_in_run)
 -- ---- over the standard streams
 
 -- what came of a task, where the writer tells nothing
-pub came_of : (ended : Result RunSummary TaskFailure) (asked : Task) (text : List ℕ) (max_lines : ℕ) (input rest : Option (List ℕ)) (failed : Bool) →
+pub came_of : (ended : Result Summary TaskFailure) (asked : Task) (text : List ℕ) (max_lines : ℕ) (input rest : Option (List ℕ)) (failed : Bool) →
     IfOk ended (λ summary. IsDone asked text input summary.lines None None) →
     IfErr ended (λ failure. FailsFor failure asked text max_lines input rest failed None None) → HasResult ended asked text max_lines input
 came_of (Ok summary) asked text max_lines input rest failed done fails = done

@@ -20,7 +20,7 @@ use Rattle.cli_engine.specs.declared.program.Task.{Task}
 use Rattle.cli_engine.specs.declared.program.Task.TheVariants as task
 use Rattle.run_lines.specs.declared.run_fault.RunFault.{RunFault}
 use Rattle.run_lines.specs.declared.run_fault.RunFault.TheVariants.{WriteFault}
-use Rattle.run_engine.specs.declared.engine.RunSummary.{RunSummary}
+use Rattle.run_engine.specs.declared.engine.Summary.{Summary}
 
 -- the task that the options of the command line ask for
 abbrev pub AsksFor : Bool → Bool → Option (List ℕ) → Task → Type 0
@@ -129,7 +129,7 @@ FailsIn (failure.Run fault) asked text max_lines input written =
     × ((rest : Option (List ℕ)) × StopsTask asked fault max_lines list input rest false (Some []) (Some written))
 
 -- the exit status
-abbrev pub status_of : Result RunSummary TaskFailure → ℕ
+abbrev pub status_of : Result Summary TaskFailure → ℕ
 status_of (Ok summary) = 0
 status_of (Err (failure.Run fault)) = 1
 status_of (Err (failure.Boot fault)) = 2

@@ -9,14 +9,14 @@ ghost use Rattle.cli_engine.specs.Texts.{end_text};
 ghost use Rattle.cli_engine.specs.declared.host.ProgramEnd.TheVariants.{Ended as Ending};
 ghost use Rattle.cli_engine.specs.declared.program.Task.{Task as Tasks};
 ghost use Rattle.cli_engine.specs.declared.program.TaskFailure.{TaskFailure as Failure};
-ghost use Rattle.run_engine.specs.declared.engine.RunSummary.{RunSummary as Summary};
+ghost use Rattle.run_engine.specs.declared.engine.Summary.{Summary};
 
 use crate::config::{ConfigFault, read_config_at};
 use crate::options::{Options, words_given};
 use crate::program::{Task, TaskFailure, boot_and_run, exit_status, task_of};
 use clap::Error;
 use list_parser::{BootFault, MACHINE_A};
-use run_engine::RunSummary;
+use run_engine::Summary;
 use run_lines::{Input, MAX_LINES, Output};
 use std::convert::AsStr;
 use std::fmt::Display;
@@ -33,7 +33,7 @@ pub enum ProgramEnd {
     /// The file of CONFIG is not read.
     NoConfig(ConfigFault),
     /// The task was started and has this result.
-    Ended(Result<RunSummary, TaskFailure>),
+    Ended(Result<Summary, TaskFailure>),
 }
 
 impl Termination for ProgramEnd {
@@ -144,7 +144,7 @@ fn run_task<R: io::Input + Print + AllocGlobal>(
     rt: &R,
     text: &[u8],
     task: Task<'_>,
-) -> Result<RunSummary, TaskFailure>
+) -> Result<Summary, TaskFailure>
     ensures { (reader : R.Reader)
         × HasResult result task.entry text.now MAX_LINES (R.Reader.remaining reader) }
 {

@@ -13,7 +13,7 @@ pub use options::{Options, words_given};
 pub use program::{
     Task, TaskFailure, UnfinishedTask, boot_and_run, exit_status, run_bytes, task_of,
 };
-pub use run_engine::{RunSummary, run, run_only};
+pub use run_engine::{Summary, run, run_only};
 pub use run_lines::{
     DeviceFault, Input, MAX_LINES, Output, RunFault, Sink, Source, read_line, write_accounts,
 };

@@ -20,7 +20,7 @@ use crate::options::Options;
 use core_calls::Reply;
 use init_core::boot;
 use list_parser::{BootFault, StartList};
-use run_engine::{RunSummary, run_selected};
+use run_engine::{Summary, run_selected};
 use run_lines::{
     Core, LineDispatcher, MAX_LINES, Output, Router, RunFault, Sink, Source, write_accounts,
     write_out,
@@ -117,7 +117,7 @@ pub fn boot_and_run<S: Source, K: Sink>(
     task: Task<'_>,
     reader: &mut S,
     writer: &mut K,
-) -> Result<RunSummary, TaskFailure>
+) -> Result<Summary, TaskFailure>
     ensures done { IfOk result (λ summary. IsDone task.entry text.now
         (S.remaining reader.old) summary.lines (K.contents writer.old) (K.contents writer.new)) }
     ensures few { IfOk result (λ summary. summary.lines ≤ MAX_LINES) }
@@ -143,7 +143,7 @@ fn do_task<R: Router + Drop, S: Source, K: Sink>(
     task: Task<'_>,
     reader: &mut S,
     writer: &mut K,
-) -> Result<RunSummary, TaskFailure>
+) -> Result<Summary, TaskFailure>
     requires starts { core.old ≡ world_of list.now }
     ensures done { (text : List ℕ) → IsMachine text list.now →
         IfOk result (λ summary. IsDone task.entry text
@@ -183,7 +183,7 @@ fn answer_scenario<R: Router + Drop, S: Source, K: Sink>(
     accounts: bool,
     reader: &mut S,
     writer: &mut K,
-) -> Result<RunSummary, RunFault>
+) -> Result<Summary, RunFault>
     requires listed { core.old.entries ≡ entries_of (start_list_of run.now.list.now) }
     ensures few { IfOk result (λ summary. summary.lines ≤ MAX_LINES) }
     ensures told { IfOk result (λ summary. IfSome (S.remaining reader.old) (λ input.
@@ -212,7 +212,7 @@ fn answer_scenario<R: Router + Drop, S: Source, K: Sink>(
 
 // Writes that a machine boots. A writer that has failed is not tried again.
 #[tactic(auto, using(run_devices::proofs::GatheredLemmas::told_in_part))]
-fn tell_ok<K: Sink>(writer: &mut K) -> Result<RunSummary, RunFault>
+fn tell_ok<K: Sink>(writer: &mut K) -> Result<Summary, RunFault>
     ensures none { IfOk result (λ summary. summary.lines ≡ 0) }
     ensures told { OnOk result (Appends (K.contents writer.old) (K.contents writer.new) ok_line) }
     ensures fault { IfErr result (λ fault. fault ≡ Unwritten) }
@@ -225,7 +225,7 @@ fn tell_ok<K: Sink>(writer: &mut K) -> Result<RunSummary, RunFault>
     if write_out(writer, OK) < OK.len() {
         return Err(RunFault::WriteFault);
     }
-    Ok(RunSummary { lines: 0 })
+    Ok(Summary { lines: 0 })
 }
 
 /// A task that was not done to its end, and the bytes written by then.
@@ -269,7 +269,7 @@ pub fn run_bytes(
 
 /// Returns the exit status of the program: 0 for a task that is done, 1 for a fault of the run, and 2 if no machine was
 /// booted.
-pub fn exit_status(ended: &Result<RunSummary, TaskFailure>) -> u8
+pub fn exit_status(ended: &Result<Summary, TaskFailure>) -> u8
     ensures { result ≡ status_of ended.now }
 {
     match ended {

@@ -18,7 +18,7 @@ ghost use Rattle.file_service.specs.Session.{HasFiles, IsReady, IsAnswered, IsTo
 
 use crate::session::{FileRange, FileSession};
 use core_calls::Reply;
-use session_nodes::{Effect, Memory, RegionMap, SessionHeaps, SessionService, SlicedHeap};
+use session_nodes::{Effect, Memory, RegionMap, Service, SessionHeaps, SlicedHeap};
 use session_proto::{FileError, FileReply, FileRequest};
 use text_codec::decode_hex;
 use trade_base::DsId;
@@ -42,7 +42,7 @@ const FEW_READ: usize = 128;
 #[derive(Clone, Copy, Drop)]
 pub struct FileService;
 
-impl SessionService for FileService {
+impl Service for FileService {
     ghost use Rattle.file_service.specs.Session.{value_of, IsSession};
 
     type State = FileSession;

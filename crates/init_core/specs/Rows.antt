@@ -5,7 +5,7 @@ use Rattle.std.specs.List.{find, slice_get}
 use Rattle.std.specs.Option.{option_map, unwrap_or}
 use Rattle.std.specs.Str.{bytes_eq}
 use Rattle.trade_base.specs.Service.{service_name, services}
-use Rattle.trade_base.specs.declared.service.Service.{Service}
+use Rattle.trade_base.specs.declared.service.BuiltInService.{BuiltInService}
 use Rattle.own_model.specs.Listed.{Listed, ListedEntry, level_of, most_lists}
 use Rattle.own_model.specs.Offer.{offer_of_service}
 use Rattle.own_model.specs.Offer.Offer.{OffersObjects}
@@ -41,7 +41,7 @@ name_asked (Named name) = Some name
 name_asked Any = None
 
 -- the service of a name, if it is one's
-abbrev pub service_named : List ℕ → Option Service
+abbrev pub service_named : List ℕ → Option BuiltInService
 service_named name = find (λ service. bytes_eq name (service_name service)) services
 
 -- ---- rows

@@ -9,8 +9,7 @@ mod table;
 
 pub use list_parser::{
     Binary, BootFault, ConfigField, ListEntry, MACHINE_A, Name, Path, Rule, StartList, Target,
-    entry_at_fault, inits_give_their_own, lists_are_listed, machine_a_is_read,
-    quota_faults_are_of_lacks,
+    inits_give_their_own, lists_are_listed, machine_a_is_read, quota_faults_are_of_lacks,
 };
 pub use list_routes::{MOST_LISTS, route, target_child};
 pub use pd_core::{Core, Router};

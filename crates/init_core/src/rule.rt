@@ -10,14 +10,14 @@ use list_parser::{DeclaredService, LabelTest, ListService, Name, Rule};
 use std::alloc::{AllocError, Global};
 use std::marker::Model;
 use std::rc::Rc;
-use trade_base::{SERVICES, Service};
+use trade_base::{BuiltInService, SERVICES};
 
 /// The result of a rule: where it routes a session request.
 #[derive(Drop)]
 pub(crate) enum ResolvedTarget {
     /// The request is routed to a server of a service that the machine has built in: the service, and the server's place
     /// among the components.
-    ToBuiltIn(Service, usize),
+    ToBuiltIn(BuiltInService, usize),
     /// The request is routed to a declared server: the service that it declares, and its place.
     ToDeclared(Rc<DeclaredService>, usize),
     /// The request is routed to no server.
@@ -55,7 +55,7 @@ pub(crate) enum Destination {
 #[derive(Drop)]
 pub(crate) enum ServiceTest {
     /// The service is this known one.
-    Known(Service),
+    Known(BuiltInService),
     /// The service has this name, which no known service has.
     Named(Name),
     /// Every service passes.
@@ -99,7 +99,7 @@ impl ServiceTest {
 #[derive(Drop)]
 pub(crate) struct ServiceName<'a> {
     text: &'a [u8],
-    service: Option<Service>,
+    service: Option<BuiltInService>,
 }
 
 impl<'a> Model for ServiceName<'a> {
@@ -127,7 +127,7 @@ impl<'a> ServiceName<'a> {
     }
 
     /// Returns whether the name is that of a service.
-    fn is(&self, service: Service) -> bool
+    fn is(&self, service: BuiltInService) -> bool
         ensures { result ≡ bytes_eq self.now (service_name service) }
     {
         self.service == Some(service)
@@ -135,7 +135,7 @@ impl<'a> ServiceName<'a> {
 }
 
 /// Returns the service that has a name, if there is one.
-fn service_named(name: &[u8]) -> Option<Service>
+fn service_named(name: &[u8]) -> Option<BuiltInService>
     ensures { result ≡ service_named name.now }
 {
     SERVICES

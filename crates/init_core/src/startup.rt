@@ -21,7 +21,7 @@ use object_kinds::copy_kinds;
 use pd_core::{AnyServer, Component, Core};
 use region_map::RegionMap;
 use std::alloc::Global;
-use trade_base::{AccountId, Caps, Ram, Service};
+use trade_base::{AccountId, BuiltInService, Caps, Ram};
 
 /// The most user regions of a script.
 const REGIONS: usize = 128;
@@ -158,7 +158,7 @@ fn script_of(
 
 /// Creates the server of an entry on its account, without sessions.
 fn server_of(
-    service: Service,
+    service: BuiltInService,
     entry: &ListEntry,
     account: AccountId,
     list: &StartList,

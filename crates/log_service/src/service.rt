@@ -10,7 +10,7 @@ ghost use Rattle.server_frame.specs.Memory.{payer_of};
 
 use crate::session::LogSession;
 use core_calls::Reply;
-use server_frame::{Effect, Memory, RegionMap, SessionService, SlicedHeap};
+use server_frame::{Effect, Memory, RegionMap, Service, SlicedHeap};
 use session_proto::{LogReply, LogRequest};
 use trade_base::DsId;
 
@@ -42,7 +42,7 @@ impl LogService {
     }
 }
 
-impl SessionService for LogService {
+impl Service for LogService {
     type State = LogSession;
 
     ghost Value = { Labelled };

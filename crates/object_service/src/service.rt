@@ -16,7 +16,7 @@ use crate::read_requests::name_of;
 use crate::session::ObjectSession;
 use core_calls::Reply;
 use object_kinds::ObjectKind;
-use session_nodes::{Effect, Memory, RegionMap, SessionHeaps, SessionService, SlicedHeap};
+use session_nodes::{Effect, Memory, RegionMap, Service, SessionHeaps, SlicedHeap};
 use session_proto::{FileError, ObjectError, ObjectReply, ObjectRequest};
 use std::marker::Model;
 use trade_base::DsId;
@@ -55,7 +55,7 @@ impl ObjectService {
     }
 }
 
-impl SessionService for ObjectService {
+impl Service for ObjectService {
     ghost use Rattle.std.specs.Prelude.{◌≡◌};
     ghost use Rattle.own_model.specs.Offer.Offer.{OffersObjects};
     ghost use Rattle.own_model.specs.Session.{Labelled, state_at_first};

@@ -5,8 +5,8 @@ use Rattle.std.proofs.lemmas.Option.{none-some}
 use Rattle.std.specs.Prelude.{Option, None}
 use Rattle.std.specs.Str.{bytes_eq}
 use Rattle.trade_base.specs.Service.{binary_name, served_by_binary, service_name}
-use Rattle.trade_base.specs.declared.service.Service.{Service}
-use Rattle.trade_base.specs.declared.service.Service.TheVariants as service
+use Rattle.trade_base.specs.declared.service.BuiltInService.{BuiltInService}
+use Rattle.trade_base.specs.declared.service.BuiltInService.TheVariants as service
 use Rattle.own_model.proofs.BufferKeptLemmas.{all_fit, all_keep_charges, all_keep_files, all_keep_limits, all_keep_within, same_fits}
 use Rattle.own_model.proofs.BufferMadeLemmas.{request_new}
 use Rattle.own_model.proofs.FileServiceLemmas.{no_files_are}
@@ -33,21 +33,21 @@ use Rattle.own_model.specs.Use.{UsesItsCharge}
 -- ---- names
 
 -- it is found again by its binary's name
-pub found_again : (of : Service) → served_by_binary (binary_name of) ≡ Some of
+pub found_again : (of : BuiltInService) → served_by_binary (binary_name of) ≡ Some of
 found_again service.Log = refl
 found_again service.Files = refl
 
 -- which is no script's and no init's
-pub is_no_script : (of : Service) → bytes_eq (binary_name of) (codes "script") ≡ false
+pub is_no_script : (of : BuiltInService) → bytes_eq (binary_name of) (codes "script") ≡ false
 is_no_script service.Log = refl
 is_no_script service.Files = refl
 
-pub is_no_init : (of : Service) → bytes_eq (binary_name of) (codes "init") ≡ false
+pub is_no_init : (of : BuiltInService) → bytes_eq (binary_name of) (codes "init") ≡ false
 is_no_init service.Log = refl
 is_no_init service.Files = refl
 
 -- each service's name is one that an entry could have
-pub is_named : (of : Service) → is_name (service_name of) ≡ true
+pub is_named : (of : BuiltInService) → is_name (service_name of) ≡ true
 is_named service.Log = refl
 is_named service.Files = refl
 

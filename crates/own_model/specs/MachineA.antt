@@ -1,7 +1,7 @@
 -- The built-in machine A, as its text denotes it.
 use Rattle.std.specs.Prelude.{ℕ, Bool, List, [], ◌∷◌, true, false, codes, None}
 use Rattle.trade_base.specs.Service.{service_name}
-use Rattle.trade_base.specs.declared.service.Service.TheVariants.{Log, Files}
+use Rattle.trade_base.specs.declared.service.BuiltInService.TheVariants.{Log, Files}
 use Rattle.own_model.specs.Listed.{Binary, Listed, ListedEntry}
 use Rattle.own_model.specs.Listed.Binary.{Script, Server}
 use Rattle.own_model.specs.Listed.Target.{AnyChild}

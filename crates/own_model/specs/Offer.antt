@@ -2,8 +2,8 @@
 use Rattle.std.specs.Prelude.{◌≡◌, ℕ, List, Option, Some, None}
 use Rattle.std.proofs.Common.{refl}
 use Rattle.std.specs.Coded.{Coded, code_by, coded×, coded_ℕ, coded_list, coded_option}
-use Rattle.trade_base.specs.declared.service.Service.{Service}
-use Rattle.trade_base.specs.declared.service.Service.TheVariants.{Log, Files}
+use Rattle.trade_base.specs.declared.service.BuiltInService.{BuiltInService}
+use Rattle.trade_base.specs.declared.service.BuiltInService.TheVariants.{Log, Files}
 use Rattle.own_model.specs.ObjectKinds.{ObjectKind}
 
 -- the lines of a log, files, or objects of some kinds
@@ -13,7 +13,7 @@ pub data Offer : Type 0 where
   OffersObjects : List ObjectKind → Offer
 
 -- what the servers of a service offer that the machine has built in
-abbrev pub offer_of_service : Service → Offer
+abbrev pub offer_of_service : BuiltInService → Offer
 offer_of_service Log = OffersLog
 offer_of_service Files = OffersFiles
 

@@ -13,7 +13,7 @@ use Rattle.run_engine.specs.Runs.{Completes, EndsWith, KeepsWorld, Runs}
 use Rattle.run_lines.specs.Causes.{HasCause, StopsFor, is_write_fault}
 use Rattle.run_devices.specs.RunOutput.{AppendsPart}
 use Rattle.run_lines.specs.Faults.{is_write_fault as is_unwritten, play_fault}
-use Rattle.run_engine.specs.declared.engine.RunSummary.{RunSummary}
+use Rattle.run_engine.specs.declared.engine.Summary.{Summary}
 use Rattle.run_lines.proofs.CauseLemmas.{within_bounds}
 use Rattle.run_lines.proofs.FaultLemmas.{or_first}
 use Rattle.run_lines.specs.LineRuns.{EndsAs, PlaysAll, StopsAs, StopsAt, WritesOutput}
@@ -126,14 +126,14 @@ not_stopped only fault {max_lines = max_lines} old {input = Some text} {rest = r
 -- ---- all that is promised of a run
 
 -- what a failed write is told as
-write_told : (fault : RunFault) → is_unwritten (Some (play_fault fault)) ≡ is_write_fault {T = RunSummary} (Err fault)
+write_told : (fault : RunFault) → is_unwritten (Some (play_fault fault)) ≡ is_write_fault {T = Summary} (Err fault)
 write_told ReadFault = refl
 write_told WriteFault = refl
 write_told TooManyLines = refl
 
 module _ {only : Option (List ℕ)} {leads : List (List ℕ) → Type 0} {stops : LineRunFault → List (List ℕ) → Type 0} {count max_lines : ℕ} {old new : World} {input rest : Option (List ℕ)} {failed write_failed : Bool} {written now_written : Option (List ℕ)}
     (led : IsLed only old new leads stops) where
-  runs_at : (fault : Option LineRunFault) (result : Result RunSummary RunFault) → EndsWith fault count result → PlaysAll (output_of_lines only old) leads stops fault count max_lines [] input rest failed written now_written →
+  runs_at : (fault : Option LineRunFault) (result : Result Summary RunFault) → EndsWith fault count result → PlaysAll (output_of_lines only old) leads stops fault count max_lines [] input rest failed written now_written →
       (write_failed || false) ≡ is_unwritten fault → IfNone fault (failed ≡ false) → count ≤ max_lines → Runs only result max_lines old new input rest failed write_failed written now_written
   runs_at fault (Ok summary) ends plays writing reading few =
       let at : PlaysAll (output_of_lines only old) leads stops None count max_lines [] input rest failed written now_written =
@@ -171,7 +171,7 @@ module _ {A : Type 0} (only : Option (List ℕ)) (old new : World) {count max_li
   stops_so f lines = (f ≡ Unwritten) × (new ≡ after_all only old lines)
 
   -- with nothing gathered before
-  pub runs : (write_failed : Bool) (result : Result RunSummary RunFault) → front ≡ [] → EndsWith fault count result →
+  pub runs : (write_failed : Bool) (result : Result Summary RunFault) → front ≡ [] → EndsWith fault count result →
       (write_failed || false) ≡ is_unwritten fault → IfNone fault (failed ≡ false) → count ≤ max_lines → Runs only result max_lines old new input rest failed write_failed written now_written
   runs write_failed result none ends writing reading few =
       runs_at {leads = leads_so} {stops = stops_so} (record { on = λ lines led. led.1; stopped = λ f lines stopped. stopped }) fault result ends

@@ -13,7 +13,7 @@ use Rattle.run_lines.specs.Causes.{is_write_fault, HasCause}
 use Rattle.run_lines.specs.declared.line_run_fault.LineRunFault.{LineRunFault}
 use Rattle.run_lines.specs.declared.run_fault.RunFault.{RunFault}
 use Rattle.run_lines.specs.declared.run_fault.RunFault.TheVariants.{ReadFault, WriteFault}
-use Rattle.run_engine.specs.declared.engine.RunSummary.{RunSummary}
+use Rattle.run_engine.specs.declared.engine.Summary.{Summary}
 
 -- a run came to the end of its input
 pub record Completes (only : Option (List ℕ)) (lines : ℕ) (old new : World) (input : List ℕ)
@@ -39,17 +39,17 @@ pub record KeepsWorld (old new : World) : Type 0 where
   pub shares : (machine : StartList) → IsBalancedFor machine old → IsBalancedFor machine new
 
 -- the fault of devices that had failed before: the writer's first
-abbrev pub FaultBefore : Result RunSummary RunFault → Bool → Bool → Type 0
+abbrev pub FaultBefore : Result Summary RunFault → Bool → Bool → Type 0
 FaultBefore result read_failed write_failed =
     result ≡ Err (if write_failed then WriteFault else ReadFault)
 
 -- a run ends as its run of this number of lines with a line handler does
-abbrev pub EndsWith : Option LineRunFault → ℕ → Result RunSummary RunFault → Type 0
+abbrev pub EndsWith : Option LineRunFault → ℕ → Result Summary RunFault → Type 0
 EndsWith fault lines (Ok summary) = (fault ≡ None) × (summary.lines ≡ lines)
 EndsWith fault lines (Err stopped) = fault ≡ Some (play_fault stopped)
 
 -- all lines of an input, or a name's alone, are run to its end or to a fault
-pub record Runs (only : Option (List ℕ)) (result : Result RunSummary RunFault) (max_lines : ℕ) (old new : World)
+pub record Runs (only : Option (List ℕ)) (result : Result Summary RunFault) (max_lines : ℕ) (old new : World)
     (input rest : Option (List ℕ)) (read_failed write_failed : Bool) (written now_written : Option (List ℕ)) : Type 0 where
   pub few : IfOk result (λ summary. summary.lines ≤ max_lines)
   pub done : IfOk result (λ summary. IfSome input (λ text.

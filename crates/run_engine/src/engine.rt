@@ -21,7 +21,7 @@ use run_lines::{
 
 /// The result of a run that reached the end of its input.
 #[derive(Clone, Copy, PartialEq, Eq)]
-pub struct RunSummary {
+pub struct Summary {
     /// The number of lines that were answered, or skipped if only one name's lines are answered.
     pub lines: u64,
 }
@@ -44,7 +44,7 @@ pub fn run<R: Router + Drop, S: Source, K: Sink>(
     reader: &mut S,
     writer: &mut K,
     max_lines: u64,
-) -> Result<RunSummary, RunFault>
+) -> Result<Summary, RunFault>
     requires listed { core.old.entries ≡ entries_of (start_list_of list.now) }
     ensures few { IfOk result (λ summary. summary.lines ≤ max_lines) }
     ensures done { IfOk result (λ summary. IfSome (S.remaining reader.old) (λ input.
@@ -81,7 +81,7 @@ pub fn run_selected<R: Router + Drop, S: Source, K: Sink>(
     reader: &mut S,
     writer: &mut K,
     max_lines: u64,
-) -> Result<RunSummary, RunFault>
+) -> Result<Summary, RunFault>
     requires listed { core.old.entries ≡ entries_of (start_list_of run.now.list.now) }
     ensures runs { Runs (option_copied run.now.only) result max_lines core.old core.new
         (S.remaining reader.old) (S.remaining reader.new)
@@ -104,12 +104,12 @@ pub fn run_selected<R: Router + Drop, S: Source, K: Sink>(
 }
 
 // The result of a run or its fault. The engine never asks the host for memory.
-fn outcome(played: LineRunResult) -> Result<RunSummary, RunFault>
+fn outcome(played: LineRunResult) -> Result<Summary, RunFault>
     requires room { IfSome played.fault (λ fault. fault ≢ NoRoom) }
     ensures { EndsWith played.fault played.lines result }
 {
     match played.fault {
-        None => Ok(RunSummary {
+        None => Ok(Summary {
             lines: played.lines,
         }),
         Some(LineRunFault::ReadFault) => Err(RunFault::ReadFault),

@@ -6,5 +6,5 @@
 mod engine;
 mod one_component;
 
-pub use engine::{RunSummary, run, run_selected};
+pub use engine::{Summary, run, run_selected};
 pub use one_component::run_only;

@@ -6,7 +6,7 @@ ghost use Rattle.run_engine.specs.Runs.{Completes, FaultBefore, KeepsWorld};
 ghost use Rattle.run_lines.specs.Causes.{HasCause, is_write_fault};
 ghost use Rattle.run_engine.specs.Stops.{Stops};
 
-use crate::engine::{RunSummary, run_selected};
+use crate::engine::{Summary, run_selected};
 use core_calls::Reply;
 use list_parser::StartList;
 use run_lines::{Core, LineDispatcher, Router, RunFault, Sink, Source};
@@ -23,7 +23,7 @@ pub fn run_only<R: Router + Drop, S: Source, K: Sink>(
     reader: &mut S,
     writer: &mut K,
     max_lines: u64,
-) -> Result<RunSummary, RunFault>
+) -> Result<Summary, RunFault>
     requires listed { core.old.entries ≡ entries_of (start_list_of list.now) }
     ensures few { IfOk result (λ summary. summary.lines ≤ max_lines) }
     ensures done { IfOk result (λ summary. IfSome (S.remaining reader.old) (λ input.

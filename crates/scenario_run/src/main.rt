@@ -4,9 +4,9 @@
 
 pub use cli_engine::{
     ConfigFault, DeviceFault, Input, LONGEST_CONFIG_READ, MAX_LINES, Options, Output, ProgramEnd,
-    RunFault, RunSummary, Sink, Source, Task, TaskFailure, UnfinishedTask, boot_and_run,
-    exit_status, read_config, read_config_at, read_line, run, run_bytes, run_only, run_program,
-    task_of, write_accounts,
+    RunFault, Sink, Source, Summary, Task, TaskFailure, UnfinishedTask, boot_and_run, exit_status,
+    read_config, read_config_at, read_line, run, run_bytes, run_only, run_program, task_of,
+    write_accounts,
 };
 
 fn main(rt: HostRuntime) -> ProgramEnd {

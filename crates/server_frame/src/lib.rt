@@ -13,6 +13,6 @@ pub use dataspace_core::Memory;
 pub use effect::Effect;
 pub use region_map::RegionMap;
 pub use server::Server;
-pub use service::SessionService;
+pub use service::Service;
 pub use sliced_heap::SlicedHeap;
 pub use theorems::{lent_bytes_are_the_clients, sessions_find_places};

@@ -13,7 +13,7 @@ ghost use Rattle.server_frame.specs.Frame.{sessions_of, row_served, AtSession, I
 ghost use Rattle.server_frame.specs.SessionBuffer.{key_of};
 
 use crate::effect::Effect;
-use crate::service::SessionService;
+use crate::service::Service;
 use crate::session_account::{close_session_account, open_session_account, test_donation};
 use core_calls::{LONGEST_LABEL, Reply};
 use dataspace_core::Memory;
@@ -32,13 +32,13 @@ struct Session<T: Drop> {
 
 /// A server: a service, its sessions, and the map at which all that they store is attached.
 #[derive(Drop)]
-pub struct Server<S: SessionService + Drop> {
+pub struct Server<S: Service + Drop> {
     service: S,
     sessions: Slab<Session<S::State>>,
     map: RegionMap,
 }
 
-impl<S: SessionService + Drop> Server<S> {
+impl<S: Service + Drop> Server<S> {
     /// Returns a server without sessions, with at least `sessions` places, for a machine of `pages` pages. Returns
     /// `NoMemory` if the host is out of memory. No later call allocates memory of the host.
     pub fn boot(

@@ -19,7 +19,7 @@ use trade_base::DsId;
 ///
 /// All memory that a service stores for a session is charged to the session's account. A session may share one dataspace of
 /// that account with its client, its buffer. The client writes to the buffer between requests.
-pub trait SessionService {
+pub trait Service {
     /// What the service stores for a session outside the memory.
     type State: Drop;
 

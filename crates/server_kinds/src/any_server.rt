@@ -18,9 +18,9 @@ use file_service::FileService;
 use log_service::LogService;
 use object_kinds::ObjectKind;
 use object_service::ObjectService;
-use server_frame::{Effect, LONGEST_LABEL, Memory, Reply, Server, SessionService};
+use server_frame::{Effect, LONGEST_LABEL, Memory, Reply, Server, Service};
 use std::alloc::Global;
-use trade_base::{AccountId, Caps, DsId, NoMemory, Ram, Refusal, Service, SessionId};
+use trade_base::{AccountId, BuiltInService, Caps, DsId, NoMemory, Ram, Refusal, SessionId};
 
 /// A server of any service. Its calls are those of `Server`.
 #[derive(Drop)]
@@ -43,7 +43,7 @@ impl AnyServer {
     #[tactic(auto, using(crate::proofs::HostLaws::new_host))]
     pub fn boot(
         alloc: Global,
-        service: Service,
+        service: BuiltInService,
         sessions: usize,
         pages: usize,
     ) -> Result<AnyServer, NoMemory>
@@ -54,11 +54,11 @@ impl AnyServer {
             IsNew store host) }
     {
         match service {
-            Service::Log => {
+            BuiltInService::Log => {
                 let server = Server::boot(alloc, LogService, sessions, pages)?;
                 Ok(AnyServer::Log(server))
             }
-            Service::Files => {
+            BuiltInService::Files => {
                 let server = Server::boot(alloc, FileService, sessions, pages)?;
                 Ok(AnyServer::Files(server))
             }
@@ -233,7 +233,7 @@ impl AnyServer {
 }
 
 // Opens a session of any server. Its contract is one fact, so that the proof is the same for all servers.
-fn open<S: SessionService + Drop>(
+fn open<S: Service + Drop>(
     server: &mut Server<S>,
     memory: &mut Memory,
     client: AccountId,

@@ -20,7 +20,7 @@ pub use buffer_requests::error_of;
 pub use contents::ContentRange;
 pub use node::{LONGEST_NAME, NODE_SIZE, Node};
 pub use node_list::{FoundNode, NodeList};
-pub use server_frame::{Effect, Memory, RegionMap, SessionService, SlicedHeap};
+pub use server_frame::{Effect, Memory, RegionMap, Service, SlicedHeap};
 pub use session_buffer::SessionBuffer;
 pub use session_heaps::SessionHeaps;
 pub use write_source::WriteSource;

@@ -14,4 +14,4 @@ pub use block::{BLOCK_HEADER, FILE_NODE, LEAST_BLOCK, LEAST_LARGE, SLICED_HEADER
 pub use id::{AccountId, Caps, DsId, Ram, Selector, SessionId};
 pub use page::{PAGE, page_round, page_rounding_is_least};
 pub use refusal::{NoMemory, Refusal};
-pub use service::{SERVICES, Service};
+pub use service::{BuiltInService, SERVICES};

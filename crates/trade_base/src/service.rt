@@ -1,7 +1,7 @@
 //! The services of servers: the only table of their names.
 /// The service that a server provides to its clients.
 #[derive(Clone, Copy, Debug, PartialEq, Eq)]
-pub enum Service {
+pub enum BuiltInService {
     /// The service that writes the lines of each session.
     Log,
     /// The service that stores the files of each session.
@@ -9,9 +9,9 @@ pub enum Service {
 }
 
 /// All services, in the order in which output lists them.
-pub const SERVICES: [Service; 2] = [Service::Log, Service::Files];
+pub const SERVICES: [BuiltInService; 2] = [BuiltInService::Log, BuiltInService::Files];
 
-impl Service {
+impl BuiltInService {
     ghost use Rattle.std.specs.Prelude.{◌≡◌};
     ghost use Rattle.trade_base.specs.Service.{binary_name, served_by_binary, service_name};
 
@@ -20,8 +20,8 @@ impl Service {
         ensures { result.now ≡ service_name self }
     {
         match self {
-            Service::Log => "LOG",
-            Service::Files => "File_system",
+            BuiltInService::Log => "LOG",
+            BuiltInService::Files => "File_system",
         }
     }
 
@@ -30,13 +30,13 @@ impl Service {
         ensures { result.now ≡ binary_name self }
     {
         match self {
-            Service::Log => "log",
-            Service::Files => "files",
+            BuiltInService::Log => "log",
+            BuiltInService::Files => "files",
         }
     }
 
     /// Returns the service that the binary of this name provides, or `None` if there is none.
-    pub fn of_binary(name: &str) -> Option<Service>
+    pub fn of_binary(name: &str) -> Option<BuiltInService>
         ensures { result ≡ served_by_binary name.now }
     {
         SERVICES

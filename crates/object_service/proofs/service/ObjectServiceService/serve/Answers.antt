@@ -2,7 +2,7 @@
 use Rattle.session_nodes.specs.Frame.{holding_of}
 use Rattle.session_nodes.proofs.ReadyLemmas.{are_kept, are_sound, is_lent}
 use Rattle.session_nodes.proofs.SourceLemmas.{keeps_buffer}
-use Rattle.object_service.proofs.service.ObjectServiceSessionService.serve.Goals as goal
+use Rattle.object_service.proofs.service.ObjectServiceService.serve.Goals as goal
 
 pub answer-requires-clause-ready : goal.answer-requires-clause-ready
 answer-requires-clause-ready c =

@@ -1,7 +1,7 @@
--- The buffer is freed, and then the nodes.
+-- What is lent goes, and then the nodes.
 use Rattle.session_nodes.proofs.ReadyLemmas.{are_sound, is_lent}
 use Rattle.session_nodes.specs.Frame.{keeps_then}
-use Rattle.object_service.proofs.service.ObjectServiceSessionService.end.Goals as goal
+use Rattle.file_service.proofs.service.FileServiceService.end.Goals as goal
 
 pub give_any-requires-clause-furnished : goal.give_any-requires-clause-furnished
 give_any-requires-clause-furnished c = are_sound _ _ _ c.requires.account c.requires.kept.heaps c.lies_apart.ensures.sound

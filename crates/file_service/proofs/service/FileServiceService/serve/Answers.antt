@@ -2,7 +2,7 @@
 use Rattle.session_nodes.specs.Frame.{heap_account, holding_of}
 use Rattle.session_nodes.proofs.ReadyLemmas.{are_kept, are_sound, is_lent}
 use Rattle.session_nodes.proofs.SourceLemmas.{keeps_buffer}
-use Rattle.file_service.proofs.service.FileServiceSessionService.serve.Goals as goal
+use Rattle.file_service.proofs.service.FileServiceService.serve.Goals as goal
 
 pub answer-requires-clause-ready : goal.answer-requires-clause-ready
 answer-requires-clause-ready c =
