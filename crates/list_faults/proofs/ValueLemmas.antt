@@ -1,6 +1,6 @@
 -- The entries of lists, as they stand in a text.
-use Rattle.std.proofs.Common.{◌≡◌, ℕ, zero, suc, ◌+◌, ◌-◌, ◌<◌, true, false, Bool, cond, List, [], ◌∷◌, ◌++◌, drop, flat_map, get_or, length, map, codes, Option, Some, refl, sym, ap, ◌∙◌, arith}
-use Rattle.std.specs.List.{enumerate_from, find}
+use Rattle.std.proofs.Common.{◌≡◌, ℕ, zero, suc, ◌+◌, ◌-◌, ◌<◌, true, false, List, [], ◌∷◌, ◌++◌, drop, flat_map, get_or, length, map, codes, Option, Some, refl, sym, ap, ◌∙◌, arith}
+use Rattle.std.specs.List.{enumerate_from}
 use Rattle.std.specs.Option.{option_and_then}
 use Rattle.std.proofs.lemmas.List.{append_assoc, drop_more, get_or-map, length-map}
 use Rattle.serde_json.specs.Data.{Data}
@@ -21,17 +21,6 @@ pub left_from : {X A : Type 0} (v : X → A) (xs : List X) (i : ℕ) (x : X) →
 left_from v xs i x inside is =
     let seen_inside : i < length (map v xs) = omega (arith, length-map xs v) in
     drop_more (map v xs) i (v x) seen_inside ∙ ap (λ y. y ∷ drop (i + 1) (map v xs)) (get_or-map v xs i x (v x) inside ∙ ap v (sym is))
-
--- the first that passes is here, or later
-module _ {X A : Type 0} (v : X → A) (p : ℕ × A → Bool) (xs : List X) (i : ℕ) (x : X) (inside : i < length xs) (is : x ≡ get_or xs i x) where
-  here_or_later : find p (enumerate_from i (drop i (map v xs))) ≡ cond (p (i, v x)) (Some (i, v x)) (find p (enumerate_from (i + 1) (drop (i + 1) (map v xs))))
-  here_or_later = ap (λ left. find p (enumerate_from i left)) (left_from v xs i x inside is)
-
-  pub found_here : p (i, v x) ≡ true → find p (enumerate_from i (drop i (map v xs))) ≡ Some (i, v x)
-  found_here passes = here_or_later ∙ ap (λ b. cond b (Some (i, v x)) (find p (enumerate_from (i + 1) (drop (i + 1) (map v xs))))) passes
-
-  pub found_later : p (i, v x) ≡ false → find p (enumerate_from i (drop i (map v xs))) ≡ find p (enumerate_from (i + 1) (drop (i + 1) (map v xs)))
-  found_later fails = here_or_later ∙ ap (λ b. cond b (Some (i, v x)) (find p (enumerate_from (i + 1) (drop (i + 1) (map v xs))))) fails
 
 -- one more of what is told place by place, of values as they are seen
 pub place_more : {X A B : Type 0} (v : X → A) (f : ℕ × A → List B) (told now : List B) (xs : List X) (i : ℕ) (x : X) → i < length xs → x ≡ get_or xs i x

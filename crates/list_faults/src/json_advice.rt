@@ -2,8 +2,8 @@
 use text_codec::skip_bytes;
 
 /// Returns what JSON expects at the column of a line of a text, both from 1 on, or which part the text has there that other formats
-/// allow.
-pub(crate) fn json_advice(text: &[u8], line: usize, column: usize) -> &'static str {
+/// allow. The flag states that the text ends there.
+pub(crate) fn json_advice(text: &[u8], line: usize, column: usize, is_end: bool) -> &'static str {
     let mut place = column.saturating_sub(1);
     for line in text
         .split(|byte| *byte == b'\n')
@@ -25,10 +25,13 @@ pub(crate) fn json_advice(text: &[u8], line: usize, column: usize) -> &'static s
     for byte in text.iter().take(place) {
         scan.pass(*byte);
     }
-    let is_end = rest.starts_with(b"}") || rest.starts_with(b"]");
+    let is_closed = rest.starts_with(b"}") || rest.starts_with(b"]");
     match (scan.next, scan.container()) {
-        (NextToken::Value | NextToken::Name, Some(_)) if is_end && scan.objects > 1 => {
+        (NextToken::Value | NextToken::Name, Some(_)) if is_closed && scan.objects > 1 => {
             "JSON has no comma after the last element"
+        }
+        (NextToken::Scalar, _) if !is_end && follows_number(text, place) => {
+            "expected a number that a double can hold"
         }
         (NextToken::Value | NextToken::Scalar, _) => "expected a value",
         (NextToken::FirstValue, _) => "expected a value or `]`",
@@ -40,6 +43,14 @@ pub(crate) fn json_advice(text: &[u8], line: usize, column: usize) -> &'static s
         (NextToken::Behind, Some(false)) => "expected `,` or `]`",
         (NextToken::Behind, None) => "expected the end of the text",
     }
+}
+
+// Whether a number ends before a place.
+fn follows_number(text: &[u8], place: usize) -> bool {
+    let before = text.get(place.saturating_sub(1)).copied().unwrap_or(0);
+    let after = text.get(place).copied().unwrap_or(0);
+    before.is_ascii_digit()
+        && !(after.is_ascii_alphanumeric() || after == b'.' || after == b'+' || after == b'-')
 }
 
 // What comes next in a JSON text.

@@ -1,4 +1,4 @@
-//! Faults of start lists: for a text that is no start list or doesn't boot, the part of the list and what was expected there.
+//! Faults of start lists for people who write them: the part of the list, what was expected there, and what was found.
 //! `list_review` calls it for `check`.
 //!
 //! ```text
@@ -6,19 +6,14 @@
 //! ```
 #![tactic(auto)]
 
-mod expected_value;
+mod expected_text;
+mod found_value;
 mod json_advice;
-mod kind_flaw;
 mod list_fault;
-mod rule_flaw;
 mod value_flaw;
-mod value_kind;
 mod values;
 
-pub use expected_value::ExpectedValue;
-pub use kind_flaw::faults_of_kinds_are_the_engines;
-pub use list_fault::{FaultPlace, JsonReason, ListFault};
-pub use rule_flaw::faults_of_rules_are_the_engines;
-pub use value_flaw::{ValueFlaw, faults_have_places};
-pub use value_kind::ValueKind;
+pub use found_value::FoundValue;
+pub use list_fault::{FaultSite, JsonFlaw, PlacedFault};
+pub use value_flaw::{ValueFlaw, member_name};
 pub use values::{EntryValue, elements, find_entries, member, runs};

@@ -3,13 +3,13 @@ use Rattle.std.proofs.Common.{◌≡◌, ℕ, ◌+◌, Bool, true, false, cond, 
 use Rattle.std.specs.Prelude.{find}
 use Rattle.std.specs.List.{list_any, slice_get}
 use Rattle.trade_base.specs.Service.{service_name}
-use Rattle.trade_base.specs.declared.service.Service.{Service}
+use Rattle.trade_base.specs.declared.service.BuiltInService.{BuiltInService}
 use Rattle.own_model.proofs.ServiceLemmas.{is_named}
 use Rattle.list_parser.specs.Members.{name_in}
 use Rattle.list_reach.proofs.ServiceLemmas.{left_from_got}
 
 -- each is read as a name
-pub service_is_named : (service : Service) → name_in (service_name service) ≡ Some (service_name service)
+pub service_is_named : (service : BuiltInService) → name_in (service_name service) ≡ Some (service_name service)
 service_is_named service = ap (λ b. cond b (Some (service_name service)) None) (is_named service)
 
 -- the first that passes is here, or later

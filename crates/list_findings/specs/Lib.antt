@@ -4,9 +4,14 @@ pub mod Idle
 pub mod Near
 pub mod Outer
 pub mod Reached
+pub mod JsonKeys
+pub mod KeyPlaces
 pub mod Repeated
 pub mod Spare
+pub mod Objects
 pub mod Unread
+pub mod Expectations
+pub mod AllFindings
 pub mod Views
 pub mod RuleTargets
 pub mod Phrases

@@ -65,6 +65,7 @@ phrase_of (remark.LowCaps own kept) = said [] (Caps own kept) (codes " capabilit
 phrase_of remark.MachinesName = said (codes "name: `init` is the machine's own account in account lists") Nothing [] None
 phrase_of (remark.PartPages ram) = said (codes "quantum: expected whole pages of 4096 bytes, found ") (Number ram) (codes " bytes") None
 phrase_of (remark.PartReserve ram) = said (codes "reserve: expected whole pages of 4096 bytes, found ") (Number ram) (codes " bytes") None
+phrase_of (remark.Unmet name) = said (codes "_expected: no finding of this part is named `") (Escaped name) (codes "`") None
 
 -- a component, and the service that it doesn't provide
 abbrev pub service_text : List ℕ → List ℕ → List ℕ

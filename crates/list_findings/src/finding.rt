@@ -124,6 +124,8 @@ pub enum Remark {
     PartPages(u64),
     /// The RAM of the reserve isn't whole pages.
     PartReserve(u64),
+    /// The list expects a finding of this name that there isn't. The name is empty for what is no text.
+    Unmet(FindingText),
 }
 
 impl fmt::Display for Remark {
@@ -138,6 +140,32 @@ impl fmt::Display for Remark {
 }
 
 impl Remark {
+    ghost use Rattle.list_findings.specs.Expectations.{remark_name};
+
+    /// Returns the name by which a list expects a finding with the remark: the front of its text.
+    pub(crate) fn name(&self) -> &'static str
+        ensures { result.now ≡ remark_name self.now }
+    {
+        match self {
+            Remark::GivenTwice(_) => "duplicate member",
+            Remark::Unread(_, _) => "unknown member",
+            Remark::NoChild(_, _) | Remark::NotProvided(_, _) => "child",
+            Remark::NoProvider(_) | Remark::SeveralProviders(_) => "any-child",
+            Remark::Hidden(_) | Remark::NoLabel(_) | Remark::Arrow => "unreachable rule",
+            Remark::OtherCase(_, _) => "service",
+            Remark::Idle => "unused rule",
+            Remark::LetsIn(_, _) => "label_prefix",
+            Remark::ChosenEnd => "label_suffix",
+            Remark::NotProviding(_) => "provides",
+            Remark::Unreached => "unused server",
+            Remark::LowRam(_, _) | Remark::PartPages(_) => "quantum",
+            Remark::LowCaps(_, _) => "caps",
+            Remark::MachinesName => "name",
+            Remark::PartReserve(_) => "reserve",
+            Remark::Unmet(_) => "_expected",
+        }
+    }
+
     // The text before the value.
     fn before(&self) -> &'static str
         ensures { result.now ≡ (phrase_of self.now).before }
@@ -168,6 +196,7 @@ impl Remark {
             Remark::MachinesName => "name: `init` is the machine's own account in account lists",
             Remark::PartPages(_) => "quantum: expected whole pages of 4096 bytes, found ",
             Remark::PartReserve(_) => "reserve: expected whole pages of 4096 bytes, found ",
+            Remark::Unmet(_) => "_expected: no finding of this part is named `",
         }
     }
 
@@ -176,8 +205,8 @@ impl Remark {
         ensures { value_at result ≡ (phrase_of self.now).value }
     {
         match self {
-            Remark::GivenTwice(member) | Remark::Unread(member, _) => {
-                RemarkValue::Escaped(member.as_str())
+            Remark::GivenTwice(text) | Remark::Unread(text, _) | Remark::Unmet(text) => {
+                RemarkValue::Escaped(text.as_str())
             }
             Remark::NoChild(name, _)
             | Remark::NoProvider(name)
@@ -211,7 +240,8 @@ impl Remark {
             | Remark::NoChild(_, _)
             | Remark::NotProvided(_, _)
             | Remark::NoProvider(_)
-            | Remark::OtherCase(_, _) => "`",
+            | Remark::OtherCase(_, _)
+            | Remark::Unmet(_) => "`",
             Remark::SeveralProviders(_) => "`, so the request is denied",
             Remark::Hidden(_) => "] of this list decides each of its requests first",
             Remark::NoLabel(_) => ": no label has this text",

@@ -30,7 +30,7 @@ const SESSION_RAM: u64 = 4096;
 const SESSION_CAPS: u32 = 2;
 
 /// Adds the findings of a start list, in the order of its parts. Fails if the host is out of memory.
-pub fn add_findings(
+pub(crate) fn add_findings(
     found: &mut Vec<Finding>,
     alloc: Global,
     list: &StartList,

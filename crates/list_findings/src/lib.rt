@@ -8,12 +8,17 @@
 
 mod decision_views;
 mod duplicate_members;
+mod expectations;
 mod finding;
+mod finding_list;
 mod findings;
 mod idle_rules;
+mod json_keys;
+mod key_places;
 mod members;
 mod missing_targets;
 mod near;
+mod object_parts;
 mod outer_lists;
 mod placed_rule;
 mod reached;
@@ -23,9 +28,7 @@ mod unreachable_rules;
 mod unread_members;
 mod unused_budget;
 
-pub use duplicate_members::add_duplicates;
 pub use finding::{Finding, FindingText, Remark, StaticName};
-pub use findings::add_findings;
+pub use finding_list::all_findings;
 pub use unreachable_rules::unreachable_rules_never_decide;
-pub use unread_members::add_unread;
 pub use unused_budget::{Advice, UnusedBudget, spare_of};

@@ -4,7 +4,7 @@ ghost use Rattle.trade_base.specs.Service.{service_name};
 ghost use Rattle.list_parser.specs.Services.{service_text};
 
 use list_parser::{ListService, Name};
-use trade_base::Service;
+use trade_base::BuiltInService;
 
 /// Returns the name of a service of a list.
 pub(crate) fn name_of(service: ListService<'_>) -> Option<Name>
@@ -18,7 +18,7 @@ pub(crate) fn name_of(service: ListService<'_>) -> Option<Name>
 
 /// Returns the name of a service that the machine has built in.
 #[tactic(auto, using(crate::proofs::ServiceNames::service_is_named))]
-pub(crate) fn built_in_name(service: Service) -> Option<Name>
+pub(crate) fn built_in_name(service: BuiltInService) -> Option<Name>
     ensures { result ≡ Some (service_name service) }
 {
     Name::read(service.name())

@@ -11,24 +11,25 @@ use Rattle.own_model.specs.Listed.Binary.{Script, Server, Init}
 use Rattle.own_model.specs.Text.{is_name, is_name_byte}
 use Rattle.own_model.specs.Offer.{Offer}
 use Rattle.list_parser.specs.Depth.{runs_init}
-use Rattle.list_parser.specs.Entries.{◌>>=◌, EntryHead, ListConfig, ListPlace, SoFar, behind, default_route, head_of, is_taken, list_of_entry, new_name, nothing_own, object_of, offer_with, own_of, own_route, provider_of, reserve_of_entry, starts_in, value_or, with_kinds, word_of_entry}
+use Rattle.list_parser.specs.Entries.{EntryHead, ListConfig, ListPlace, SoFar, behind, default_route, head_of, is_taken, list_of_entry, new_name, nothing_own, object_of, offer_with, own_of, own_route, provider_of, provides_expected, reserve_of_entry, starts_in, taken_name, with_kinds, word_of_entry}
 use Rattle.list_parser.specs.HeadParts.{head_in_parts}
 use Rattle.list_parser.specs.Members.{amount_at, at_most_32, elements, is_object, name_at, name_in, name_of, whole_at}
-use Rattle.list_parser.specs.declared.fault.BootFault.{BootFault}
-use Rattle.list_parser.specs.declared.fault.BootFault.TheVariants.{BadConfig, DuplicateName}
+use Rattle.list_parser.specs.declared.list_fault.ExpectedValue.TheVariants as expect
+use Rattle.list_parser.specs.declared.list_fault.ListFault.{ListFault}
+use Rattle.list_parser.specs.FaultPlace.{◌>>=◌, bad, in_config, value_or}
 use Rattle.list_parser.specs.declared.fault.ConfigField.TheVariants as field
 
 -- ---- steps that may fail
 
 -- P holds of what is given, if anything is
-pub record Gives {A : Type 0} (P : A → Type 0) (r : Result A BootFault) : Type 0 where
+pub record Gives {A E : Type 0} (P : A → Type 0) (r : Result A E) : Type 0 where
   pub given : IfOk r P
 
-pub gave : {A B : Type 0} {P : B → Type 0} {f : A → Result B BootFault} (r : Result A BootFault) → ((x : A) → r ≡ Ok x → Gives P (f x)) → Gives P (r >>= f)
+pub gave : {A B E : Type 0} {P : B → Type 0} {f : A → Result B E} (r : Result A E) → ((x : A) → r ≡ Ok x → Gives P (f x)) → Gives P (r >>= f)
 gave (Ok x) more = more x refl
 gave (Err fault) more = record { given = tt }
 
-pub value_ok : {A : Type 0} (fault : BootFault) (o : Option A) (x : A) → value_or fault o ≡ Ok x → o ≡ Some x
+pub value_ok : {A E : Type 0} (fault : E) (o : Option A) (x : A) → value_or fault o ≡ Ok x → o ≡ Some x
 value_ok fault None x is = cc
 value_ok fault (Some y) x is = let same : y ≡ x = cc in ap Some same
 
@@ -37,7 +38,7 @@ value_ok fault (Some y) x is = let same : y ≡ x = cc in ap Some same
 -- a name that is new is the one that is told, and isn't taken
 pub new_is : (before : List ListedEntry) (init : ℕ) (told name : List ℕ) → new_name before init told ≡ Ok name → (told ≡ name) × (is_taken before init name ≡ false)
 new_is before init told name is = by_taken (is_taken before init told) refl is where
-  by_taken : (b : Bool) → is_taken before init told ≡ b → let r : Result (List ℕ) BootFault = if b then Err (DuplicateName told) else Ok told in r ≡ Ok name → (told ≡ name) × (is_taken before init name ≡ false)
+  by_taken : (b : Bool) → is_taken before init told ≡ b → let r : Result (List ℕ) ListFault = if b then Err (taken_name told) else Ok told in r ≡ Ok name → (told ≡ name) × (is_taken before init name ≡ false)
   by_taken true taken given = cc
   by_taken false free given = let same : told ≡ name = cc in (same, subst (λ n. is_taken before init n ≡ false) same free)
 
@@ -80,12 +81,12 @@ starts_few met (Some d) starts is = by_items (as_array d) is where
 
 pub own_few : (met : ℕ) (d : Data) (own : ListConfig) → own_of met d ≡ Ok own → met + length own.starts ≤ 32
 own_few met d own is = by_both (default_route (get (codes "default-route") d)) (starts_in met (get (codes "start") d)) refl is where
-  by_both : (route : Option (List ListedRule)) (starts : Option (List Data)) → starts_in met (get (codes "start") d) ≡ starts
-      → (value_or (BadConfig field.DefaultRoute) route >>= (λ r. value_or (BadConfig field.Start) starts >>= (λ s. let o : Result ListConfig BootFault = Ok (record { route = r; starts = s }) in o))) ≡ Ok own
+  by_both : (route : Result (List ListedRule) ListFault) (starts : Option (List Data)) → starts_in met (get (codes "start") d) ≡ starts
+      → (route >>= (λ r. value_or (bad field.Start expect.Entries) starts >>= (λ s. let o : Result ListConfig ListFault = Ok (record { route = r; starts = s }) in o))) ≡ Ok own
       → met + length own.starts ≤ 32
-  by_both None starts its given = cc
-  by_both (Some r) None its given = cc
-  by_both (Some r) (Some s) its given =
+  by_both (Err fault) starts its given = cc
+  by_both (Ok r) None its given = cc
+  by_both (Ok r) (Some s) its given =
       let same : ◌≡◌ {A = ListConfig} (record { route = r; starts = s }) own = cc in
       subst (λ (o : ListConfig). met + length o.starts ≤ 32) same (starts_few met (get (codes "start") d) s its)
 
@@ -99,20 +100,24 @@ told_starts : (binary : Binary) (deeper : Bool) (met : ℕ) (config : Option Dat
     (own.starts ≡ []) ⊎ StartsOthers binary deeper met own.starts
 told_starts Script deeper met config own is = let same : nothing_own ≡ own = cc in inl (sym (ap (λ (o : ListConfig). o.starts) same))
 told_starts (Server service offer) deeper met config own is = let same : nothing_own ≡ own = cc in inl (sym (ap (λ (o : ListConfig). o.starts) same))
-told_starts Init true met (Some d) own is = by_object (is_object d) is where
-  by_object : (b : Bool) → let r : Result ListConfig BootFault = if b then own_of met d else Err (BadConfig field.Config) in r ≡ Ok own → (own.starts ≡ []) ⊎ StartsOthers Init true met own.starts
-  by_object true given = inr (record { deep = refl; init = refl; few = own_few met d own given })
-  by_object false given = cc
-told_starts Init true met None own is = cc
-told_starts Init false met config own is = cc
+told_starts Init deeper met None own is = cc
+told_starts Init deeper met (Some d) own is = by_object (is_object d) deeper is where
+  by_own : (r : Result ListConfig ListFault) → own_of met d ≡ r → in_config r ≡ Ok own → (own.starts ≡ []) ⊎ StartsOthers Init true met own.starts
+  by_own (Ok other) its given = let same : other ≡ own = cc in inr (record { deep = refl; init = refl; few = own_few met d own (its ∙ ap Ok same) })
+  by_own (Err fault) its given = cc
+
+  by_object : (b deep : Bool) → let r : Result ListConfig ListFault = if b then (if deep then in_config (own_of met d) else Err (bad field.Config expect.NoInit)) else Err (bad field.Config expect.Object) in r ≡ Ok own → (own.starts ≡ []) ⊎ StartsOthers Init deep met own.starts
+  by_object true true given = by_own (own_of met d) refl given
+  by_object true false given = cc
+  by_object false deep given = cc
 
 -- a binary is an init exactly if it is one before its kinds are read
-runs_as_before : (binary new : Binary) (member : Option Data) → with_kinds binary member ≡ Some new → runs_init new ≡ runs_init binary
+runs_as_before : (binary new : Binary) (member : Option Data) → with_kinds binary member ≡ Ok new → runs_init new ≡ runs_init binary
 runs_as_before Script new member is = let same : Script ≡ new = cc in ap runs_init (sym same)
 runs_as_before (Server service offer) new member is = by_offer (offer_with offer member) is where
-  by_offer : (o : Option Offer) → option_map (Server service) o ≡ Some new → runs_init new ≡ false
-  by_offer None given = cc
-  by_offer (Some offered) given = let same : Server service offered ≡ new = cc in ap runs_init (sym same)
+  by_offer : (o : Result Offer ListFault) → (o >>= (λ offered. let r : Result Binary ListFault = Ok (Server service offered) in r)) ≡ Ok new → runs_init new ≡ false
+  by_offer (Err fault) given = cc
+  by_offer (Ok offered) given = let same : Server service offered ≡ new = cc in ap runs_init (sym same)
 runs_as_before Init new member is = let same : Init ≡ new = cc in ap runs_init (sym same)
 
 still_starts : (binary new : Binary) (deeper : Bool) (met : ℕ) (starts : List Data) → runs_init new ≡ runs_init binary →
@@ -134,27 +139,27 @@ pub record IsHead (place : ListPlace) (deeper : Bool) (so_far : SoFar) (head : E
 head_gives : (place : ListPlace) (deeper : Bool) (so_far : SoFar) (d : Data) → Gives (IsHead place deeper so_far) (head_of place deeper so_far d)
 head_gives place deeper so_far d =
     gave (object_of d) (λ entry _.
-    gave (value_or (BadConfig field.Name) (name_at (codes "name") entry)) (λ told_name told.
+    gave (value_or (bad field.Name expect.Name) (name_at (codes "name") entry)) (λ told_name told.
     gave (new_name so_far.entries place.init told_name) (λ name new.
     gave (word_of_entry name (get (codes "binary") entry)) (λ word _.
-    gave (value_or (BadConfig field.Quantum) (amount_at (codes "quantum") entry)) (λ ram _.
-    gave (value_or (BadConfig field.Caps) (whole_at (codes "caps") 0 4294967295 entry)) (λ caps _.
-    gave (value_or (BadConfig field.Provides) (provider_of word (get (codes "provides") entry))) (λ provider _.
-    gave (value_or (BadConfig field.Route) (own_route (get (codes "route") entry))) (λ route _.
+    gave (value_or (bad field.Quantum expect.Amount) (amount_at (codes "quantum") entry)) (λ ram _.
+    gave (value_or (bad field.Caps expect.Caps) (whole_at (codes "caps") 0 4294967295 entry)) (λ caps _.
+    gave (value_or (bad field.Provides (provides_expected word)) (provider_of word (get (codes "provides") entry))) (λ provider _.
+    gave (own_route (get (codes "route") entry)) (λ route _.
     gave (reserve_of_entry provider.binary entry) (λ reserve _.
     gave (list_of_entry provider.binary deeper so_far.met (get (codes "config") entry)) (λ own own_is.
-    gave (value_or (BadConfig field.Kinds) (with_kinds provider.binary (get (codes "kinds") entry))) (λ binary kinds_are.
+    gave (with_kinds provider.binary (get (codes "kinds") entry)) (λ binary kinds_are.
     let its = new_is so_far.entries place.init told_name name new in
     record {
       given = record {
         home = refl;
         path = refl;
         label = refl;
-        some = subst (λ n. 0 < length n) its.0 (some_name (get (codes "name") entry) told_name (value_ok (BadConfig field.Name) (name_at (codes "name") entry) told_name told));
+        some = subst (λ n. 0 < length n) its.0 (some_name (get (codes "name") entry) told_name (value_ok (bad field.Name expect.Name) (name_at (codes "name") entry) told_name told));
         new = its.1;
         starts =
             still_starts provider.binary binary deeper so_far.met own.starts
-            (runs_as_before provider.binary binary (get (codes "kinds") entry) (value_ok (BadConfig field.Kinds) (with_kinds provider.binary (get (codes "kinds") entry)) binary kinds_are))
+            (runs_as_before provider.binary binary (get (codes "kinds") entry) kinds_are)
             (told_starts provider.binary deeper so_far.met (get (codes "config") entry) own own_is);
       };
     })))))))))))
@@ -165,11 +170,11 @@ head_is place deeper so_far d head is = subst (λ r. IfOk r (IsHead place deeper
 -- ---- in parts
 
 -- steps within a step, and what comes after them
-then_same : {A B C : Type 0} (r : Result A BootFault) (f : A → Result B BootFault) (g : B → Result C BootFault) (h : A → Result C BootFault) → ((x : A) → (f x >>= g) ≡ h x) → ((r >>= f) >>= g) ≡ (r >>= h)
+then_same : {A B C E : Type 0} (r : Result A E) (f : A → Result B E) (g : B → Result C E) (h : A → Result C E) → ((x : A) → (f x >>= g) ≡ h x) → ((r >>= f) >>= g) ≡ (r >>= h)
 then_same (Ok x) f g h same = same x
 then_same (Err fault) f g h same = refl
 
-same_after : {A B : Type 0} (r : Result A BootFault) (f g : A → Result B BootFault) → ((x : A) → f x ≡ g x) → (r >>= f) ≡ (r >>= g)
+same_after : {A B E : Type 0} (r : Result A E) (f g : A → Result B E) → ((x : A) → f x ≡ g x) → (r >>= f) ≡ (r >>= g)
 same_after (Ok x) f g same = same x
 same_after (Err fault) f g same = refl
 
@@ -177,9 +182,9 @@ same_after (Err fault) f g same = refl
 pub parts_are : (place : ListPlace) (deeper : Bool) (so_far : SoFar) (d : Data) → head_in_parts place deeper so_far d ≡ head_of place deeper so_far d
 parts_are place deeper so_far d =
     same_after (object_of d) _ _ (λ entry.
-    then_same (value_or (BadConfig field.Name) (name_at (codes "name") entry)) _ _ _ (λ told_name.
+    then_same (value_or (bad field.Name expect.Name) (name_at (codes "name") entry)) _ _ _ (λ told_name.
     then_same (new_name so_far.entries place.init told_name) _ _ _ (λ name.
     then_same (word_of_entry name (get (codes "binary") entry)) _ _ _ (λ word.
-    then_same (value_or (BadConfig field.Quantum) (amount_at (codes "quantum") entry)) _ _ _ (λ ram.
-    then_same (value_or (BadConfig field.Caps) (whole_at (codes "caps") 0 4294967295 entry)) _ _ _ (λ caps.
-    then_same (value_or (BadConfig field.Provides) (provider_of word (get (codes "provides") entry))) _ _ _ (λ provider. refl)))))))
+    then_same (value_or (bad field.Quantum expect.Amount) (amount_at (codes "quantum") entry)) _ _ _ (λ ram.
+    then_same (value_or (bad field.Caps expect.Caps) (whole_at (codes "caps") 0 4294967295 entry)) _ _ _ (λ caps.
+    then_same (value_or (bad field.Provides (provides_expected word)) (provider_of word (get (codes "provides") entry))) _ _ _ (λ provider. refl)))))))

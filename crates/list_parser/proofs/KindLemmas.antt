@@ -1,5 +1,5 @@
 -- What a server declares.
-use Rattle.std.proofs.Common.{◌≡◌, ℕ, ◌+◌, ◌<◌, ◌≤◌, Bool, true, false, cond, ◌||◌, List, [], ◌∷◌, ◌++◌, length, length-append, map, drop, get_or, Option, Some, None, refl, sym, ap, subst, ◌∙◌, add-one, drop-cons, arith}
+use Rattle.std.proofs.Common.{◌≡◌, ℕ, suc, ◌+◌, ◌<◌, ◌≤◌, Bool, true, false, cond, ◌||◌, List, [], ◌∷◌, ◌++◌, length, length-append, map, drop, get_or, Option, Some, None, Ok, Err, refl, sym, ap, subst, ◌∙◌, add-one, drop-cons, arith}
 use Rattle.std.specs.Prelude.{if◌then◌else◌, is_some}
 use Rattle.std.specs.List.{AllByRecursion, list_any}
 use Rattle.std.specs.Option.{option_and_then}
@@ -11,7 +11,12 @@ use Rattle.serde_json.specs.declared.value.Value.{Value}
 use Rattle.own_model.proofs.NodeLemmas.{differ_back}
 use Rattle.own_model.specs.ObjectKinds.{AreObjectKinds, IsObjectKind, KindsDiffer, ObjectKind, is_kind, kind_named}
 use Rattle.own_model.specs.Text.{is_name}
-use Rattle.list_parser.specs.DeclaredServers.{declared_in, kinds_after, with_next}
+use Rattle.list_parser.proofs.MemberLemmas.{next_passed}
+use Rattle.list_parser.specs.DeclaredServers.{declared_in, kind_after, with_next}
+use Rattle.list_parser.specs.FaultPlace.{◌>>=◌, all_after, bad_element, in_element}
+use Rattle.list_parser.specs.declared.fault.ConfigField.TheVariants as field
+use Rattle.list_parser.specs.declared.list_fault.FaultPart.TheVariants as part
+use Rattle.list_parser.specs.declared.list_fault.Flaw.{Flaw}
 use Rattle.list_parser.specs.Members.{name_in, name_of}
 
 -- no two services are declared
@@ -74,38 +79,36 @@ none_by_test (Some kind) is = cc
 
 -- these were read so far, and those are left: so many at most
 pub record AreReadUpTo (kinds : List ObjectKind) (left all : List Data) : Type 0 where
-  pub so_far : kinds_after kinds left ≡ kinds_after [] all
+  pub so_far : all_after with_next [] all ≡ all_after with_next kinds left
   pub are : AreObjectKinds kinds
   pub few : length kinds + length left ≤ 16
 
 pub none_read : (all : List Data) → length all ≤ 16 → AreReadUpTo [] all all
 none_read all few = record { so_far = refl; are = record { each = tt; differ = tt; few = omega arith }; few = omega (arith, few) }
 
-one_read : (kinds : List ObjectKind) (d : Data) (rest all : List Data) (kind : ObjectKind) → AreReadUpTo kinds (d ∷ rest) all → with_next kinds d ≡ Some (kinds ++ kind ∷ []) → IsObjectKind kind →
-    is_some (kind_named kind.name kinds) ≡ false → AreReadUpTo (kinds ++ kind ∷ []) rest all
-one_read kinds d rest all kind read is its new =
+-- a kind is read in its place
+pub kind_passed : (kinds : List ObjectKind) (d : Data) (kind : ObjectKind) → Ok kind ≡ kind_after kinds d → with_next kinds d ≡ Ok (kinds ++ kind ∷ [])
+kind_passed kinds d kind is = ap (λ r. in_element field.Kinds (part.Kind (length kinds)) r >>= (λ k. Ok (kinds ++ k ∷ []))) (sym is)
+
+pub kind_refused : (kinds : List ObjectKind) (d : Data) (flaw : Flaw) → Err flaw ≡ kind_after kinds d → with_next kinds d ≡ Err (bad_element field.Kinds (part.Kind (length kinds)) flaw)
+kind_refused kinds d flaw is = ap (λ r. in_element field.Kinds (part.Kind (length kinds)) r >>= (λ k. Ok (kinds ++ k ∷ []))) (sym is)
+
+pub read_more : (kinds : List ObjectKind) (values : List Value) (place : ℕ) (value : Value) (kind : ObjectKind) → AreReadUpTo kinds (map view (drop place values)) (map view values) →
+    place < length values → value ≡ get_or values place value → with_next kinds (view value) ≡ Ok (kinds ++ kind ∷ []) → IsObjectKind kind → is_some (kind_named kind.name kinds) ≡ false →
+    AreReadUpTo (kinds ++ kind ∷ []) (map view (drop (place + 1) values)) (map view values)
+read_more kinds values place value kind read inside is given its new =
     let longer : length (kinds ++ kind ∷ []) ≡ length kinds + 1 = length-append kinds (kind ∷ []) in
+    let next : drop place values ≡ value ∷ drop (place + 1) values = drop-cons values place value inside ∙ rw (add-one, ← is) refl in
+    let left : length (map view (drop place values)) ≡ length (map view (drop (place + 1) values)) + 1 = ap (λ l. length (map view l)) next ∙ add_one (length (map view (drop (place + 1) values))) in
     record {
-      so_far = (let step : kinds_after kinds (d ∷ rest) ≡ kinds_after (kinds ++ kind ∷ []) rest = rw is refl in sym step ∙ read.so_far);
+      so_far = next_passed with_next [] kinds values place value read.so_far inside is (kinds ++ kind ∷ []) given;
       are = record {
         each = each_last kinds kind read.are.each its;
         differ = differ_last kinds kind read.are.differ (none_by_test (kind_named kind.name kinds) new);
-        few = omega (arith, read.few, longer);
+        few = omega (arith, read.few, left, longer);
       };
-      few = omega (arith, read.few, longer);
+      few = omega (arith, read.few, left, longer);
     }
-
-pub read_more : (kinds : List ObjectKind) (values : List Value) (all : List Data) (place : ℕ) (value : Value) (kind : ObjectKind) → AreReadUpTo kinds (map view (drop place values)) all →
-    place < length values → value ≡ get_or values place value → with_next kinds (view value) ≡ Some (kinds ++ kind ∷ []) → IsObjectKind kind → is_some (kind_named kind.name kinds) ≡ false →
-    AreReadUpTo (kinds ++ kind ∷ []) (map view (drop (place + 1) values)) all
-read_more kinds values all place value kind read inside is given its new =
-    let next : drop place values ≡ value ∷ drop (place + 1) values = drop-cons values place value inside ∙ rw (add-one, ← is) refl in
-    one_read kinds (view value) (map view (drop (place + 1) values)) all kind (subst (λ l. AreReadUpTo kinds (map view l) all) next read) given its new
-
--- a value that adds no kind
-pub none_there : (kinds : List ObjectKind) (values : List Value) (all : List Data) (place : ℕ) (value : Value) → AreReadUpTo kinds (map view (drop place values)) all →
-    place < length values → value ≡ get_or values place value → with_next kinds (view value) ≡ None → kinds_after [] all ≡ None
-none_there kinds values all place value read inside is none =
-    let next : drop place values ≡ value ∷ drop (place + 1) values = drop-cons values place value inside ∙ rw (add-one, ← is) refl in
-    let here : kinds_after kinds (view value ∷ map view (drop (place + 1) values)) ≡ None = rw none refl in
-    sym read.so_far ∙ ap (λ l. kinds_after kinds (map view l)) next ∙ here
+  where
+    add_one : (n : ℕ) → suc n ≡ n + 1
+    add_one n = omega arith

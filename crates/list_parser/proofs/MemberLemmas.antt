@@ -1,11 +1,13 @@
 -- Lists of values.
-use Rattle.std.proofs.Common.{◌≡◌, ◌∙◌, ℕ, ◌+◌, ◌≤◌, ◌<◌, List, [], ◌∷◌, ◌++◌, length, map, drop, get_or, Option, Some, None, refl, subst, append_assoc, add-one, drop-cons, arith}
-use Rattle.std.specs.Option.{option_and_then, option_map}
+use Rattle.std.proofs.Common.{◌≡◌, ◌∙◌, ℕ, ◌+◌, ◌≤◌, ◌<◌, List, [], ◌∷◌, length, map, drop, get_or, Some, None, Result, Ok, Err, refl, sym, ap, arith}
 use Rattle.std.proofs.lemmas.Bool.Decides.{nat_tests}
+use Rattle.std.proofs.lemmas.List.{drop_more}
 use Rattle.serde_json.specs.Data.{Data}
 use Rattle.serde_json.specs.Find.{as_array}
-use Rattle.serde_json.specs.View.{items_of}
-use Rattle.list_parser.specs.Members.{each, elements, short_list}
+use Rattle.serde_json.specs.View.{items_of, view}
+use Rattle.serde_json.specs.declared.value.Value.{Value}
+use Rattle.list_parser.specs.FaultPlace.{◌>>=◌, all_after}
+use Rattle.list_parser.specs.Members.{elements, short_list}
 
 -- the elements of an array are those that it was made of
 pub elements_of_items : (ds : List Data) → elements (items_of ds) ≡ ds
@@ -19,27 +21,26 @@ short_list-read d ds is short = rw (← is, elements_of_items ds) (grind (arith,
 pub short_list-refused : (d : Data) (ds : List Data) → Some (items_of ds) ≡ as_array d → 32 < length ds → None ≡ short_list d
 short_list-refused d ds is long = rw (← is, elements_of_items ds) (grind (arith, nat_tests))
 
--- so far these were read, and those are left
-pub record IsReadUpTo {A B : Type 0} (f : A → Option B) (all : List A) (done : List B) (left : List A) : Type 0 where
-  pub so_far : each f all ≡ option_map (λ ys. done ++ ys) (each f left)
+-- ---- a step for each value, one after another
 
-pub nothing_read : {A B : Type 0} (f : A → Option B) (all : List A) → IsReadUpTo f all [] all
-nothing_read f all = record { so_far = unchanged (each f all) } where
-  unchanged : {C : Type 0} (o : Option (List C)) → o ≡ option_map (λ ys. [] ++ ys) o
-  unchanged None = refl
-  unchanged (Some ys) = refl
+-- nothing is left
+pub none_left : {S E : Type 0} (step : S → Data → Result S E) (so_far : S) (values : List Value) → length values ≡ 0 → all_after step so_far (map view values) ≡ Ok so_far
+none_left step so_far [] none = refl
+none_left step so_far (value ∷ values) none = absurd (omega (arith, none))
 
--- one more is read
-one_read : {A B : Type 0} (f : A → Option B) (all : List A) (done : List B) (x : A) (y : B) (rest : List A) → IsReadUpTo f all done (x ∷ rest) → f x ≡ Some y →
-    IsReadUpTo f all (done ++ y ∷ []) rest
-one_read {A} {B} f all done x y rest read is = record { so_far = read.so_far ∙ step (each f rest) } where
-  step : (o : Option (List B)) → option_map (λ ys. done ++ ys) (option_and_then (λ z. option_map (λ ys. z ∷ ys) o) (f x)) ≡ option_map (λ ys. (done ++ y ∷ []) ++ ys) o
-  step None = rw is refl
-  step (Some ys) = rw (is, append_assoc) refl
+-- so many values were passed, and the next one is this
+module _ {S E : Type 0} (step : S → Data → Result S E) (first so_far : S) (values : List Value) (i : ℕ) (value : Value)
+    (before : all_after step first (map view values) ≡ all_after step so_far (map view (drop i values)))
+    (inside : i < length values) (is : value ≡ get_or values i value) where
+  to_pass : all_after step first (map view values) ≡ (step so_far (view value) >>= (λ next. all_after step next (map view (drop (i + 1) values))))
+  to_pass =
+      before
+      ∙ ap (λ left. all_after step so_far (map view left)) (drop_more values i value inside ∙ ap (λ v. v ∷ drop (i + 1) values) (sym is))
 
--- the one at this place of a list, as it is seen
-pub read_more : {A B C : Type 0} (f : A → Option B) (seen : C → A) (all : List A) (done : List B) (xs : List C) (place : ℕ) (x : C) (y : B) →
-    IsReadUpTo f all done (map seen (drop place xs)) → place < length xs → x ≡ get_or xs place x → f (seen x) ≡ Some y → IsReadUpTo f all (done ++ y ∷ []) (map seen (drop (place + 1) xs))
-read_more f seen all done xs place x y read inside is given =
-    let next : drop place xs ≡ x ∷ drop (place + 1) xs = drop-cons xs place x inside ∙ rw (add-one, ← is) refl in
-    one_read f all done (seen x) y (map seen (drop (place + 1) xs)) (subst (λ l. IsReadUpTo f all done (map seen l)) next read) given
+  -- it has an error
+  pub next_refused : (error : E) → step so_far (view value) ≡ Err error → all_after step first (map view values) ≡ Err error
+  next_refused error told = to_pass ∙ ap (λ r. r >>= (λ next. all_after step next (map view (drop (i + 1) values)))) told
+
+  -- it is passed
+  pub next_passed : (next : S) → step so_far (view value) ≡ Ok next → all_after step first (map view values) ≡ all_after step next (map view (drop (i + 1) values))
+  next_passed next told = to_pass ∙ ap (λ r. r >>= (λ next. all_after step next (map view (drop (i + 1) values)))) told

@@ -11,9 +11,10 @@ use Rattle.std.proofs.lemmas.Slice.Eq.{bytes_eq-Decides}
 use Rattle.serde_json.specs.Data.{Data}
 use Rattle.own_model.specs.Listed.{ListedEntry}
 use Rattle.list_parser.specs.Depth.{HaveParentInits, is_init, is_list}
-use Rattle.list_parser.specs.Entries.{EntryHead, Misread, ListPlace, Reads, SoFar, all_read, at_entry, behind, head_of, outermost, place_within, read_own, read_within, then_read, with_head}
+use Rattle.list_parser.specs.Entries.{EntryHead, ListPlace, Reads, SoFar, all_read, behind, head_of, outermost, place_within, read_own, read_within, with_head}
+use Rattle.list_parser.specs.FaultPlace.{◌>>=◌, at_entry}
 use Rattle.list_parser.specs.ListTheorems.{AreListed, HasJoinedNames, is_within}
-use Rattle.list_parser.specs.declared.fault.BootFault.{BootFault}
+use Rattle.list_parser.specs.declared.list_fault.ListFault.{ListFault}
 use Rattle.list_parser.proofs.DepthLemmas.{grow_by, last_list, last_there, no_homes}
 use Rattle.list_parser.proofs.HeadLemmas.{IsHead, StartsOthers, head_is}
 
@@ -256,7 +257,7 @@ ListReader deeper reads = (place : ListPlace) (so_far next : SoFar) (d : Data) �
     Extends place.init 1 so_far next
 
 -- one value after another
-step_read : (r : Result SoFar Misread) (f : SoFar → Result SoFar Misread) (next : SoFar) → then_read r f ≡ Ok next → (middle : SoFar) × (r ≡ Ok middle) × (f middle ≡ Ok next)
+step_read : (r : Result SoFar ListFault) (f : SoFar → Result SoFar ListFault) (next : SoFar) → (r >>= f) ≡ Ok next → (middle : SoFar) × (r ≡ Ok middle) × (f middle ≡ Ok next)
 step_read (Ok middle) f next is = (middle, refl, is)
 step_read (Err misread) f next is = cc
 
@@ -315,19 +316,19 @@ alone_ends : (reads : Reads) (so_far next : SoFar) (head : EntryHead) → head.s
 alone_ends reads so_far next head none read = none_more reads (place_within (length so_far.entries) head.entry) (with_head so_far head) next head.starts none read
 
 -- a fault reads nothing
-not_read : (misread : Misread) (next : SoFar) → let r : Result SoFar Misread = Err misread in r ≡ Ok next → ⊥
+not_read : (misread : ListFault) (next : SoFar) → let r : Result SoFar ListFault = Err misread in r ≡ Ok next → ⊥
 not_read misread next is = cc
 
 pub within_reads : (deeper : ℕ) → ListReader deeper (read_within deeper)
 within_reads zero place so_far next d is holds stands few = by_head (head_of place false so_far d) refl is where
-  by_head : (r : Result EntryHead BootFault) → head_of place false so_far d ≡ r → read_own (λ _ s _. Ok s) so_far (at_entry (length so_far.entries) r) ≡ Ok next → Extends place.init 1 so_far next
+  by_head : (r : Result EntryHead ListFault) → head_of place false so_far d ≡ r → read_own (λ _ s _. Ok s) so_far (at_entry (length so_far.entries) r) ≡ Ok next → Extends place.init 1 so_far next
   by_head (Err fault) told read = absurd (not_read _ next read)
   by_head (Ok head) told read =
       let its = head_is place false so_far d head told in
       let none : head.starts ≡ [] = elim its.starts [ inl none ↦ none | inr others ↦ absurd (false≢true others.deep) ] in
       subst (Extends place.init 1 so_far) (alone_ends (λ _ s _. Ok s) so_far next head none read) (alone zero place false so_far head holds stands few its none)
 within_reads (suc deeper) place so_far next d is holds stands few = by_head (head_of place true so_far d) refl is (within_reads deeper) where
-  by_head : (r : Result EntryHead BootFault) → head_of place true so_far d ≡ r → read_own (read_within deeper) so_far (at_entry (length so_far.entries) r) ≡ Ok next →
+  by_head : (r : Result EntryHead ListFault) → head_of place true so_far d ≡ r → read_own (read_within deeper) so_far (at_entry (length so_far.entries) r) ≡ Ok next →
       ListReader deeper (read_within deeper) → Extends place.init 1 so_far next
   by_head (Err fault) told read more = absurd (not_read _ next read)
   by_head (Ok head) told read more =

@@ -1,14 +1,12 @@
 -- Entries of lists, read one after another, each with those that it starts.
-use Rattle.std.proofs.Common.{◌≡◌, ℕ, zero, suc, ◌+◌, ◌-◌, ◌<◌, ◌≤◌, nat_lt, true, List, [], ◌∷◌, ◌++◌, length, get_or, drop, map, Ok, Err, refl, sym, ap, ◌∙◌, arith}
+use Rattle.std.proofs.Common.{◌≡◌, ℕ, zero, suc, ◌+◌, ◌-◌, ◌<◌, ◌≤◌, nat_lt, true, List, [], ◌∷◌, ◌++◌, length, Ok, Err, refl, sym, ap, ◌∙◌, arith}
 use Rattle.std.proofs.lemmas.Bool.Decides.{nat_tests}
-use Rattle.std.proofs.lemmas.List.{drop_more}
 use Rattle.serde_json.specs.Data.{Data}
-use Rattle.serde_json.specs.View.{view}
-use Rattle.serde_json.specs.declared.value.Value.{Value}
-use Rattle.list_parser.specs.declared.fault.BootFault.{BootFault}
+use Rattle.list_parser.specs.declared.list_fault.ListFault.{ListFault}
+use Rattle.list_parser.specs.FaultPlace.{at_entry, of_entry}
 use Rattle.own_model.specs.Listed.{ListedEntry}
 use Rattle.list_parser.specs.Depth.{IsBelow, Starts, reads_below}
-use Rattle.list_parser.specs.Entries.{EntryHead, Misread, ListPlace, Reads, SoFar, all_read, at_entry, head_of, place_within, read_own, read_within, then_read, with_head}
+use Rattle.list_parser.specs.Entries.{EntryHead, ListPlace, SoFar, all_read, head_of, place_within, read_own, read_within, with_head}
 use Rattle.list_parser.specs.HeadParts.{head_in_parts}
 use Rattle.list_parser.proofs.DepthLemmas.{last_list}
 use Rattle.list_parser.proofs.HeadLemmas.{parts_are}
@@ -25,8 +23,8 @@ one_read (suc deeper) place so_far d = rw (is_more deeper) refl where
 
 module _ (deeper : ℕ) (place : ListPlace) (so_far : SoFar) (d : Data) where
   -- a fault is told
-  pub entry_misread : (fault : BootFault) → head_in_parts place (nat_lt 0 deeper) so_far d ≡ Err fault
-      → read_within deeper place so_far d ≡ Err (record { fault = fault; entry = length so_far.entries })
+  pub entry_misread : (fault : ListFault) → head_in_parts place (nat_lt 0 deeper) so_far d ≡ Err fault
+      → read_within deeper place so_far d ≡ Err (of_entry (length so_far.entries) fault)
   entry_misread fault misread = one_read deeper place so_far d ∙ ap (λ h. read_own (reads_below deeper) so_far (at_entry (length so_far.entries) h)) (sym (parts_are place (nat_lt 0 deeper) so_far d) ∙ misread)
 
   -- what it starts is still to be read
@@ -54,32 +52,9 @@ starts_below deeper entries now entry below deep starts stands entries_now =
       list = last_list entries entry starts.init;
     })
 
--- ---- one after another
-
--- nothing is left to read
-pub none_left : (reads : Reads) (place : ListPlace) (so_far : SoFar) (values : List Value) → length values ≡ 0 → all_read reads place so_far (map view values) ≡ Ok so_far
-none_left reads place so_far [] none = refl
-none_left reads place so_far (value ∷ values) none = absurd (omega (arith, none))
-
+-- the lists within are read as lists
 pub below_less : (deeper : ℕ) → 0 < deeper → reads_below deeper ≡ read_within (deeper - 1)
 below_less zero some = absurd (omega arith)
 below_less (suc deeper) some = ap read_within (less deeper) where
   less : (n : ℕ) → n ≡ suc n - 1
   less n = omega arith
-
--- so many of a list were read, and the next one is this
-module _ (reads : Reads) (place : ListPlace) (first so_far : SoFar) (values : List Value) (i : ℕ) (value : Value)
-    (before : all_read reads place first (map view values) ≡ all_read reads place so_far (map view (drop i values)))
-    (inside : i < length values) (is : value ≡ get_or values i value) where
-  to_read : all_read reads place first (map view values) ≡ then_read (reads place so_far (view value)) (λ next. all_read reads place next (map view (drop (i + 1) values)))
-  to_read =
-      before
-      ∙ ap (λ left. all_read reads place so_far (map view left)) (drop_more values i value inside ∙ ap (λ v. v ∷ drop (i + 1) values) (sym is))
-
-  -- it has a fault
-  pub next_misread : (misread : Misread) → reads place so_far (view value) ≡ Err misread → all_read reads place first (map view values) ≡ Err misread
-  next_misread misread told = to_read ∙ ap (λ r. then_read r (λ next. all_read reads place next (map view (drop (i + 1) values)))) told
-
-  -- it is read
-  pub next_read : (next : SoFar) → reads place so_far (view value) ≡ Ok next → all_read reads place first (map view values) ≡ all_read reads place next (map view (drop (i + 1) values))
-  next_read next told = to_read ∙ ap (λ r. then_read r (λ next. all_read reads place next (map view (drop (i + 1) values)))) told

@@ -4,8 +4,8 @@ use Rattle.std.proofs.lemmas.List.Folds.{list_any-append}
 use Rattle.std.specs.List.{list_any}
 use Rattle.std.specs.Str.{bytes_eq}
 use Rattle.trade_base.specs.Service.{service_name, services}
-use Rattle.trade_base.specs.declared.service.Service.{Service}
-use Rattle.trade_base.specs.declared.service.Service.TheVariants as service
+use Rattle.trade_base.specs.declared.service.BuiltInService.{BuiltInService}
+use Rattle.trade_base.specs.declared.service.BuiltInService.TheVariants as service
 use Rattle.own_model.specs.Listed.{ListedEntry, service_in, services_of, with_name, with_names}
 use Rattle.list_parser.specs.Services.{names_with}
 
@@ -15,7 +15,7 @@ pub any_of_names : (name : List ℕ) (declared : List (List ℕ)) →
 any_of_names name declared = list_any-append (bytes_eq name) (map service_name services) declared
 
 -- a service that the machine has built in adds none
-pub none_new : (declared : List (List ℕ)) (of : Service) → with_name (names_with declared) (Some (service_name of)) ≡ names_with declared
+pub none_new : (declared : List (List ℕ)) (of : BuiltInService) → with_name (names_with declared) (Some (service_name of)) ≡ names_with declared
 none_new declared service.Log = refl
 none_new declared service.Files = refl
 

@@ -1,5 +1,5 @@
 -- What a JSON value says of a server that declares its service: the name of the service, and the kinds of its objects.
-use Rattle.std.specs.Prelude.{ℕ, Bool, List, [], ◌∷◌, ◌++◌, length, codes, is_some, nat_le, if◌then◌else◌, map, Option, Some, None}
+use Rattle.std.specs.Prelude.{ℕ, Bool, List, [], ◌∷◌, ◌++◌, length, codes, is_some, nat_le, if◌then◌else◌, map, Option, Some, None, Result, Ok, Err}
 use Rattle.std.specs.List.{list_any}
 use Rattle.std.specs.Option.{option_and_then, option_map}
 use Rattle.std.specs.Str.{bytes_eq}
@@ -7,7 +7,14 @@ use Rattle.serde_json.specs.Data.{Data}
 use Rattle.serde_json.specs.Find.{as_array}
 use Rattle.trade_base.specs.Service.{service_name, services}
 use Rattle.own_model.specs.ObjectKinds.{ObjectKind, kind_named, least_node, most_kind_bytes, most_kinds}
-use Rattle.list_parser.specs.Members.{elements, name_at, name_of, whole_at}
+use Rattle.list_parser.specs.FaultPlace.{◌>>=◌, all_after, bad, bad_member, bad_whole, in_element, value_or}
+use Rattle.list_parser.specs.Members.{elements, is_object, name_at, name_of, whole_at}
+use Rattle.list_parser.specs.declared.fault.ConfigField.TheVariants as field
+use Rattle.list_parser.specs.declared.list_fault.ExpectedValue.TheVariants as expect
+use Rattle.list_parser.specs.declared.list_fault.FaultPart.TheVariants as part
+use Rattle.list_parser.specs.declared.list_fault.Flaw.{Flaw}
+use Rattle.list_parser.specs.declared.list_fault.ListFault.{ListFault}
+use Rattle.list_parser.specs.declared.list_fault.ListMember.TheVariants as member
 
 -- a service that a server declares, with the kinds of its objects
 pub record DeclaredService : Type 0 where
@@ -38,31 +45,27 @@ service_declared member = option_and_then declared_in (listed_in member)
 
 -- ---- the kinds
 
-abbrev ◌>>=◌ : {A B : Type 0} → Option A → (A → Option B) → Option B
-◌>>=◌ o f = option_and_then f o
-
--- a kind; what is no object has none of its members
-abbrev pub kind_of : Data → Option ObjectKind
+abbrev pub kind_of : Data → Result ObjectKind Flaw
 kind_of d = do
-  name ← name_at (codes "kind") d
-  block ← whole_at (codes "block") least_node most_kind_bytes d
-  bytes ← whole_at (codes "bytes") 0 most_kind_bytes d
-  Some (record { name = name; block = block; bytes = bytes })
+  kind ← if is_object d then Ok d else Err (bad_whole expect.Object)
+  name ← value_or (bad_member member.Kind expect.Name) (name_at (codes "kind") kind)
+  block ← value_or (bad_member member.Block expect.BlockBytes) (whole_at (codes "block") least_node most_kind_bytes kind)
+  bytes ← value_or (bad_member member.Bytes expect.UnitBytes) (whole_at (codes "bytes") 0 most_kind_bytes kind)
+  Ok (record { name = name; block = block; bytes = bytes })
 
 -- a kind after others, none of which has its name
-abbrev pub with_kind : List ObjectKind → ObjectKind → Option (List ObjectKind)
-with_kind before kind = if is_some (kind_named kind.name before) then None else Some (before ++ kind ∷ [])
+abbrev pub new_kind : List ObjectKind → ObjectKind → Result ObjectKind Flaw
+new_kind before kind = if is_some (kind_named kind.name before) then Err (bad_member member.Kind expect.NewKind) else Ok kind
 
-abbrev pub with_next : List ObjectKind → Data → Option (List ObjectKind)
-with_next before d = option_and_then (with_kind before) (kind_of d)
+abbrev pub kind_after : List ObjectKind → Data → Result ObjectKind Flaw
+kind_after before d = kind_of d >>= new_kind before
 
-abbrev pub kinds_after : List ObjectKind → List Data → Option (List ObjectKind)
-kinds_after before [] = Some before
-kinds_after before (d ∷ ds) = option_and_then (λ kinds. kinds_after kinds ds) (with_next before d)
+abbrev pub with_next : List ObjectKind → Data → Result (List ObjectKind) ListFault
+with_next before d = in_element field.Kinds (part.Kind (length before)) (kind_after before d) >>= (λ kind. Ok (before ++ kind ∷ []))
 
 -- a list of at most 16 kinds
-abbrev pub kinds_in : List Data → Option (List ObjectKind)
-kinds_in ds = if nat_le (length ds) most_kinds then kinds_after [] ds else None
+abbrev pub kinds_in : List Data → Result (List ObjectKind) ListFault
+kinds_in ds = if nat_le (length ds) most_kinds then all_after with_next [] ds else Err (bad field.Kinds expect.Kinds)
 
-abbrev pub kinds_declared : Option Data → Option (List ObjectKind)
-kinds_declared member = option_and_then kinds_in (listed_in member)
+abbrev pub kinds_declared : Option Data → Result (List ObjectKind) ListFault
+kinds_declared member = value_or (bad field.Kinds expect.Kinds) (listed_in member) >>= kinds_in

@@ -16,23 +16,18 @@ use Rattle.list_parser.specs.DeclaredServers.{kinds_declared, service_declared}
 use Rattle.list_parser.specs.declared.fault.BootFault.{BootFault}
 use Rattle.list_parser.specs.declared.fault.BootFault.TheVariants.{BadConfig, DuplicateName, UnknownBinary}
 use Rattle.list_parser.specs.declared.fault.ConfigField.TheVariants as field
+use Rattle.list_parser.specs.declared.list_fault.ExpectedValue.{ExpectedValue}
+use Rattle.list_parser.specs.declared.list_fault.ExpectedValue.TheVariants as expect
+use Rattle.list_parser.specs.declared.list_fault.FaultPart.TheVariants as part
+use Rattle.list_parser.specs.declared.list_fault.ListFault.{ListFault}
+use Rattle.list_parser.specs.declared.list_fault.ListMember.TheVariants.{Field}
+use Rattle.list_parser.specs.FaultPlace.{◌>>=◌, all_after, at_entry, bad, fault_at, in_config, value_or}
 use Rattle.list_parser.specs.Members.{amount_at, amount_in, elements, is_object, name_at, name_in, short_list, whole_at, whole_in}
 use Rattle.list_parser.specs.Rules.{rules_of}
 
--- the value, or else a fault
-abbrev pub value_or : {A : Type 0} → BootFault → Option A → Result A BootFault
-value_or fault None = Err fault
-value_or fault (Some x) = Ok x
-
--- the continuation of a value; a fault remains
-infixl 20 ◌>>=◌
-abbrev pub ◌>>=◌ : {A B : Type 0} → Result A BootFault → (A → Result B BootFault) → Result B BootFault
-◌>>=◌ (Ok x) f = f x
-◌>>=◌ (Err fault) f = Err fault
-
 -- an entry is an object
-abbrev pub object_of : Data → Result Data BootFault
-object_of d = if is_object d then Ok d else Err (BadConfig field.Start)
+abbrev pub object_of : Data → Result Data ListFault
+object_of d = if is_object d then Ok d else Err (fault_at (BadConfig field.Start) part.Whole None expect.Object)
 
 -- ---- the place of a list
 
@@ -62,25 +57,28 @@ pub record SoFar : Type 0 where
 abbrev pub is_taken : List ListedEntry → ℕ → List ℕ → Bool
 is_taken before init name = list_any (λ entry. entry.home == init && bytes_eq entry.name name) before
 
-abbrev pub new_name : List ListedEntry → ℕ → List ℕ → Result (List ℕ) BootFault
-new_name before init name = if is_taken before init name then Err (DuplicateName name) else Ok name
+abbrev pub taken_name : List ℕ → ListFault
+taken_name name = fault_at (DuplicateName name) part.Whole (Some (Field field.Name)) expect.NewName
+
+abbrev pub new_name : List ListedEntry → ℕ → List ℕ → Result (List ℕ) ListFault
+new_name before init name = if is_taken before init name then Err (taken_name name) else Ok name
 
 -- the text of a binary: without the member it is the name
-abbrev pub binary_text : List ℕ → Option Data → Result (List ℕ) BootFault
+abbrev pub binary_text : List ℕ → Option Data → Result (List ℕ) ListFault
 binary_text name None = Ok name
-binary_text name (Some d) = value_or (BadConfig field.Binary) (as_str d)
+binary_text name (Some d) = value_or (bad field.Binary expect.Binary) (as_str d)
 
 -- the fault of a text that is no binary's, which names it if it is a name
-abbrev pub no_binary : Option (List ℕ) → BootFault
-no_binary None = BadConfig field.Binary
-no_binary (Some name) = UnknownBinary name
+abbrev pub no_binary : Option (List ℕ) → ListFault
+no_binary None = bad field.Binary expect.Binary
+no_binary (Some name) = fault_at (UnknownBinary name) part.Whole (Some (Field field.Binary)) expect.Binary
 
 -- what the word of a binary says: a binary with its service, or a server that declares its service
 pub data BinaryWord : Type 0 where
   Known : Binary → BinaryWord
   Declares : BinaryWord
 
-abbrev pub word_of : List ℕ → Result BinaryWord BootFault
+abbrev pub word_of : List ℕ → Result BinaryWord ListFault
 word_of text =
     if bytes_eq text (codes "script") then Ok (Known Script)
     else (if bytes_eq text (codes "init") then Ok (Known Init)
@@ -88,7 +86,7 @@ word_of text =
     else value_or (no_binary (name_in text)) (option_map (λ service. Known (built_in service)) (served_by_binary text))))
 
 -- the word of an entry's binary
-abbrev pub word_of_entry : List ℕ → Option Data → Result BinaryWord BootFault
+abbrev pub word_of_entry : List ℕ → Option Data → Result BinaryWord ListFault
 word_of_entry name told = binary_text name told >>= word_of
 
 -- what an entry runs, without kinds of objects, and whether it provides the binary's service
@@ -115,10 +113,15 @@ abbrev pub provider_of : BinaryWord → Option Data → Option Provider
 provider_of (Known binary) member = option_map (λ provides. record { binary = binary; provides = provides }) (provided binary member)
 provider_of Declares member = option_map (λ service. record { binary = Server service (OffersObjects []); provides = true }) (service_declared member)
 
+-- what is expected of the member
+abbrev pub provides_expected : BinaryWord → ExpectedValue
+provides_expected (Known binary) = expect.Provides
+provides_expected Declares = expect.DeclaredService
+
 -- without the member there is no route of one's own
-abbrev pub own_route : Option Data → Option (Option (List ListedRule))
-own_route None = Some None
-own_route (Some d) = option_map Some (rules_of d)
+abbrev pub own_route : Option Data → Result (Option (List ListedRule)) ListFault
+own_route None = Ok None
+own_route (Some d) = rules_of field.Route d >>= (λ rules. Ok (Some rules))
 
 -- a member of a script's entry, read by f if the member is there; in an entry of another binary it has no value
 abbrev pub if_script : {A : Type 0} → (Data → Option A) → Binary → Option Data → Option (Option A)
@@ -127,6 +130,12 @@ if_script f Script (Some d) = option_map Some (f d)
 if_script f (Server service offer) (Some d) = None
 if_script f Init (Some d) = None
 
+-- what is expected of such a member
+abbrev pub if_script_expected : ExpectedValue → Binary → ExpectedValue
+if_script_expected expected Script = expected
+if_script_expected expected (Server service offer) = expect.NoReserve
+if_script_expected expected Init = expect.NoReserve
+
 -- a reserve is stated by one of its two members, or by both: the other one is 0 if it is missing
 abbrev pub reserve_with : Option ℕ → Option ℕ → Option Amounts
 reserve_with None None = None
@@ -134,22 +143,22 @@ reserve_with (Some ram) caps = Some (record { ram = ram; caps = unwrap_or caps 0
 reserve_with None (Some caps) = Some (record { ram = 0; caps = caps })
 
 -- the reserve in an entry of a binary
-abbrev pub reserve_of_entry : Binary → Data → Result (Option Amounts) BootFault
+abbrev pub reserve_of_entry : Binary → Data → Result (Option Amounts) ListFault
 reserve_of_entry binary entry = do
-  ram ← value_or (BadConfig field.Reserve) (if_script amount_in binary (get (codes "reserve") entry))
-  caps ← value_or (BadConfig field.ReserveCaps) (if_script (whole_in 0 4294967295) binary (get (codes "reserve-caps") entry))
+  ram ← value_or (bad field.Reserve (if_script_expected expect.Amount binary)) (if_script amount_in binary (get (codes "reserve") entry))
+  caps ← value_or (bad field.ReserveCaps (if_script_expected expect.Caps binary)) (if_script (whole_in 0 4294967295) binary (get (codes "reserve-caps") entry))
   Ok (reserve_with ram caps)
 
 -- a server that declares its service offers the kinds of the member; another binary ignores it
-abbrev pub offer_with : Offer → Option Data → Option Offer
-offer_with OffersLog member = Some OffersLog
-offer_with OffersFiles member = Some OffersFiles
-offer_with (OffersObjects none) member = option_map OffersObjects (kinds_declared member)
+abbrev pub offer_with : Offer → Option Data → Result Offer ListFault
+offer_with OffersLog member = Ok OffersLog
+offer_with OffersFiles member = Ok OffersFiles
+offer_with (OffersObjects none) member = kinds_declared member >>= (λ kinds. Ok (OffersObjects kinds))
 
-abbrev pub with_kinds : Binary → Option Data → Option Binary
-with_kinds Script member = Some Script
-with_kinds (Server service offer) member = option_map (Server service) (offer_with offer member)
-with_kinds Init member = Some Init
+abbrev pub with_kinds : Binary → Option Data → Result Binary ListFault
+with_kinds Script member = Ok Script
+with_kinds (Server service offer) member = offer_with offer member >>= (λ offered. Ok (Server service offered))
+with_kinds Init member = Ok Init
 
 -- ---- what an init starts
 
@@ -159,19 +168,19 @@ pub record ListConfig : Type 0 where
   pub starts : List Data
 
 -- without the member no rule
-abbrev pub default_route : Option Data → Option (List ListedRule)
-default_route None = Some []
-default_route (Some d) = rules_of d
+abbrev pub default_route : Option Data → Result (List ListedRule) ListFault
+default_route None = Ok []
+default_route (Some d) = rules_of field.DefaultRoute d
 
 -- the entries of a list, if all lists that were met have at most 32 together
 abbrev pub starts_in : ℕ → Option Data → Option (List Data)
 starts_in met d = option_and_then (λ starts. if nat_le (met + length starts) 32 then Some starts else None) (option_and_then short_list d)
 
 -- a list is stated by two members of an object
-abbrev pub own_of : ℕ → Data → Result ListConfig BootFault
+abbrev pub own_of : ℕ → Data → Result ListConfig ListFault
 own_of met d = do
-  route ← value_or (BadConfig field.DefaultRoute) (default_route (get (codes "default-route") d))
-  starts ← value_or (BadConfig field.Start) (starts_in met (get (codes "start") d))
+  route ← default_route (get (codes "default-route") d)
+  starts ← value_or (bad field.Start expect.Entries) (starts_in met (get (codes "start") d))
   Ok (record { route = route; starts = starts })
 
 -- the list of an entry that starts nothing
@@ -179,13 +188,13 @@ abbrev pub nothing_own : ListConfig
 nothing_own = record { route = []; starts = [] }
 
 -- the list of an init, which is a member that is an object, if lists may nest deeper
-abbrev pub config_of : Bool → ℕ → Option Data → Result ListConfig BootFault
-config_of true met (Some d) = if is_object d then own_of met d else Err (BadConfig field.Config)
-config_of true met None = Err (BadConfig field.Config)
-config_of false met d = Err (BadConfig field.Config)
+abbrev pub config_of : Bool → ℕ → Option Data → Result ListConfig ListFault
+config_of deeper met None = Err (bad field.Config expect.Object)
+config_of deeper met (Some d) =
+    if is_object d then (if deeper then in_config (own_of met d) else Err (bad field.Config expect.NoInit)) else Err (bad field.Config expect.Object)
 
 -- an entry of another binary starts nothing, with any member
-abbrev pub list_of_entry : Binary → Bool → ℕ → Option Data → Result ListConfig BootFault
+abbrev pub list_of_entry : Binary → Bool → ℕ → Option Data → Result ListConfig ListFault
 list_of_entry Script deeper met d = Ok nothing_own
 list_of_entry (Server service offer) deeper met d = Ok nothing_own
 list_of_entry Init deeper met d = config_of deeper met d
@@ -196,19 +205,19 @@ pub record EntryHead : Type 0 where
   pub starts : List Data
 
 -- an entry of a list after the entries so far; an init may start entries if lists may nest deeper
-abbrev pub head_of : ListPlace → Bool → SoFar → Data → Result EntryHead BootFault
+abbrev pub head_of : ListPlace → Bool → SoFar → Data → Result EntryHead ListFault
 head_of place deeper so_far d = do
   entry ← object_of d
-  told_name ← value_or (BadConfig field.Name) (name_at (codes "name") entry)
+  told_name ← value_or (bad field.Name expect.Name) (name_at (codes "name") entry)
   name ← new_name so_far.entries place.init told_name
   word ← word_of_entry name (get (codes "binary") entry)
-  ram ← value_or (BadConfig field.Quantum) (amount_at (codes "quantum") entry)
-  caps ← value_or (BadConfig field.Caps) (whole_at (codes "caps") 0 4294967295 entry)
-  provider ← value_or (BadConfig field.Provides) (provider_of word (get (codes "provides") entry))
-  route ← value_or (BadConfig field.Route) (own_route (get (codes "route") entry))
+  ram ← value_or (bad field.Quantum expect.Amount) (amount_at (codes "quantum") entry)
+  caps ← value_or (bad field.Caps expect.Caps) (whole_at (codes "caps") 0 4294967295 entry)
+  provider ← value_or (bad field.Provides (provides_expected word)) (provider_of word (get (codes "provides") entry))
+  route ← own_route (get (codes "route") entry)
   reserve ← reserve_of_entry provider.binary entry
   own ← list_of_entry provider.binary deeper so_far.met (get (codes "config") entry)
-  binary ← value_or (BadConfig field.Kinds) (with_kinds provider.binary (get (codes "kinds") entry))
+  binary ← with_kinds provider.binary (get (codes "kinds") entry)
   Ok (record {
     entry = record {
       name = name;
@@ -228,15 +237,6 @@ head_of place deeper so_far d = do
 
 -- ---- all entries
 
--- a fault, and the number of the entry that has it
-pub record Misread : Type 0 where
-  pub fault : BootFault
-  pub entry : ℕ
-
-abbrev pub at_entry : {A : Type 0} → ℕ → Result A BootFault → Result A Misread
-at_entry number (Ok x) = Ok x
-at_entry number (Err fault) = Err (record { fault = fault; entry = number })
-
 -- once an entry was read, with the list that it starts met
 abbrev pub with_head : SoFar → EntryHead → SoFar
 with_head so_far head = record { entries = so_far.entries ++ head.entry ∷ []; met = so_far.met + length head.starts }
@@ -247,21 +247,16 @@ place_within number entry = record { init = number + 1; path = entry.path; label
 
 -- how the entries of a list are read, one after another, each with those that it starts
 abbrev pub Reads : Type 0
-Reads = ListPlace → SoFar → Data → Result SoFar Misread
+Reads = ListPlace → SoFar → Data → Result SoFar ListFault
 
-abbrev pub then_read : Result SoFar Misread → (SoFar → Result SoFar Misread) → Result SoFar Misread
-then_read (Ok so_far) read = read so_far
-then_read (Err misread) read = Err misread
-
-abbrev pub all_read : Reads → ListPlace → SoFar → List Data → Result SoFar Misread
-all_read reads place so_far [] = Ok so_far
-all_read reads place so_far (d ∷ ds) = then_read (reads place so_far d) (λ next. all_read reads place next ds)
+abbrev pub all_read : Reads → ListPlace → SoFar → List Data → Result SoFar ListFault
+all_read reads place so_far ds = all_after (reads place) so_far ds
 
 -- an entry and those that it starts
-abbrev pub read_own : Reads → SoFar → Result EntryHead Misread → Result SoFar Misread
+abbrev pub read_own : Reads → SoFar → Result EntryHead ListFault → Result SoFar ListFault
 read_own reads so_far (Ok head) =
     all_read reads (place_within (length so_far.entries) head.entry) (with_head so_far head) head.starts
-read_own reads so_far (Err misread) = Err misread
+read_own reads so_far (Err fault) = Err fault
 
 -- an entry of a list in which inits may nest so deep
 abbrev pub read_within : ℕ → Reads
@@ -275,5 +270,5 @@ abbrev pub deepest : ℕ
 deepest = 3
 
 -- the entries of the machine's list and of all lists within
-abbrev pub entries_read : List Data → Result SoFar Misread
+abbrev pub entries_read : List Data → Result SoFar ListFault
 entries_read starts = all_read (read_within deepest) outermost (record { entries = []; met = length starts }) starts

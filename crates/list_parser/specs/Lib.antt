@@ -1,5 +1,6 @@
 pub mod PathIndex
 pub mod Members
+pub mod FaultPlace
 pub mod Rules
 pub mod Labels
 pub mod BuiltIn
@@ -11,7 +12,6 @@ pub mod StartText
 pub mod View
 pub mod Range
 pub mod Quota
-pub mod FaultPlace
 pub mod HeadParts
 pub mod ListTheorems
 pub mod Budgets

@@ -15,11 +15,6 @@ elements (item d ds) = d ∷ elements ds
 abbrev pub at_most_32 : List Data → Option (List Data)
 at_most_32 ds = if nat_le (length ds) 32 then Some ds else None
 
--- all of them, each read by f, if f reads each
-abbrev pub each : {A B : Type 0} → (A → Option B) → List A → Option (List B)
-each f [] = Some []
-each f (x ∷ xs) = option_and_then (λ y. option_map (λ ys. y ∷ ys) (each f xs)) (f x)
-
 -- the list that a value is, if it is one of at most 32 elements
 abbrev pub short_list : Data → Option (List Data)
 short_list d = option_and_then at_most_32 (option_map elements (as_array d))

@@ -9,7 +9,7 @@ ghost use Rattle.list_parser.specs.View.{model_binary, word_by};
 use crate::declared_service::DeclaredService;
 use std::alloc::AllocError;
 use std::rc::Rc;
-use trade_base::Service;
+use trade_base::BuiltInService;
 
 /// The binary that a component runs.
 #[derive(Drop)]
@@ -17,7 +17,7 @@ pub enum Binary {
     /// A script, which makes the calls of a scenario.
     Script,
     /// A server of a service that the machine has built in.
-    Server(Service),
+    Server(BuiltInService),
     /// A server of a service that its entry declares.
     Declared(Rc<DeclaredService>),
     /// An init, which starts entries of its own.

@@ -1,5 +1,5 @@
 //! The parse of one entry of a list.
-ghost use Rattle.std.specs.Prelude.{◌≡◌, ◌≢◌, ◌+◌, ◌<◌, ◌≤◌, length, map, nat_lt, IfOk, IfErr, Ok, Err, Some, None};
+ghost use Rattle.std.specs.Prelude.{◌≡◌, ◌≢◌, ◌+◌, ◌<◌, ◌≤◌, length, map, nat_lt, IfOk, IfErr, Ok, Err};
 ghost use Rattle.std.specs.Option.{option_map};
 ghost use Rattle.std.specs.Result.{result_map_both};
 ghost use Rattle.serde_json.specs.View.{view};
@@ -7,13 +7,14 @@ ghost use Rattle.list_parser.specs.Depth.{IsWithin, Starts};
 ghost use Rattle.list_parser.specs.Entries.{is_service_of, is_taken, new_name, own_route, place_within, provided, provided_in, provider_of, word_of_entry};
 ghost use Rattle.list_parser.specs.HeadParts.{head_in_parts, named_of, shares_of};
 ghost use Rattle.list_parser.specs.View.{model_head, model_known, model_named, model_provider, model_resources, model_word};
-ghost use Rattle.list_parser.specs.declared.fault.BootFault.TheVariants.{NoMemory, BadConfig};
+ghost use Rattle.list_parser.specs.declared.fault.BootFault.TheVariants.{NoMemory};
 
 use crate::binary_word::{BinaryWord, KnownBinary, NamedBinary};
 use crate::entry::ListEntry;
 use crate::fault::{BootFault, ConfigField};
 use crate::kinds::service_declared;
 use crate::list_config::read_config;
+use crate::list_fault::{ExpectedValue, FaultPart, ListFault, ListMember};
 use crate::list_place::ListPlace;
 use crate::member::{amount_at, name_at, whole_at};
 use crate::name::Name;
@@ -42,14 +43,14 @@ impl<'v> EntryHead<'v> {
         before: &[ListEntry],
         met: usize,
         value: &'v Value,
-    ) -> Result<EntryHead<'v>, BootFault>
+    ) -> Result<EntryHead<'v>, ListFault>
         requires place { IsWithin deeper place.now }
         requires met { met ≤ 32 }
         ensures ok { IfOk result (λ head. head_in_parts place.now (nat_lt 0 deeper) (record {
           entries = before.now;
           met = met;
         }) (view value.now) ≡ Ok (model_head head)) }
-        ensures err { IfErr result (λ fault. fault ≢ NoMemory
+        ensures err { IfErr result (λ fault. fault.fault ≢ NoMemory
             → head_in_parts place.now (nat_lt 0 deeper) (record { entries = before.now; met = met })
             (view value.now) ≡ Err fault) }
         ensures home { IfOk result (λ head. head.entry.home ≡ place.now.init) }
@@ -58,7 +59,12 @@ impl<'v> EntryHead<'v> {
             (λ head. 0 < length head.starts.now → Starts deeper head.entry) }
     {
         if !value.is_object() {
-            return Err(BootFault::BadConfig(ConfigField::Start));
+            return Err(ListFault::at(
+                BootFault::BadConfig(ConfigField::Start),
+                FaultPart::Whole,
+                None,
+                ExpectedValue::Object,
+            ));
         }
         let init = usize::from(place.init);
         let EntryIdentity { name, word } = EntryIdentity::read(before, init, value)?;
@@ -99,12 +105,12 @@ struct EntryIdentity {
 
 impl EntryIdentity {
     /// Parses the name and the binary's word of a value. The name must be new in the list of an init.
-    fn read(before: &[ListEntry], init: usize, value: &Value) -> Result<EntryIdentity, BootFault>
+    fn read(before: &[ListEntry], init: usize, value: &Value) -> Result<EntryIdentity, ListFault>
         ensures { result_map_both model_named (λ fault. fault) result
             ≡ named_of before.now init (view value.now) }
     {
         let Some(name) = name_at(value, "name") else {
-            return Err(BootFault::BadConfig(ConfigField::Name));
+            return Err(ListFault::bad(ConfigField::Name, ExpectedValue::Name));
         };
         let name = new_name(before, init, name)?;
         let word = read_word(&name, value.get("binary"))?;
@@ -121,18 +127,19 @@ struct EntryResources {
 
 impl EntryResources {
     /// Parses the budget of a value for a binary, and what the entry provides.
-    fn read(word: BinaryWord, value: &Value) -> Result<EntryResources, BootFault>
+    fn read(word: BinaryWord, value: &Value) -> Result<EntryResources, ListFault>
         ensures { result_map_both model_resources (λ fault. fault) result
             ≡ shares_of (model_word word) (view value.now) }
     {
         let Some(ram) = amount_at(value, "quantum") else {
-            return Err(BootFault::BadConfig(ConfigField::Quantum));
+            return Err(ListFault::bad(ConfigField::Quantum, ExpectedValue::Amount));
         };
         let Some(caps) = whole_at(value, "caps", 0, u32::MAX) else {
-            return Err(BootFault::BadConfig(ConfigField::Caps));
+            return Err(ListFault::bad(ConfigField::Caps, ExpectedValue::Caps));
         };
         let Some(provider) = Provider::read(word, value.get("provides")) else {
-            return Err(BootFault::BadConfig(ConfigField::Provides));
+            let expected = word.provides_expected();
+            return Err(ListFault::bad(ConfigField::Provides, expected));
         };
         Ok(EntryResources {
             ram,
@@ -168,11 +175,16 @@ impl Provider {
 }
 
 /// Returns the name, unless an earlier entry of the list of an init has it.
-fn new_name(before: &[ListEntry], init: usize, name: Name) -> Result<Name, BootFault>
+fn new_name(before: &[ListEntry], init: usize, name: Name) -> Result<Name, ListFault>
     ensures { result ≡ new_name before.now init name }
 {
     if is_taken(before, init, name.as_bytes()) {
-        Err(BootFault::DuplicateName(name))
+        Err(ListFault::at(
+            BootFault::DuplicateName(name),
+            FaultPart::Whole,
+            Some(ListMember::Field(ConfigField::Name)),
+            ExpectedValue::NewName,
+        ))
     } else {
         Ok(name)
     }
@@ -188,7 +200,7 @@ fn is_taken(before: &[ListEntry], init: usize, name: &[u8]) -> bool
 }
 
 /// Reads the word of the binary that an entry runs. Without the member it is the entry's name.
-fn read_word(name: &Name, member: Option<&Value>) -> Result<BinaryWord, BootFault>
+fn read_word(name: &Name, member: Option<&Value>) -> Result<BinaryWord, ListFault>
     ensures { result_map_both model_word (λ fault. fault) result
         ≡ word_of_entry name.now (option_map (λ value. view value.now) member.entry) }
 {
@@ -196,7 +208,7 @@ fn read_word(name: &Name, member: Option<&Value>) -> Result<BinaryWord, BootFaul
         Some(value) => BinaryWord::read(
             value
                 .as_str()
-                .ok_or(BootFault::BadConfig(ConfigField::Binary))?,
+                .ok_or(ListFault::bad(ConfigField::Binary, ExpectedValue::Binary))?,
         ),
         None => BinaryWord::read(name.as_str()),
     }
@@ -242,20 +254,15 @@ fn is_service_of(binary: KnownBinary, value: &Value) -> bool
 }
 
 /// Reads an entry's own route, if it has one.
-fn read_route(alloc: Global, member: Option<&Value>) -> Result<Option<Vec<Rule>>, BootFault>
+fn read_route(alloc: Global, member: Option<&Value>) -> Result<Option<Vec<Rule>>, ListFault>
     ensures ok { IfOk result
         (λ route. own_route (option_map (λ value. view value.now) member.entry)
-        ≡ Some (option_map (λ rules. rules.items) route)) }
-    ensures refused { IfErr result
-        (λ fault. fault ≢ NoMemory → fault ≡ BadConfig ConfigField.Route) }
-    ensures none { IfErr result (λ fault. fault ≢ NoMemory
-        → own_route (option_map (λ value. view value.now) member.entry) ≡ None) }
+        ≡ Ok (option_map (λ rules. rules.items) route)) }
+    ensures err { IfErr result (λ fault. fault.fault ≢ NoMemory
+        → own_route (option_map (λ value. view value.now) member.entry) ≡ Err fault) }
 {
     match member {
-        Some(value) => match read_rules(alloc, value)? {
-            Some(rules) => Ok(Some(rules)),
-            None => Err(BootFault::BadConfig(ConfigField::Route)),
-        },
+        Some(value) => Ok(Some(read_rules(alloc, ConfigField::Route, value)?)),
         None => Ok(None),
     }
 }

@@ -1,18 +1,19 @@
 //! The readers of what a server declares: its service, and the kinds of its objects.
-ghost use Rattle.std.specs.Prelude.{◌≡◌, ◌≢◌, ◌≤◌, ◌++◌, ◌∷◌, [], false, is_some, length, map, IfOk, IfErr, IfSome, Some, None};
+ghost use Rattle.std.specs.Prelude.{◌≡◌, ◌≢◌, ◌≤◌, [], false, is_some, length, map, IfOk, IfErr, Ok, Err};
 ghost use Rattle.std.specs.List.{list_any};
 ghost use Rattle.std.specs.Option.{option_map};
 ghost use Rattle.serde_json.specs.View.{view};
 ghost use Rattle.own_model.specs.ObjectKinds.{AreObjectKinds, IsObjectKind, is_kind, kind_named};
-ghost use Rattle.list_parser.specs.DeclaredServers.{declarable, declared_in, is_built_in, kind_of, kinds_after, kinds_declared, listed_in, service_declared, with_next};
-ghost use Rattle.list_parser.specs.declared.fault.BootFault.TheVariants.{NoMemory, BadConfig};
+ghost use Rattle.list_parser.specs.DeclaredServers.{declarable, declared_in, is_built_in, kind_after, kind_of, kinds_declared, kinds_in, listed_in, service_declared};
+ghost use Rattle.list_parser.specs.declared.fault.BootFault.TheVariants.{NoMemory};
 
-use crate::fault::{BootFault, ConfigField};
+use crate::fault::ConfigField;
+use crate::list_fault::{ExpectedValue, FaultPart, Flaw, ListFault, ListMember};
 use crate::member::{name_at, name_of, whole_at};
 use crate::name::Name;
 use object_kinds::{LEAST_BLOCK, MOST_KINDS, ObjectKind};
 use serde_json::Value;
-use std::alloc::{AllocError, Global};
+use std::alloc::Global;
 use trade_base::SERVICES;
 
 /// The most bytes of a kind's block, and the most bytes of a unit.
@@ -66,59 +67,57 @@ pub(crate) fn is_built_in(name: &[u8]) -> bool
         .any(|service| name == service.name().as_bytes())
 }
 
-/// Reads the kinds that a server declares. Refuses with `BadConfig kinds` unless the member is a list of 0 to 16 objects that
-/// are kinds with different names.
+/// Reads the kinds that a server declares. Refuses with the member unless it is a list of 0 to 16 elements, and else with the
+/// first element that is no kind, or that has the name of an earlier one.
 pub(crate) fn read_kinds(
     alloc: Global,
     member: Option<&Value>,
-) -> Result<Vec<ObjectKind>, BootFault>
+) -> Result<Vec<ObjectKind>, ListFault>
     ensures ok { IfOk result
         (λ kinds. kinds_declared (option_map (λ value. view value.now) member.entry)
-        ≡ Some kinds.items) }
+        ≡ Ok kinds.items) }
     ensures are { IfOk result (λ kinds. AreObjectKinds kinds.items) }
-    ensures refused { IfErr result
-        (λ fault. fault ≢ NoMemory → fault ≡ BadConfig ConfigField.Kinds) }
-    ensures none { IfErr result (λ fault. fault ≢ NoMemory
-        → kinds_declared (option_map (λ value. view value.now) member.entry) ≡ None) }
+    ensures err { IfErr result (λ fault. fault.fault ≢ NoMemory
+        → kinds_declared (option_map (λ value. view value.now) member.entry) ≡ Err fault) }
 {
     match listed_in(member) {
-        Some(values) if values.len() <= MOST_KINDS => match kinds_in(alloc, values)? {
-            Some(kinds) => Ok(kinds),
-            None => Err(BootFault::BadConfig(ConfigField::Kinds)),
-        },
-        _ => Err(BootFault::BadConfig(ConfigField::Kinds)),
+        Some(values) if values.len() <= MOST_KINDS => kinds_in(alloc, values),
+        _ => Err(ListFault::bad(ConfigField::Kinds, ExpectedValue::Kinds)),
     }
 }
 
-/// Reads kinds with different names, or returns `None` if a value is no kind or has the name of an earlier one.
-fn kinds_in(alloc: Global, values: &[Value]) -> Result<Option<Vec<ObjectKind>>, AllocError>
+/// Reads kinds with different names.
+fn kinds_in(alloc: Global, values: &[Value]) -> Result<Vec<ObjectKind>, ListFault>
     requires { length values.now ≤ MOST_KINDS }
-    ensures kinds { IfOk result
-        (λ kinds. option_map (λ list. list.items) kinds ≡ kinds_after [] (map view values.now)) }
-    ensures are { IfOk result (λ kinds. IfSome kinds (λ list. AreObjectKinds list.items)) }
+    ensures ok { IfOk result (λ kinds. kinds_in (map view values.now) ≡ Ok kinds.items) }
+    ensures are { IfOk result (λ kinds. AreObjectKinds kinds.items) }
+    ensures err { IfErr result
+        (λ fault. fault.fault ≢ NoMemory → kinds_in (map view values.now) ≡ Err fault) }
 {
     let mut kinds = Vec::new(alloc);
     for value in values {
-        match new_kind(kinds.as_slice(), value) {
-            Some(kind) => kinds.push(kind)?,
-            None => return Ok(None),
+        match read_kind(kinds.as_slice(), value) {
+            Ok(kind) => kinds.push(kind)?,
+            Err(flaw) => {
+                let place = FaultPart::Kind(kinds.len());
+                return Err(ListFault::bad_element(ConfigField::Kinds, place, flaw));
+            }
         }
     }
-    Ok(Some(kinds))
+    Ok(kinds)
 }
 
-/// Reads the kind in a JSON value. Returns `None` if it is none, or if an earlier kind has its name.
-fn new_kind(before: &[ObjectKind], value: &Value) -> Option<ObjectKind>
-    ensures added { option_map (λ kind. before.now ++ kind ∷ []) result
-        ≡ with_next before.now (view value.now) }
-    ensures kind { IfSome result (λ kind. IsObjectKind kind) }
-    ensures new { IfSome result (λ kind. is_some (kind_named kind.name before.now) ≡ false) }
+/// Reads the kind in a JSON value. Refuses with the first bad member, which is its name if an earlier kind has it.
+fn read_kind(before: &[ObjectKind], value: &Value) -> Result<ObjectKind, Flaw>
+    ensures value { result ≡ kind_after before.now (view value.now) }
+    ensures kind { IfOk result (λ kind. IsObjectKind kind) }
+    ensures new { IfOk result (λ kind. is_some (kind_named kind.name before.now) ≡ false) }
 {
     let kind = kind_of(value)?;
     if has_name_of(before, &kind) {
-        None
+        Err(Flaw::of(ListMember::Kind, ExpectedValue::NewKind))
     } else {
-        Some(kind)
+        Ok(kind)
     }
 }
 
@@ -138,13 +137,22 @@ fn has_name(kinds: &[ObjectKind], name: &str) -> bool
         .any(|kind| kind.name().as_bytes() == name.as_bytes())
 }
 
-/// Reads the kind in a JSON value, or returns `None` if it is none.
-fn kind_of(value: &Value) -> Option<ObjectKind>
+/// Reads the kind in a JSON value. Refuses with the whole value if it is no object, and else with the first bad member.
+fn kind_of(value: &Value) -> Result<ObjectKind, Flaw>
     ensures value { result ≡ kind_of (view value.now) }
-    ensures kind { IfSome result (λ kind. IsObjectKind kind) }
+    ensures kind { IfOk result (λ kind. IsObjectKind kind) }
 {
-    let name = name_at(value, "kind")?;
-    let block = whole_at(value, "block", u32::from(LEAST_BLOCK), MOST_BYTES)?;
-    let bytes = whole_at(value, "bytes", 0, MOST_BYTES)?;
-    Some(ObjectKind::new(name.as_str(), block as u16, bytes as u16))
+    if !value.is_object() {
+        return Err(Flaw::whole(ExpectedValue::Object));
+    }
+    let Some(name) = name_at(value, "kind") else {
+        return Err(Flaw::of(ListMember::Kind, ExpectedValue::Name));
+    };
+    let Some(block) = whole_at(value, "block", u32::from(LEAST_BLOCK), MOST_BYTES) else {
+        return Err(Flaw::of(ListMember::Block, ExpectedValue::BlockBytes));
+    };
+    let Some(bytes) = whole_at(value, "bytes", 0, MOST_BYTES) else {
+        return Err(Flaw::of(ListMember::Bytes, ExpectedValue::UnitBytes));
+    };
+    Ok(ObjectKind::new(name.as_str(), block as u16, bytes as u16))
 }

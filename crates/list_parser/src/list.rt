@@ -1,5 +1,5 @@
 //! Start lists, parsed from JSON.
-ghost use Rattle.std.specs.Prelude.{◌≡◌, ◌≢◌, ◌<◌, ◌≤◌, is_some, length, map, IfOk, IfErr, Ok, Some, None};
+ghost use Rattle.std.specs.Prelude.{◌≡◌, ◌≢◌, ◌<◌, ◌≤◌, is_some, length, IfOk, IfErr, Ok, Err, Some, None};
 ghost use Rattle.std.specs.Option.{option_copied, option_map};
 ghost use Rattle.std.specs.List.{position, slice_get};
 ghost use Rattle.std.specs.Result.{result_map_both};
@@ -9,16 +9,16 @@ ghost use Rattle.own_model.specs.Listed.{default_of, init_entry, rules_for, serv
 ghost use Rattle.own_model.specs.StartList.{entries_of};
 ghost use Rattle.own_model.specs.Transcript.{entry_at};
 ghost use Rattle.list_parser.specs.Depth.{IsParentInit, is_init};
-ghost use Rattle.list_parser.specs.Entries.{entries_read};
 ghost use Rattle.list_parser.specs.ListTheorems.{IsListed};
-ghost use Rattle.list_parser.specs.FaultPlace.{entry_at_fault, place_of_fault, starts_of};
 ghost use Rattle.list_parser.specs.Services.{service_text};
-ghost use Rattle.list_parser.specs.StartText.{json_in, list_in, list_of, machine_of};
-ghost use Rattle.list_parser.specs.declared.fault.BootFault.TheVariants.{NoMemory, BadConfig, BadJson};
+ghost use Rattle.list_parser.specs.StartText.{bad_size, json_in, list_in, list_of, machine_of, placed_list};
+ghost use Rattle.list_parser.specs.declared.fault.BootFault.TheVariants.{NoMemory};
+ghost use Rattle.list_parser.specs.declared.list_fault.JsonFault.TheVariants.{NoMemory as NoText};
 
 use crate::entry::ListEntry;
 use crate::fault::{BootFault, ConfigField};
 use crate::list_config::read_own;
+use crate::list_fault::{ExpectedValue, FaultPart, JsonFault, ListFault, ListMember};
 use crate::list_place::ListPlace;
 use crate::list_reader::ListReader;
 use crate::list_service::{ListService, declared_names};
@@ -26,7 +26,7 @@ use crate::member::whole_at;
 use crate::name::Name;
 use crate::path_index::PathIndex;
 use crate::rule::Rule;
-use serde_json::Value;
+use serde_json::{Category, Value};
 use std::alloc::Global;
 use std::marker::Model;
 use trade_base::SERVICES;
@@ -91,8 +91,11 @@ impl StartList {
         if text.len() > LONGEST_TEXT {
             return Err(BootFault::BadConfig(ConfigField::Size));
         }
-        let value = read_json(alloc, text)?;
-        StartList::of_value(alloc, &value)
+        match read_json(alloc, text) {
+            Ok(value) => StartList::of_value(alloc, &value),
+            Err(JsonFault::Syntax(_, _, _)) => Err(BootFault::BadJson),
+            Err(JsonFault::NoMemory) => Err(BootFault::NoMemory),
+        }
     }
 
     /// Reads a start list from a JSON value. Refuses with `BadConfig` for the machine, its `pages`, its `caps`,
@@ -103,12 +106,24 @@ impl StartList {
         ensures err { IfErr result
             (λ fault. fault ≢ NoMemory → list_of (view value.now) ≡ Err fault) }
     {
+        match StartList::of_value_placed(alloc, value) {
+            Ok(list) => Ok(list),
+            Err(fault) => Err(fault.fault),
+        }
+    }
+
+    /// Reads a start list from a JSON value as `of_value` does, and returns a fault with its place.
+    pub fn of_value_placed(alloc: Global, value: &Value) -> Result<StartList, ListFault>
+        ensures ok { IfOk result (λ list. placed_list (view value.now) ≡ Ok list) }
+        ensures err { IfErr result
+            (λ fault. fault.fault ≢ NoMemory → placed_list (view value.now) ≡ Err fault) }
+    {
         let machine = machine_of(value)?;
         let Some(pages) = whole_at(machine, "pages", SMALLEST, LARGEST) else {
-            return Err(BootFault::BadConfig(ConfigField::Pages));
+            return Err(bad_size(ConfigField::Pages));
         };
         let Some(caps) = whole_at(machine, "caps", SMALLEST, LARGEST) else {
-            return Err(BootFault::BadConfig(ConfigField::Caps));
+            return Err(bad_size(ConfigField::Caps));
         };
         let own = read_own(alloc, 0, value)?;
         let mut reading = ListReader::new(alloc, own.starts.len());
@@ -296,75 +311,44 @@ impl StartList {
     }
 }
 
-/// Parses a text as JSON. Refuses with `BadJson`, or returns `NoMemory` if the host is out of memory.
-fn read_json(alloc: Global, text: &[u8]) -> Result<Value, BootFault>
+/// Parses a text as JSON. Returns the place from which the text is none, or `NoMemory` if the host is out of memory.
+pub fn read_json(alloc: Global, text: &[u8]) -> Result<Value, JsonFault>
     ensures ok { IfOk result (λ value. json_in text.now ≡ Some (view value)) }
-    ensures refused { IfErr result (λ fault. fault ≢ NoMemory → fault ≡ BadJson) }
-    ensures none { IfErr result (λ fault. fault ≢ NoMemory → json_in text.now ≡ None) }
+    ensures none { IfErr result (λ fault. fault ≢ NoText → json_in text.now ≡ None) }
 {
     match Value::from_slice(alloc, text) {
         Ok(value) => Ok(value),
         Err(error) => if error.is_memory() {
-            Err(BootFault::NoMemory)
+            Err(JsonFault::NoMemory)
         } else {
-            Err(BootFault::BadJson)
+            Err(JsonFault::Syntax(
+                error.line(),
+                error.column(),
+                matches!(error.classify(), Category::Eof),
+            ))
         },
     }
 }
 
-/// Returns the place, among the entries of all lists, of the entry that has the fault of a value that is no start list. An
-/// init is counted before its own entries. Returns `None` if the fault is not of an entry. Returns `NoMemory` if the host is
-/// out of memory.
-pub fn entry_at_fault(alloc: Global, value: &Value) -> Result<Option<usize>, BootFault>
-    ensures place { IfOk result (λ place. place ≡ entry_at_fault (view value.now)) }
-    ensures memory { IfErr result (λ fault. fault ≡ NoMemory) }
+/// Returns the fault of a bad size of the machine.
+fn bad_size(field: ConfigField) -> ListFault
+    ensures { result ≡ bad_size field }
 {
-    match starts_of(alloc, value) {
-        Ok(starts) => place_of_fault(alloc, starts),
-        Err(BootFault::NoMemory) => Err(BootFault::NoMemory),
-        Err(_) => Ok(None),
-    }
-}
-
-/// Finds the same place by the values of the machine's list.
-fn place_of_fault(alloc: Global, starts: &[Value]) -> Result<Option<usize>, BootFault>
-    requires { length starts.now ≤ 32 }
-    ensures place { IfOk result
-        (λ place. place ≡ place_of_fault (entries_read (map view starts.now))) }
-    ensures memory { IfErr result (λ fault. fault ≡ NoMemory) }
-{
-    let mut reading = ListReader::new(alloc, starts.len());
-    match reading.read_list(alloc, &ListPlace::outermost(), DEEPEST, starts) {
-        Ok(()) => Ok(None),
-        Err(BootFault::NoMemory) => Err(BootFault::NoMemory),
-        Err(_) => Ok(Some(reading.entries.len())),
-    }
-}
-
-/// Returns the values of the entries of the machine's list, if nothing before them has a fault.
-fn starts_of(alloc: Global, value: &Value) -> Result<&[Value], BootFault>
-    ensures ok { IfOk result (λ starts. starts_of (view value.now) ≡ Ok (map view starts.now)) }
-    ensures err { IfErr result
-        (λ fault. fault ≢ NoMemory → starts_of (view value.now) ≡ Err fault) }
-    ensures few { IfOk result (λ starts. length starts.now ≤ 32) }
-{
-    let machine = machine_of(value)?;
-    if whole_at(machine, "pages", SMALLEST, LARGEST).is_none() {
-        return Err(BootFault::BadConfig(ConfigField::Pages));
-    }
-    if whole_at(machine, "caps", SMALLEST, LARGEST).is_none() {
-        return Err(BootFault::BadConfig(ConfigField::Caps));
-    }
-    Ok(read_own(alloc, 0, value)?.starts)
+    ListFault::at(
+        BootFault::BadConfig(field),
+        FaultPart::Machine,
+        Some(ListMember::Field(field)),
+        ExpectedValue::MachineSize,
+    )
 }
 
 /// Returns the value of the machine in a start list.
-fn machine_of(list: &Value) -> Result<&Value, BootFault>
+fn machine_of(list: &Value) -> Result<&Value, ListFault>
     ensures { result_map_both (λ machine. view machine.now) (λ fault. fault) result
         ≡ machine_of (view list.now) }
 {
     match list.get("machine") {
         Some(machine) if machine.is_object() => Ok(machine),
-        _ => Err(BootFault::BadConfig(ConfigField::Machine)),
+        _ => Err(ListFault::bad(ConfigField::Machine, ExpectedValue::Object)),
     }
 }

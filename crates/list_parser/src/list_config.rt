@@ -1,15 +1,16 @@
 //! The configuration of a list of entries: two members of the text for the machine's list, or of an entry's `config` for an
 //! init's.
-ghost use Rattle.std.specs.Prelude.{◌≡◌, ◌≢◌, ◌+◌, ◌<◌, ◌≤◌, true, length, map, IfOk, IfErr, IfSome, Ok, Err, Some, None};
+ghost use Rattle.std.specs.Prelude.{◌≡◌, ◌≢◌, ◌+◌, ◌<◌, ◌≤◌, true, length, map, IfOk, IfErr, IfSome, Ok, Err};
 ghost use Rattle.std.specs.Option.{option_map};
 ghost use Rattle.serde_json.specs.View.{view};
 ghost use Rattle.list_parser.specs.Depth.{runs_init};
 ghost use Rattle.list_parser.specs.Entries.{config_of, default_route, own_of, list_of_entry, starts_in};
 ghost use Rattle.list_parser.specs.View.{model_named_binary, model_own};
-ghost use Rattle.list_parser.specs.declared.fault.BootFault.TheVariants.{NoMemory, BadConfig};
+ghost use Rattle.list_parser.specs.declared.fault.BootFault.TheVariants.{NoMemory};
 
 use crate::binary_word::NamedBinary;
-use crate::fault::{BootFault, ConfigField};
+use crate::fault::ConfigField;
+use crate::list_fault::{ExpectedValue, ListFault};
 use crate::member::short_list;
 use crate::rule::{Rule, read_rules};
 use serde_json::Value;
@@ -26,19 +27,19 @@ pub(crate) struct ListConfig<'v> {
 }
 
 /// Reads what an entry of a binary starts, which is nothing unless the binary is `init`. Refuses with `BadConfig config` if
-/// the member is no object or inits may not nest deeper. Otherwise refuses as `read_own`.
+/// the member is no object or inits may not nest deeper. Otherwise refuses as `read_own`, within the member.
 pub(crate) fn read_config<'v>(
     alloc: Global,
     binary: &NamedBinary,
     deeper: bool,
     met: usize,
     member: Option<&'v Value>,
-) -> Result<ListConfig<'v>, BootFault>
+) -> Result<ListConfig<'v>, ListFault>
     requires { met ≤ 32 }
     ensures ok { IfOk result (λ own. list_of_entry (model_named_binary binary.now) deeper met
         (option_map (λ value. view value.now) member.entry) ≡ Ok (model_own own)) }
     ensures err { IfErr result
-        (λ fault. fault ≢ NoMemory → list_of_entry (model_named_binary binary.now) deeper met
+        (λ fault. fault.fault ≢ NoMemory → list_of_entry (model_named_binary binary.now) deeper met
         (option_map (λ value. view value.now) member.entry) ≡ Err fault) }
     ensures few { IfOk result (λ own. met + length own.starts.now ≤ 32) }
     ensures some { IfOk result (λ own. 0 < length own.starts.now
@@ -51,8 +52,15 @@ pub(crate) fn read_config<'v>(
         });
     }
     match member {
-        Some(config) if deeper && config.is_object() => read_own(alloc, met, config),
-        _ => Err(BootFault::BadConfig(ConfigField::Config)),
+        Some(config) if config.is_object() => if deeper {
+            match read_own(alloc, met, config) {
+                Ok(own) => Ok(own),
+                Err(fault) => Err(fault.of_config()),
+            }
+        } else {
+            Err(ListFault::bad(ConfigField::Config, ExpectedValue::NoInit))
+        },
+        _ => Err(ListFault::bad(ConfigField::Config, ExpectedValue::Object)),
     }
 }
 
@@ -62,17 +70,17 @@ pub(crate) fn read_own(
     alloc: Global,
     met: usize,
     object: &Value,
-) -> Result<ListConfig<'_>, BootFault>
+) -> Result<ListConfig<'_>, ListFault>
     requires { met ≤ 32 }
     ensures ok { IfOk result (λ own. own_of met (view object.now) ≡ Ok (model_own own)) }
     ensures err { IfErr result
-        (λ fault. fault ≢ NoMemory → own_of met (view object.now) ≡ Err fault) }
+        (λ fault. fault.fault ≢ NoMemory → own_of met (view object.now) ≡ Err fault) }
     ensures few { IfOk result (λ own. met + length own.starts.now ≤ 32) }
 {
     let route = read_default_route(alloc, object.get("default-route"))?;
     match starts_in(met, object.get("start")) {
         Some(starts) => Ok(ListConfig { route, starts }),
-        None => Err(BootFault::BadConfig(ConfigField::Start)),
+        None => Err(ListFault::bad(ConfigField::Start, ExpectedValue::Entries)),
     }
 }
 
@@ -92,20 +100,15 @@ fn starts_in(met: usize, member: Option<&Value>) -> Option<&[Value]>
 }
 
 /// Reads the rules for entries without a route of their own, which are none without the member.
-fn read_default_route(alloc: Global, member: Option<&Value>) -> Result<Vec<Rule>, BootFault>
+fn read_default_route(alloc: Global, member: Option<&Value>) -> Result<Vec<Rule>, ListFault>
     ensures ok { IfOk result
         (λ rules. default_route (option_map (λ value. view value.now) member.entry)
-        ≡ Some rules.items) }
-    ensures refused { IfErr result
-        (λ fault. fault ≢ NoMemory → fault ≡ BadConfig ConfigField.DefaultRoute) }
-    ensures none { IfErr result (λ fault. fault ≢ NoMemory
-        → default_route (option_map (λ value. view value.now) member.entry) ≡ None) }
+        ≡ Ok rules.items) }
+    ensures err { IfErr result (λ fault. fault.fault ≢ NoMemory
+        → default_route (option_map (λ value. view value.now) member.entry) ≡ Err fault) }
 {
     match member {
-        Some(value) => match read_rules(alloc, value)? {
-            Some(rules) => Ok(rules),
-            None => Err(BootFault::BadConfig(ConfigField::DefaultRoute)),
-        },
+        Some(value) => read_rules(alloc, ConfigField::DefaultRoute, value),
         None => Ok(Vec::new(alloc)),
     }
 }

@@ -8,7 +8,7 @@ ghost use Rattle.list_parser.specs.declared.fault.BootFault.TheVariants.{NoMemor
 
 use crate::entry::ListEntry;
 use crate::entry_head::EntryHead;
-use crate::fault::BootFault;
+use crate::list_fault::ListFault;
 use crate::list_place::ListPlace;
 use serde_json::Value;
 use std::alloc::Global;
@@ -38,15 +38,14 @@ impl ListReader {
         }
     }
 
-    /// Reads the entries of a list in which inits may nest `deeper` times, each with those that it starts. A fault is that
-    /// of the entry after those that were read.
+    /// Reads the entries of a list in which inits may nest `deeper` times, each with those that it starts.
     pub(crate) fn read_list(
         &mut self,
         alloc: Global,
         place: &ListPlace,
         deeper: usize,
         starts: &[Value],
-    ) -> Result<(), BootFault>
+    ) -> Result<(), ListFault>
         requires place { IsWithin deeper place.now }
         requires list { is_list self.old.entries.items place.now.init ≡ true }
         requires homes { HaveParentInits self.old.entries.items }
@@ -55,9 +54,9 @@ impl ListReader {
         ensures ok { OnOk result
             (all_read (read_within deeper) place.now (so_far self.old) (map view starts.now)
             ≡ Ok (so_far self.new)) }
-        ensures err { IfErr result (λ fault. fault ≢ NoMemory
+        ensures err { IfErr result (λ fault. fault.fault ≢ NoMemory
             → all_read (read_within deeper) place.now (so_far self.old) (map view starts.now)
-            ≡ Err (record { fault = fault; entry = length self.new.entries.items })) }
+            ≡ Err fault) }
         ensures grow { Grow self.old.entries.items self.new.entries.items }
         ensures count { OnOk result (length self.new.entries.items + self.old.met
             ≡ length self.old.entries.items + length starts.now + self.new.met) }
@@ -79,7 +78,7 @@ impl ListReader {
         place: &ListPlace,
         deeper: usize,
         value: &'v Value,
-    ) -> Result<InnerList<'v>, BootFault>
+    ) -> Result<InnerList<'v>, ListFault>
         requires place { IsWithin deeper place.now }
         requires list { is_list self.old.entries.items place.now.init ≡ true }
         requires homes { HaveParentInits self.old.entries.items }
@@ -88,9 +87,9 @@ impl ListReader {
         ensures ok { IfOk result (λ below.
             read_within deeper place.now (so_far self.old) (view value.now)
             ≡ all_read (reads_below deeper) below.place (so_far self.new) (map view below.starts.now)) }
-        ensures err { IfErr result (λ fault. fault ≢ NoMemory
+        ensures err { IfErr result (λ fault. fault.fault ≢ NoMemory
             → read_within deeper place.now (so_far self.old) (view value.now)
-            ≡ Err (record { fault = fault; entry = length self.new.entries.items })) }
+            ≡ Err fault) }
         ensures grow { Grow self.old.entries.items self.new.entries.items }
         ensures count { OnOk result
             (length self.new.entries.items ≡ length self.old.entries.items + 1) }
@@ -101,7 +100,17 @@ impl ListReader {
             → IsBelow deeper self.new.entries.items below.place) }
     {
         let met = self.met;
-        let head = EntryHead::read(alloc, place, deeper, self.entries.as_slice(), met, value)?;
+        let head = match EntryHead::read(
+            alloc,
+            place,
+            deeper,
+            self.entries.as_slice(),
+            met,
+            value,
+        ) {
+            Ok(head) => head,
+            Err(fault) => return Err(fault.of_entry(self.entries.len())),
+        };
         let below = InnerList {
             place: ListPlace::within(self.entries.len(), &head.entry),
             starts: head.starts,

@@ -11,13 +11,13 @@ use crate::entry::ListEntry;
 use crate::kinds::is_built_in;
 use crate::name::Name;
 use std::alloc::{AllocError, Global};
-use trade_base::Service;
+use trade_base::BuiltInService;
 
 /// A service of a start list.
 #[derive(Clone, Copy)]
 pub enum ListService<'a> {
     /// A service that the machine has built in.
-    BuiltIn(Service),
+    BuiltIn(BuiltInService),
     /// A service that a server of the list declares, by its name.
     Declared(&'a Name),
 }

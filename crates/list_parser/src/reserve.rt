@@ -4,12 +4,13 @@ ghost use Rattle.std.specs.Option.{option_map};
 ghost use Rattle.std.specs.Result.{result_map_both};
 ghost use Rattle.serde_json.specs.View.{view};
 ghost use Rattle.core_calls.specs.Quotas.{reserve_amounts};
-ghost use Rattle.list_parser.specs.Entries.{if_script, reserve_of_entry, reserve_with};
+ghost use Rattle.list_parser.specs.Entries.{if_script, if_script_expected, reserve_of_entry, reserve_with};
 ghost use Rattle.list_parser.specs.Members.{amount_in, whole_in};
 ghost use Rattle.list_parser.specs.View.{model_named_binary};
 
 use crate::binary_word::NamedBinary;
-use crate::fault::{BootFault, ConfigField};
+use crate::fault::ConfigField;
+use crate::list_fault::{ExpectedValue, ListFault};
 use crate::member::{amount_in, whole_in};
 use core_calls::Reserve;
 use serde_json::Value;
@@ -20,17 +21,30 @@ use trade_base::{Caps, Ram};
 pub(crate) fn read_reserve(
     binary: &NamedBinary,
     entry: &Value,
-) -> Result<Option<Reserve>, BootFault>
+) -> Result<Option<Reserve>, ListFault>
     ensures { result_map_both (option_map reserve_amounts) (λ fault. fault) result
         ≡ reserve_of_entry (model_named_binary binary.now) (view entry.now) }
 {
     let Some(ram) = reserve_ram(binary, entry.get("reserve")) else {
-        return Err(BootFault::BadConfig(ConfigField::Reserve));
+        let expected = if_script(binary, ExpectedValue::Amount);
+        return Err(ListFault::bad(ConfigField::Reserve, expected));
     };
     let Some(caps) = reserve_caps(binary, entry.get("reserve-caps")) else {
-        return Err(BootFault::BadConfig(ConfigField::ReserveCaps));
+        let expected = if_script(binary, ExpectedValue::Caps);
+        return Err(ListFault::bad(ConfigField::ReserveCaps, expected));
     };
     Ok(reserve_with(ram, caps))
+}
+
+/// Returns what is expected of a member of a reserve, which only a script has.
+fn if_script(binary: &NamedBinary, expected: ExpectedValue) -> ExpectedValue
+    ensures { result ≡ if_script_expected expected (model_named_binary binary.now) }
+{
+    if binary.is_script() {
+        expected
+    } else {
+        ExpectedValue::NoReserve
+    }
 }
 
 /// Reads the RAM of a script's reserve, if the member is there. Returns `None` if the member is no amount or the entry is no

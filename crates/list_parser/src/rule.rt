@@ -1,14 +1,18 @@
 //! Rules: the test of a session request, and the target to which it is routed.
-ghost use Rattle.std.specs.Prelude.{◌≡◌, IfOk};
+ghost use Rattle.std.specs.Prelude.{◌≡◌, ◌≢◌, IfErr, IfOk, Ok, Err};
 ghost use Rattle.std.specs.Str.{bytes_eq};
 ghost use Rattle.std.specs.Option.{option_map, option_copied};
+ghost use Rattle.std.specs.Result.{result_map_both};
 ghost use Rattle.own_model.specs.Routes.{as_asked};
 ghost use Rattle.serde_json.specs.View.{view};
 ghost use Rattle.list_parser.specs.Labels.{is_parent, labels_of};
 ghost use Rattle.list_parser.specs.View.{model_target};
 ghost use Rattle.list_parser.specs.Rules.{rule_of, rules_of, service_asked, target_named};
+ghost use Rattle.list_parser.specs.declared.fault.BootFault.TheVariants.{NoMemory};
 
+use crate::fault::ConfigField;
 use crate::label_test::LabelTest;
+use crate::list_fault::{ExpectedValue, FaultPart, Flaw, ListFault, ListMember};
 use crate::member::{is_true, name_of, optional_text, short_list};
 use crate::name::Name;
 use serde_json::Value;
@@ -74,16 +78,6 @@ impl Model for Rule {
 }
 
 impl Rule {
-    /// Reads the rule in a JSON value, or returns `None` if it is none. Returns an error if the host is out of memory.
-    pub(crate) fn read(alloc: Global, value: &Value) -> Result<Option<Rule>, AllocError>
-        ensures { IfOk result (λ rule. rule ≡ rule_of (view value.now)) }
-    {
-        let Some(told) = BorrowedRule::read(value) else {
-            return Ok(None);
-        };
-        Ok(Some(told.kept(alloc)?))
-    }
-
     /// Copies the rule.
     fn copy(&self, alloc: Global) -> Result<Rule, AllocError>
         ensures { IfOk result (λ copy. copy ≡ self.now) }
@@ -180,21 +174,23 @@ struct BorrowedRule<'v> {
 impl<'v> BorrowedRule<'v> {
     ghost use Rattle.list_parser.specs.View.{told_rule};
 
-    /// Reads the rule in a JSON value, or returns `None` if it is none.
-    fn read(value: &'v Value) -> Option<BorrowedRule<'v>>
-        ensures { option_map told_rule result ≡ rule_of (view value.now) }
+    /// Reads the rule in a JSON value. Refuses with the whole value if it is no object, and else with the first bad member:
+    /// the service, the label tests, the target.
+    fn read(value: &'v Value) -> Result<BorrowedRule<'v>, Flaw>
+        ensures { result_map_both told_rule (λ flaw. flaw) result ≡ rule_of (view value.now) }
     {
-        let Some(service) = service_asked(value.get("service"), value.get("any-service")) else {
-            return None;
-        };
+        if !value.is_object() {
+            return Err(Flaw::whole(ExpectedValue::Object));
+        }
+        let service = service_asked(value.get("service"), value.get("any-service"))?;
         let Some(label) = optional_text(value, "label") else {
-            return None;
+            return Err(Flaw::of(ListMember::Label, ExpectedValue::Text));
         };
         let Some(label_prefix) = optional_text(value, "label_prefix") else {
-            return None;
+            return Err(Flaw::of(ListMember::LabelPrefix, ExpectedValue::Text));
         };
         let Some(label_suffix) = optional_text(value, "label_suffix") else {
-            return None;
+            return Err(Flaw::of(ListMember::LabelSuffix, ExpectedValue::Text));
         };
         let (child, any, parent) = (
             value.get("child"),
@@ -202,14 +198,14 @@ impl<'v> BorrowedRule<'v> {
             value.get("parent"),
         );
         match target_named(child, any, parent) {
-            Some(target) => Some(BorrowedRule {
+            Ok(target) => Ok(BorrowedRule {
                 service,
                 label,
                 label_prefix,
                 label_suffix,
                 target,
             }),
-            None => None,
+            Err(flaw) => Err(flaw),
         }
     }
 
@@ -225,35 +221,52 @@ impl<'v> BorrowedRule<'v> {
     }
 }
 
-/// Returns the name that `service` asks for, or no name for `any-service`. Returns `None` unless exactly one of them is
-/// there.
-fn service_asked(service: Option<&Value>, any: Option<&Value>) -> Option<Option<Name>>
+/// Returns the name that `service` asks for, or no name for `any-service`. Refuses unless exactly one of them is there.
+fn service_asked(service: Option<&Value>, any: Option<&Value>) -> Result<Option<Name>, Flaw>
     ensures { result ≡ service_asked (option_map (λ value. view value.now) service.entry)
         (option_map (λ value. view value.now) any.entry) }
 {
     match (service, any) {
-        (Some(service), None) => Some(Some(name_of(service)?)),
-        (None, Some(any)) if is_true(any) => Some(None),
-        _ => None,
+        (Some(service), None) => match name_of(service) {
+            Some(name) => Ok(Some(name)),
+            None => Err(Flaw::of(ListMember::Service, ExpectedValue::Name)),
+        },
+        (None, Some(any)) => if is_true(any) {
+            Ok(None)
+        } else {
+            Err(Flaw::of(ListMember::AnyService, ExpectedValue::True))
+        },
+        _ => Err(Flaw::whole(ExpectedValue::OneService)),
     }
 }
 
-/// Returns the target of `child`, `any-child` or `parent`. Returns `None` unless exactly one of them is there.
+/// Returns the target of `child`, `any-child` or `parent`. Refuses unless exactly one of them is there.
 fn target_named(
     child: Option<&Value>,
     any: Option<&Value>,
     parent: Option<&Value>,
-) -> Option<Target>
-    ensures { option_map model_target result
+) -> Result<Target, Flaw>
+    ensures { result_map_both model_target (λ flaw. flaw) result
         ≡ target_named (option_map (λ value. view value.now) child.entry)
         (option_map (λ value. view value.now) any.entry)
         (option_map (λ value. view value.now) parent.entry) }
 {
     match (child, any, parent) {
-        (Some(child), None, None) => Some(Target::Child(name_of(child)?)),
-        (None, Some(any), None) if is_true(any) => Some(Target::AnyChild),
-        (None, None, Some(parent)) if is_true(parent) => Some(Target::Parent),
-        _ => None,
+        (Some(child), None, None) => match name_of(child) {
+            Some(name) => Ok(Target::Child(name)),
+            None => Err(Flaw::of(ListMember::Child, ExpectedValue::Name)),
+        },
+        (None, Some(any), None) => if is_true(any) {
+            Ok(Target::AnyChild)
+        } else {
+            Err(Flaw::of(ListMember::AnyChild, ExpectedValue::True))
+        },
+        (None, None, Some(parent)) => if is_true(parent) {
+            Ok(Target::Parent)
+        } else {
+            Err(Flaw::of(ListMember::Parent, ExpectedValue::True))
+        },
+        _ => Err(Flaw::whole(ExpectedValue::OneTarget)),
     }
 }
 
@@ -268,20 +281,29 @@ pub(crate) fn copy_rules(alloc: Global, rules: &[Rule]) -> Result<Vec<Rule>, All
     Ok(copies)
 }
 
-/// The rules that a value lists, if it is a list of at most 32 rules.
-pub(crate) fn read_rules(alloc: Global, value: &Value) -> Result<Option<Vec<Rule>>, AllocError>
-    ensures { IfOk result
-        (λ rules. option_map (λ list. list.items) rules ≡ rules_of (view value.now)) }
+/// Reads the rules that a member lists. Refuses with the member unless it is a list of at most 32 elements, and else with the
+/// first element that is no rule.
+pub(crate) fn read_rules(
+    alloc: Global,
+    field: ConfigField,
+    value: &Value,
+) -> Result<Vec<Rule>, ListFault>
+    ensures ok { IfOk result (λ rules. rules_of field (view value.now) ≡ Ok rules.items) }
+    ensures err { IfErr result
+        (λ fault. fault.fault ≢ NoMemory → rules_of field (view value.now) ≡ Err fault) }
 {
     let Some(list) = short_list(value) else {
-        return Ok(None);
+        return Err(ListFault::bad(field, ExpectedValue::Rules));
     };
     let mut rules = Vec::new(alloc);
     for item in list {
-        match Rule::read(alloc, item)? {
-            Some(rule) => rules.push(rule)?,
-            None => return Ok(None),
+        match BorrowedRule::read(item) {
+            Ok(rule) => rules.push(rule.kept(alloc)?)?,
+            Err(flaw) => {
+                let place = FaultPart::Rule(rules.len());
+                return Err(ListFault::bad_element(field, place, flaw));
+            }
         }
     }
-    Ok(Some(rules))
+    Ok(rules)
 }

@@ -3,24 +3,25 @@ use Rattle.std.proofs.Common.{◌≡◌, ◌∙◌, Bool, true, false, if◌then
 use Rattle.std.specs.Option.{option_map}
 use Rattle.std.specs.Str.{bytes_eq}
 use Rattle.std.proofs.lemmas.Slice.Eq.{bytes_eq-Decides}
-use Rattle.trade_base.specs.declared.service.Service.TheVariants.{Log, Files}
+use Rattle.trade_base.specs.declared.service.BuiltInService.TheVariants.{Log, Files}
 use Rattle.own_model.specs.Listed.{Binary}
 use Rattle.own_model.specs.Listed.Binary.{Script, Server, Init}
 use Rattle.own_model.specs.Offer.Offer.{OffersLog, OffersFiles, OffersObjects}
 use Rattle.list_parser.specs.BuiltIn.{built_in}
-use Rattle.list_parser.specs.Entries.{BinaryWord, value_or, word_of}
+use Rattle.list_parser.specs.Entries.{BinaryWord, word_of}
+use Rattle.list_parser.specs.FaultPlace.{value_or}
 use Rattle.list_parser.specs.Entries.BinaryWord.{Known, Declares}
 use Rattle.list_parser.specs.View.{word_by}
-use Rattle.list_parser.specs.declared.fault.BootFault.{BootFault}
+use Rattle.list_parser.specs.declared.list_fault.ListFault.{ListFault}
 use Rattle.list_parts.specs.Kinds.{binary_word}
 
-abbrev text_of : Result BinaryWord BootFault → List ℕ
+abbrev text_of : Result BinaryWord ListFault → List ℕ
 text_of (Ok (Known binary)) = binary_word binary
 text_of (Ok Declares) = codes "server"
 text_of (Err fault) = []
 
 -- a text that is one word, or is read further
-if_word : (text word : List ℕ) (read found : BinaryWord) (rest : Result BinaryWord BootFault) → text_of (Ok read) ≡ word
+if_word : (text word : List ℕ) (read found : BinaryWord) (rest : Result BinaryWord ListFault) → text_of (Ok read) ≡ word
     → (rest ≡ Ok found → text ≡ text_of (Ok found)) → (if bytes_eq text word then Ok read else rest) ≡ Ok found → text ≡ text_of (Ok found)
 if_word text word read found rest has further = by (bytes_eq text word) refl
   where
@@ -29,7 +30,7 @@ if_word text word read found rest has further = by (bytes_eq text word) refl
     by false apart is = further is
 
 -- a text that is the name of a built-in server's binary
-if_served : (text : List ℕ) (found : BinaryWord) (fault : BootFault) (log files : Bool) → bytes_eq text (codes "log") ≡ log → bytes_eq text (codes "files") ≡ files
+if_served : (text : List ℕ) (found : BinaryWord) (fault : ListFault) (log files : Bool) → bytes_eq text (codes "log") ≡ log → bytes_eq text (codes "files") ≡ files
     → value_or fault (option_map (λ service. Known (built_in service)) (if log then Some Log else (if files then Some Files else None))) ≡ Ok found
     → text ≡ text_of (Ok found)
 if_served text found fault true files same other is = (bytes_eq-Decides text (codes "log")).0 same ∙ ap text_of is

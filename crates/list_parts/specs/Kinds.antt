@@ -1,15 +1,13 @@
--- Words of binaries, and the kinds of objects that declared servers offer, as text and as objects of JSON.
-use Rattle.std.specs.Prelude.{ℕ, List, [], ◌∷◌, ◌++◌, codes, decimal, map, Option, Some, None}
-use Rattle.std.specs.List.{flat_map}
+-- What a component is, as cells of records.
+use Rattle.std.specs.Prelude.{ℕ, Bool, List, [], ◌∷◌, codes, map, if◌then◌else◌, Option, Some, None}
 use Rattle.std.specs.Option.{option_map}
 use Rattle.serde_json.specs.Data.{Data}
-use Rattle.own_model.specs.Listed.{Binary}
+use Rattle.own_model.specs.Listed.{Binary, ListedEntry, service_in}
 use Rattle.own_model.specs.Listed.Binary.{Script, Server, Init}
 use Rattle.own_model.specs.ObjectKinds.{ObjectKind}
 use Rattle.own_model.specs.Offer.Offer.{OffersLog, OffersFiles, OffersObjects}
-use Rattle.list_parser.specs.View.{model_binary}
-use Rattle.view_json.specs.Documents.{Member, number_data, objects_data, text_data}
-use Rattle.list_parts.specs.declared.kinds.KindsText.{KindsText}
+use Rattle.view_records.specs.JsonTexts.{list_data}
+use Rattle.view_records.specs.Records.{CellData, Record, absent, null, number, text}
 
 -- the word of a binary, as a list has it
 abbrev pub binary_word : Binary → List ℕ
@@ -27,36 +25,17 @@ kinds_in (Server service OffersFiles) = None
 kinds_in (Server service (OffersObjects kinds)) = Some kinds
 kinds_in Init = None
 
--- ---- text
+abbrev pub kind_record : ObjectKind → Record
+kind_record kind = (codes "kind", text kind.name) ∷ (codes "block", number kind.block) ∷ (codes "bytes", number kind.bytes) ∷ []
 
--- a kind, with the bytes of a block and of a unit
-abbrev pub kind_text : ObjectKind → List ℕ
-kind_text kind =
-    kind.name ++ (codes " (" ++ (decimal kind.block ++ (codes " bytes, " ++ (decimal kind.bytes ++ codes " a unit)"))))
-
--- a kind after another one
-abbrev pub other_kind_text : ObjectKind → List ℕ
-other_kind_text kind = codes ", " ++ kind_text kind
-
-abbrev pub kinds_text : List ObjectKind → List ℕ
-kinds_text [] = codes "no kinds"
-kinds_text (kind ∷ kinds) = codes "kinds " ++ (kind_text kind ++ flat_map other_kind_text kinds)
-
--- the kinds of a declared server, after a text
-abbrev pub kinds_after : List ℕ → Option (List ObjectKind) → List ℕ
-kinds_after before None = []
-kinds_after before (Some kinds) = before ++ kinds_text kinds
-
--- the text of a `KindsText`
-abbrev pub shown_kinds : KindsText → List ℕ
-shown_kinds text = kinds_after text.before.now (kinds_in (model_binary text.binary.now))
-
--- ---- objects
-
-abbrev pub kind_object : ObjectKind → List Member
-kind_object kind =
-    (codes "kind", text_data kind.name) ∷ (codes "block", number_data kind.block) ∷ (codes "bytes", number_data kind.bytes) ∷ []
-
--- the kinds as the value of a member, if a server declares some
+-- the kinds as a list, if a server declares some
 abbrev pub kinds_data : Binary → Option Data
-kinds_data binary = option_map (λ kinds. objects_data (map kind_object kinds)) (kinds_in binary)
+kinds_data binary = option_map (λ kinds. list_data (map kind_record kinds)) (kinds_in binary)
+
+-- the service of a server, or null if the entry doesn't provide it
+abbrev pub provided_by : Bool → Option (List ℕ) → CellData
+provided_by provides None = absent
+provided_by provides (Some service) = if provides then text service else null
+
+abbrev pub provided_cell : ListedEntry → CellData
+provided_cell entry = provided_by entry.provides (service_in entry.binary)

@@ -1,5 +1,5 @@
 -- The steps to an entry, from the machine's list on.
-use Rattle.std.specs.Prelude.{ℕ, ◌==◌, zero, suc, List, [], ◌∷◌, ◌++◌, count_by, take, Option, Some, None}
+use Rattle.std.specs.Prelude.{ℕ, ◌==◌, ◌&&◌, Bool, zero, suc, List, [], ◌∷◌, ◌++◌, count_by, take, Option, Some, None}
 use Rattle.std.specs.List.{slice_get}
 use Rattle.own_model.specs.Listed.{ListedEntry, most_lists}
 use Rattle.list_parts.specs.declared.list_part.EntryStep.{EntryStep}
@@ -50,3 +50,19 @@ rule_part entries (owner.Inner number) rule = parts.InnerRule number (steps_to e
 abbrev pub part_of : List ListedEntry → PartId → ListPart
 part_of entries (about.Entry number) = parts.Entry number (steps_to entries number)
 part_of entries (about.Rule owner rule) = rule_part entries owner rule
+
+-- the kind of a part, and the numbers by which it differs from others of the kind
+abbrev pub part_key : ListPart → ℕ × ℕ × ℕ
+part_key (parts.Text line column) = (0, line, column)
+part_key parts.List = (1, 0, 0)
+part_key parts.Machine = (2, 0, 0)
+part_key (parts.Entry number steps) = (3, number, 0)
+part_key (parts.Config number steps) = (4, number, 0)
+part_key (parts.DefaultRule rule) = (5, 0, rule)
+part_key (parts.Rule number steps rule) = (6, number, rule)
+part_key (parts.InnerRule number steps rule) = (7, number, rule)
+part_key (parts.Kind number steps kind) = (8, number, kind)
+
+-- two parts of one list are the same
+abbrev pub is_at : ListPart → ListPart → Bool
+is_at a b = (part_key a).0 == (part_key b).0 && ((part_key a).1 == (part_key b).1 && (part_key a).2 == (part_key b).2)

@@ -1,17 +1,22 @@
-//! Words of binaries, and the kinds of objects that declared servers offer, as text and as documents.
-ghost use Rattle.std.specs.Prelude.{◌≡◌, IfOk, Some, map};
-ghost use Rattle.std.specs.Fmt.{WritesOnOk};
-ghost use Rattle.std.specs.List.{flat_map};
+//! What a component is, as cells of records: the word of its binary, its service, its reserve, and the kinds of objects that a
+//! declared server offers; the kinds also as text.
+ghost use Rattle.std.specs.Prelude.{◌≡◌, IfOk, map};
 ghost use Rattle.std.specs.Option.{option_map};
+ghost use Rattle.core_calls.specs.Quotas.{reserve_amounts};
 ghost use Rattle.list_parser.specs.View.{model_binary};
-ghost use Rattle.view_json.specs.Documents.{list_data, object_of, objects_data, objects_in};
-ghost use Rattle.list_parts.specs.Kinds.{binary_word, kind_object, kind_text, kinds_after, kinds_data, kinds_in, kinds_text, other_kind_text, shown_kinds};
+ghost use Rattle.own_model.specs.Amounts.{Amounts};
+ghost use Rattle.view_records.specs.Cells.{cell_data};
+ghost use Rattle.view_records.specs.JsonTexts.{list_data};
+ghost use Rattle.view_records.specs.Lists.{records_of};
+ghost use Rattle.view_records.specs.Records.{if_number};
+ghost use Rattle.list_parts.specs.Kinds.{binary_word, kind_record, kinds_data, kinds_in, provided_cell};
 
-use list_parser::Binary;
+use core_calls::Reserve;
+use list_parser::{Binary, ListEntry};
 use object_kinds::ObjectKind;
 use std::alloc::{AllocError, Global};
 use std::fmt;
-use view_json::{JsonField, ObjectList, ObjectListBuilder};
+use view_records::{Cell, RecordList};
 
 /// Returns the word for a binary, as a start list has it.
 #[tactic(auto, using(crate::proofs::WordLemmas::word_is))]
@@ -40,91 +45,82 @@ pub struct KindsText<'a> {
 
 impl<'a> KindsText<'a> {
     /// Returns the kinds of a binary, after a text.
-    pub fn of(before: &'a str, binary: &'a Binary) -> KindsText<'a>
-        ensures { shown_kinds result ≡ kinds_after before.now (kinds_in (model_binary binary.now)) }
-    {
+    pub fn of(before: &'a str, binary: &'a Binary) -> KindsText<'a> {
         KindsText { before, binary }
     }
 }
 
 impl fmt::Display for KindsText<'_> {
-    ghost output = { λ text. Some (shown_kinds text) };
-
     fn fmt<W: fmt::Write>(&self, f: &mut fmt::Formatter<W>) -> fmt::Result {
-        show_kinds_after(f, self.before, declared_kinds(self.binary))
-    }
-}
-
-// Writes kinds after a text, if there are any.
-fn show_kinds_after<W: fmt::Write>(
-    f: &mut fmt::Formatter<W>,
-    before: &str,
-    kinds: Option<&[ObjectKind]>,
-) -> fmt::Result
-    ensures { WritesOnOk W.write_str_gives f.old result
-        (kinds_after before.now (option_map (λ kinds. kinds.now) kinds.entry)) f.new }
-{
-    let Some(kinds) = kinds else {
-        return Ok(());
-    };
-    f.write_str(before)?;
-    show_all_kinds(f, kinds)
-}
-
-// Writes the kinds of a declared server.
-fn show_all_kinds<W: fmt::Write>(f: &mut fmt::Formatter<W>, kinds: &[ObjectKind]) -> fmt::Result
-    ensures { WritesOnOk W.write_str_gives f.old result (kinds_text kinds.now) f.new }
-{
-    match kinds.split_first() {
-        Some((kind, others)) => {
-            f.write_str("kinds ")?;
-            show_kind(f, kind)?;
-            show_other_kinds(f, others)
+        let Some(kinds) = declared_kinds(self.binary) else {
+            return Ok(());
+        };
+        f.write_str(self.before)?;
+        if kinds.is_empty() {
+            return f.write_str("no kinds");
         }
-        None => f.write_str("no kinds"),
+        let mut before = "kinds ";
+        for kind in kinds {
+            let (name, block, bytes) = (kind.name(), kind.block(), kind.bytes());
+            write!(f, "{before}{name} ({block} bytes, {bytes} a unit)")?;
+            before = ", ";
+        }
+        Ok(())
     }
 }
 
-// Writes kinds, each after a comma.
-fn show_other_kinds<W: fmt::Write>(f: &mut fmt::Formatter<W>, kinds: &[ObjectKind]) -> fmt::Result
-    ensures { WritesOnOk W.write_str_gives f.old result (flat_map other_kind_text kinds.now) f.new }
-{
-    for kind in kinds {
-        f.write_str(", ")?;
-        show_kind(f, kind)?;
-    }
-    Ok(())
-}
-
-// Writes a kind, with the bytes of a block and of a unit.
-fn show_kind<W: fmt::Write>(f: &mut fmt::Formatter<W>, kind: &ObjectKind) -> fmt::Result
-    ensures { WritesOnOk W.write_str_gives f.old result (kind_text kind.now) f.new }
-{
-    let (name, block, bytes) = (kind.name(), kind.block(), kind.bytes());
-    write!(f, "{name} ({block} bytes, {bytes} a unit)")
-}
-
-/// Returns an object for each kind of a declared server, and `None` for other binaries. Fails if the host is out of memory.
-pub fn kinds_of(alloc: Global, binary: &Binary) -> Result<Option<ObjectList>, AllocError>
-    ensures { IfOk result (λ kinds. option_map list_data kinds ≡ kinds_data (model_binary binary.now)) }
+/// Returns a record for each kind of a declared server, and `None` for other binaries. Fails if the host is out of memory.
+pub fn kinds_of(alloc: Global, binary: &Binary) -> Result<Option<RecordList>, AllocError>
+    ensures { IfOk result (λ kinds. option_map (λ list. list_data (records_of list)) kinds
+        ≡ kinds_data (model_binary binary.now)) }
 {
     match declared_kinds(binary) {
-        Some(kinds) => Ok(Some(kind_objects(alloc, kinds)?)),
+        Some(kinds) => Ok(Some(kind_records(alloc, kinds)?)),
         None => Ok(None),
     }
 }
 
-// Returns an object for each of these kinds.
-fn kind_objects(alloc: Global, kinds: &[ObjectKind]) -> Result<ObjectList, AllocError>
-    ensures { IfOk result (λ list. list_data list ≡ objects_data (map kind_object kinds.now)) }
+/// Returns the service of a server, or null if the entry doesn't provide it. The cell of other entries is absent.
+pub fn provided_cell(entry: &ListEntry) -> Cell<'_>
+    ensures { cell_data result ≡ provided_cell entry.now }
 {
-    let mut list = ObjectListBuilder::new(alloc);
+    match entry.service() {
+        Some(service) => if entry.provides() {
+            Cell::Word(service)
+        } else {
+            Cell::Null
+        },
+        None => Cell::Absent,
+    }
+}
+
+/// Returns the RAM and the capabilities of a reserve, if there is one.
+pub fn reserve_cells<'a>(reserve: Option<Reserve>) -> (Cell<'a>, Cell<'a>)
+    ensures ram { cell_data result.0
+        ≡ if_number (option_map (λ (left : Amounts). left.ram) (option_map reserve_amounts reserve)) }
+    ensures caps { cell_data result.1
+        ≡ if_number (option_map (λ (left : Amounts). left.caps) (option_map reserve_amounts reserve)) }
+{
+    match reserve {
+        Some(reserve) => (
+            Cell::Number(reserve.ram.0),
+            Cell::Number(u64::from(reserve.caps.0)),
+        ),
+        None => (Cell::Absent, Cell::Absent),
+    }
+}
+
+// Returns a record for each of these kinds.
+fn kind_records(alloc: Global, kinds: &[ObjectKind]) -> Result<RecordList, AllocError>
+    ensures { IfOk result (λ records. records_of records ≡ map kind_record kinds.now) }
+{
+    let mut records = RecordList::new(alloc);
     for kind in kinds {
-        list.add(&[
-            ("kind", JsonField::Text(kind.name().as_bytes())),
-            ("block", JsonField::Number(u64::from(kind.block()))),
-            ("bytes", JsonField::Number(u64::from(kind.bytes()))),
+        records.add(&[
+            ("kind", Cell::Word(kind.name())),
+            ("block", Cell::Number(u64::from(kind.block()))),
+            ("bytes", Cell::Number(u64::from(kind.bytes()))),
         ])?;
     }
-    Ok(list.into_list())
+    Ok(records)
 }

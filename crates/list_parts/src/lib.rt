@@ -13,7 +13,7 @@ mod quoted_text;
 mod start_quota;
 
 pub use budget_amount::BudgetAmount;
-pub use kinds::{KindsText, binary_word, kinds_of};
+pub use kinds::{KindsText, binary_word, kinds_of, provided_cell, reserve_cells};
 pub use list_part::{EntryStep, EntrySteps, ListPart, PartId, RuleOwner, rule_at};
 pub use quoted_text::{QuotedText, show_escaped, show_quoted, show_within};
 pub use start_quota::{

@@ -3,7 +3,7 @@ ghost use Rattle.std.specs.Prelude.{◌≡◌, ◌≤◌, ◌++◌, IfOk, Some, 
 ghost use Rattle.std.specs.Fmt.{WritesOnOk};
 ghost use Rattle.std.specs.List.{slice_get};
 ghost use Rattle.list_parts.specs.PartTexts.{element_text, part_text, step_text, steps_text};
-ghost use Rattle.list_parts.specs.Steps.{part_of, place_in, rule_at, rule_part, steps_above, steps_to, steps_within};
+ghost use Rattle.list_parts.specs.Steps.{part_of, place_in, rule_at, steps_to, steps_within};
 
 use crate::quoted_text::show_within;
 use list_parser::{ListEntry, Name, StartList};
@@ -168,6 +168,36 @@ impl ListPart {
     }
 }
 
+impl ListPart {
+    ghost use Rattle.list_parts.specs.Steps.{is_at, part_key};
+
+    // The kind of the part, and the numbers by which it differs from others of the kind.
+    fn key(&self) -> (u8, usize, usize)
+        ensures { result ≡ part_key self.now }
+    {
+        match self {
+            ListPart::Text(line, column) => (0, *line, *column),
+            ListPart::List => (1, 0, 0),
+            ListPart::Machine => (2, 0, 0),
+            ListPart::Entry(number, _) => (3, *number, 0),
+            ListPart::Config(number, _) => (4, *number, 0),
+            ListPart::DefaultRule(rule) => (5, 0, *rule),
+            ListPart::Rule(number, _, rule) => (6, *number, *rule),
+            ListPart::InnerRule(number, _, rule) => (7, *number, *rule),
+            ListPart::Kind(number, _, kind) => (8, *number, *kind),
+        }
+    }
+
+    /// Returns whether this is the other part of the same list.
+    pub fn is_at(&self, other: &ListPart) -> bool
+        ensures { result ≡ is_at self.now other.now }
+    {
+        let (kind, number, place) = self.key();
+        let (other_kind, other_number, other_place) = other.key();
+        kind == other_kind && number == other_number && place == other_place
+    }
+}
+
 impl fmt::Display for ListPart {
     ghost output = { λ part. Some (part_text part) };
 
@@ -243,32 +273,14 @@ impl PartId {
     {
         match self {
             PartId::Entry(number) => Ok(ListPart::Entry(number, steps_to(alloc, list, number)?)),
-            PartId::Rule(owner, rule) => rule_part(alloc, list, owner, rule),
+            PartId::Rule(RuleOwner::Default, rule) => Ok(ListPart::DefaultRule(rule)),
+            PartId::Rule(RuleOwner::Entry(number), rule) => {
+                Ok(ListPart::Rule(number, steps_to(alloc, list, number)?, rule))
+            }
+            PartId::Rule(RuleOwner::Inner(number), rule) => {
+                Ok(ListPart::InnerRule(number, steps_to(alloc, list, number)?, rule))
+            }
         }
-    }
-}
-
-// The rule at a place of an owner's list.
-fn rule_part(
-    alloc: Global,
-    list: &StartList,
-    owner: RuleOwner,
-    rule: usize,
-) -> Result<ListPart, AllocError>
-    ensures { IfOk result (λ part. part ≡ rule_part list.now.entries owner rule) }
-{
-    match owner {
-        RuleOwner::Default => Ok(ListPart::DefaultRule(rule)),
-        RuleOwner::Entry(number) => Ok(ListPart::Rule(
-            number,
-            steps_to(alloc, list, number)?,
-            rule,
-        )),
-        RuleOwner::Inner(number) => Ok(ListPart::InnerRule(
-            number,
-            steps_to(alloc, list, number)?,
-            rule,
-        )),
     }
 }
 

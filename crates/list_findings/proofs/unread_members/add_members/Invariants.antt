@@ -7,5 +7,5 @@ use Rattle.list_findings.proofs.unread_members.add_members.Given as goal
 -- the findings so far and those of the members that are left
 abbrev pub invariant-loop-key : goal.invariant-loop-key
 invariant-loop-key l =
-    l.found.items ++ flat_map (λ key. finding_on l.part (unread l.table (string_bytes key))) l.key-iterator
-    ≡ l.initial.found.items ++ flat_map (λ key. finding_on l.part (unread l.table (string_bytes key))) l.initial.key-iterator
+    l.found.items ++ flat_map (λ key. finding_on l.part.part (unread l.part.owner (string_bytes key))) l.key-iterator
+    ≡ l.initial.found.items ++ flat_map (λ key. finding_on l.part.part (unread l.part.owner (string_bytes key))) l.initial.key-iterator

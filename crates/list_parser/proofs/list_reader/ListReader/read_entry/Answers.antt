@@ -10,9 +10,9 @@ use Rattle.list_parser.proofs.DepthLemmas.{grow_by, grow_none}
 use Rattle.list_parser.proofs.ReadLemmas.{entry_misread, entry_read_to, starts_below}
 use Rattle.list_parser.proofs.list_reader.ListReader.read_entry.Goals as goal
 
-pub returns-in_err-head-clause-err : goal.returns-in_err-head-clause-err
-returns-in_err-head-clause-err c =
-    let told = λ (other : c.in_err-head.field-0.0 ≢ NoMemory). entry_misread c.args.deeper c.args.place.now (so_far c.args.self.now) (view c.args.value.now) c.in_err-head.field-0.0 (rw c.as_slice.ensures.value at c.in_err-head.ensures.err other) in
+pub returns-in-Err-clause-err : goal.returns-in-Err-clause-err
+returns-in-Err-clause-err c =
+    let told = λ (other : c.in-Err.fault.fault ≢ NoMemory). entry_misread c.args.deeper c.args.place.now (so_far c.args.self.now) (view c.args.value.now) c.in-Err.fault (rw c.as_slice.ensures.value at c.in-Err.ensures.err other) in
     grind (arith, common_steps, told)
 
 pub returns-in_err-push-clause-grow : goal.returns-in_err-push-clause-grow
@@ -21,15 +21,15 @@ returns-in_err-push-clause-grow c =
 
 pub returns-clause-ok : goal.returns-clause-ok
 returns-clause-ok c =
-    entry_read_to c.args.deeper c.args.place.now (so_far c.args.self.now) (view c.args.value.now) (model_head c.in_ok-head.head) c.within.result _ (rw c.as_slice.ensures.value at c.in_ok-head.ensures.ok)
+    entry_read_to c.args.deeper c.args.place.now (so_far c.args.self.now) (view c.args.value.now) (model_head c.in-Ok.head) c.within.result _ (rw c.as_slice.ensures.value at c.in-Ok.ensures.ok)
     (grind (arith, common_steps)) c.in_ok-push.ensures.items (simp length-map (omega arith))
 
 pub returns-clause-grow : goal.returns-clause-grow
 returns-clause-grow c =
-    let here : is_list c.args.self.now.entries.items c.in_ok-head.head.entry.home ≡ true = rw c.in_ok-head.ensures.home c.requires.list in
-    rw c.in_ok-push.ensures.items (grow_by c.args.self.now.entries.items c.in_ok-head.head.entry c.requires.homes here)
+    let here : is_list c.args.self.now.entries.items c.in-Ok.head.entry.home ≡ true = rw c.in-Ok.ensures.home c.requires.list in
+    rw c.in_ok-push.ensures.items (grow_by c.args.self.now.entries.items c.in-Ok.head.entry c.requires.homes here)
 
 pub returns-clause-some : goal.returns-clause-some
 returns-clause-some c =
-    λ some. starts_below c.args.deeper c.args.self.now.entries.items c.push.new.self.items c.in_ok-head.head.entry c.within.result c.requires.place.deep (c.in_ok-head.ensures.some some)
+    λ some. starts_below c.args.deeper c.args.self.now.entries.items c.push.new.self.items c.in-Ok.head.entry c.within.result c.requires.place.deep (c.in-Ok.ensures.some some)
     (grind (arith, common_steps)) c.in_ok-push.ensures.items

@@ -1,0 +1,10 @@
+use Rattle.std.proofs.Common.{◌≡◌, ◌++◌, drop, map}
+use Rattle.std.specs.List.{enumerate_from, flat_map}
+use Rattle.serde_json.specs.View.{view}
+use Rattle.list_findings.specs.Objects.{kind_part, seen_part}
+use Rattle.list_findings.proofs.object_parts.add_kinds.Given as goal
+
+abbrev pub invariant-loop-place : goal.invariant-loop-place
+invariant-loop-place l =
+    map seen_part l.parts.items ++ flat_map (kind_part l.number l.steps) (enumerate_from l.place (drop l.place (map view l.kind-items)))
+    ≡ map seen_part l.initial.parts.items ++ flat_map (kind_part l.number l.steps) (enumerate_from 0 (map view l.kind-items))
