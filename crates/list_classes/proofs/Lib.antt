@@ -6,4 +6,3 @@ pub mod ClassLemmas
 pub mod AskedTextLemmas
 pub mod PartLemmas
 pub mod UnionLemmas
-pub mod RepresentativeLemmas

@@ -337,10 +337,3 @@ pub described_by : {E : Type 0} (classes : LabelClasses) (inside : List Bool) (p
 described_by classes inside parts shown (Ok set) same all serve has = λ whole.
     parts_union classes inside parts set all serve (λ label. has label ∙ ap (list_any (is_in_part classes label)) same) whole.are
 described_by classes inside parts shown (Err error) same all serve has = has
-
--- so is the set of all labels if all classes are inside
-pub whole_union : (classes : LabelClasses) (inside : List Bool) (set : LabelSet)
-    → ((place : ℕ) → place < length classes.classes.items → is_inside inside place ≡ true)
-    → ((label : List ℕ) → set_has set label ≡ true) → IsUnionOf classes inside set
-whole_union classes inside set all has place label of =
-    has label ∙ sym (all place (slice_get_within classes.classes.items place of.class of.there))

@@ -1,7 +1,6 @@
 pub mod Trees
 pub mod Classes
 pub mod Parts
-pub mod Representatives
 pub mod Described
 pub mod Making
 pub mod AskedTexts

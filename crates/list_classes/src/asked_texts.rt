@@ -70,31 +70,26 @@ fn add_texts(
     match wishes {
         Some(wishes) => {
             let asked = asked_of(alloc, wishes)?;
-            add_fronts(&mut texts.fronts, asked.as_slice())?;
-            add_ends(&mut texts.ends, asked.as_slice())?;
+            add_conditions(&mut texts.fronts, &mut texts.ends, asked.as_slice())?;
             add_known(&mut texts.known, wishes)
         }
         None => Ok(()),
     }
 }
 
-// Adds the beginnings that conditions ask for.
-fn add_fronts(fronts: &mut Vec<ClientLabel>, asked: &[LabelCondition]) -> Result<(), AllocError>
-    ensures { OnOk result (fronts.new.items
+// Adds the beginnings and the endings that conditions ask for.
+fn add_conditions(
+    fronts: &mut Vec<ClientLabel>,
+    ends: &mut Vec<ClientLabel>,
+    asked: &[LabelCondition],
+) -> Result<(), AllocError>
+    ensures fronts { OnOk result (fronts.new.items
         ≡ fronts.old.items ++ map (λ (asked : AskedLabel). asked.front) asked.now) }
-{
-    for one in asked {
-        fronts.push(one.front.copy())?;
-    }
-    Ok(())
-}
-
-// Adds the endings that conditions ask for.
-fn add_ends(ends: &mut Vec<ClientLabel>, asked: &[LabelCondition]) -> Result<(), AllocError>
-    ensures { OnOk result (ends.new.items
+    ensures ends { OnOk result (ends.new.items
         ≡ ends.old.items ++ map (λ (asked : AskedLabel). asked.end) asked.now) }
 {
     for one in asked {
+        fronts.push(one.front.copy())?;
         ends.push(one.end.copy())?;
     }
     Ok(())

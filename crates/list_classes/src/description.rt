@@ -60,7 +60,7 @@ impl ClassSet<'_> {
     fn search(&self, alloc: Global) -> Result<Vec<ClassPart>, AllocError>
         ensures { IfOk result (λ parts. All (IsPart self.now.classes.now self.now.inside.now) parts.items) }
     {
-        let mut covers = zeros(alloc, self.inside.len())?;
+        let mut covers = vec![in alloc; 0; self.inside.len()]?;
         let pure = self.cover(alloc, &mut covers, false)?;
         let broken = self.cover(alloc, &mut covers, true)?;
         let mut parts = Vec::new(alloc);
@@ -150,10 +150,12 @@ impl ClassSet<'_> {
         with_exceptions: bool,
     ) -> Result<Vec<usize>, AllocError> {
         let mut found = Vec::new(alloc);
-        for place in 0..self.inside.len() {
-            if self.is_missing(covers.as_slice(), place) {
+        for (place, class) in self.classes.as_slice().iter().enumerate() {
+            let has_part = class.is_one || number_at(covers.as_slice(), place) > 0;
+            if is_true(self.inside, place) && !has_part {
                 let within = self.places_in(alloc, place)?;
-                if with_exceptions || are_inside(self.inside, within.as_slice()) {
+                let are_inside = within.iter().all(|other| is_true(self.inside, *other));
+                if with_exceptions || are_inside {
                     let except = self.exceptions(alloc, within.as_slice())?;
                     self.count(alloc, covers, within.as_slice(), except.as_slice())?;
                     found.push(place)?;
@@ -161,16 +163,6 @@ impl ClassSet<'_> {
             }
         }
         Ok(found)
-    }
-
-    // Whether a class of several labels is inside, and no part has it.
-    fn is_missing(&self, covers: &[usize], place: usize) -> bool {
-        match self.classes.as_slice().get(place) {
-            Some(class) => {
-                !class.is_one && is_true(self.inside, place) && number_at(covers, place) == 0
-            }
-            None => false,
-        }
     }
 
     // The places of the classes with the beginning and the ending of a class, and of a class of one label its own.
@@ -332,8 +324,10 @@ impl ClassSet<'_> {
     ) -> Result<(), AllocError> {
         let marks = self.marks(alloc, self.inside.len(), except)?;
         for place in within {
-            if !is_true(marks.as_slice(), *place) {
-                add_one(covers, *place);
+            if let Some(number) = covers.get_mut(*place) {
+                if !is_true(marks.as_slice(), *place) {
+                    *number = number.saturating_add(1);
+                }
             }
         }
         Ok(())
@@ -353,7 +347,9 @@ impl ClassSet<'_> {
             }
         }
         for other in within.as_slice() {
-            take_one(covers, *other);
+            if let Some(number) = covers.get_mut(*other) {
+                *number = number.saturating_sub(1);
+            }
         }
         Ok(true)
     }
@@ -432,11 +428,6 @@ fn is_true(inside: &[bool], place: usize) -> bool
     }
 }
 
-// Whether it is true at all places.
-fn are_inside(inside: &[bool], places: &[usize]) -> bool {
-    places.iter().all(|place| is_true(inside, *place))
-}
-
 // Marks a place.
 fn mark(marks: &mut Vec<bool>, place: usize)
     ensures size { length marks.new.items ≡ length marks.old.items }
@@ -461,23 +452,4 @@ fn number_at(numbers: &[usize], place: usize) -> usize {
         Some(number) => *number,
         None => 0,
     }
-}
-
-// Adds one to the number at a place.
-fn add_one(numbers: &mut Vec<usize>, place: usize) {
-    if let Some(number) = numbers.get_mut(place) {
-        *number = number.saturating_add(1);
-    }
-}
-
-// Takes one from the number at a place.
-fn take_one(numbers: &mut Vec<usize>, place: usize) {
-    if let Some(number) = numbers.get_mut(place) {
-        *number = number.saturating_sub(1);
-    }
-}
-
-// So many times 0.
-fn zeros(alloc: Global, size: usize) -> Result<Vec<usize>, AllocError> {
-    vec![in alloc; 0; size]
 }

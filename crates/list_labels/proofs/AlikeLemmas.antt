@@ -8,8 +8,9 @@ use Rattle.own_model.specs.Listed.{Listed, most_lists}
 use Rattle.list_labels.specs.Alike.{IsAlike, IsOfTexts, IsUpTo}
 use Rattle.list_labels.specs.Asked.{agrees, asked_of, asked_within, known}
 use Rattle.list_labels.specs.LabelRanges.{AskedLabel, fits}
-use Rattle.list_labels.proofs.AskedLemmas.{Within, entry_agreeing, leads_alike}
+use Rattle.list_labels.proofs.AskedLemmas.{Within, entry_agreeing}
 use Rattle.list_labels.proofs.FollowLemmas.{decided_alike}
+use Rattle.list_labels.proofs.RuleLemmas.{routed_by_rules}
 use Rattle.list_labels.proofs.TextLemmas.{begins_by, ends_by}
 
 -- bounds of all conditions, one after another
@@ -38,7 +39,5 @@ pub texts_alike : (list : Listed) (client : ℕ) (service front end label other 
 texts_alike list client service front end label other one two =
     let first = texts_agree list client service front end label one in
     let second = texts_agree list client service front end other two in
-    record {
-      leads = leads_alike list client service front label other end one.some two.some first second;
-      decided = decided_alike list client service front label other end one.some two.some first second;
-    }
+    let same = decided_alike list client service front label other end one.some two.some first second in
+    record { leads = routed_by_rules list client service label other same; decided = same }

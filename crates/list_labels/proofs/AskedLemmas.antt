@@ -1,8 +1,8 @@
--- Labels that agree with what rules ask are routed alike, and each label that no rule knows by itself agrees with what the rules ask.
+-- Each label that no rule knows by itself agrees with what the rules ask.
 use Rattle.std.proofs.Common.{◌≡◌, ℕ, ◌<◌, ◌≤◌, zero, suc, ◌-◌, Bool, true, false, ◌&&◌, ◌||◌, List, [], ◌∷◌, ◌++◌, length, take, drop, Option, Some, None, refl, sym, subst, ap, ◌∙◌, nat_eq, nat_le, arith, inl, inr}
 use Rattle.std.specs.Prelude.{codes, if◌then◌else◌}
 use Rattle.std.specs.List.{list_all, list_any, starts_with, ends_with, slice_get}
-use Rattle.std.specs.Option.{option_and_then, option_map, unwrap_or}
+use Rattle.std.specs.Option.{option_map, unwrap_or}
 use Rattle.std.specs.Str.{bytes_eq}
 use Rattle.std.proofs.lemmas.Bool.Decides.{nat_tests}
 use Rattle.std.proofs.lemmas.Slice.Eq.{bytes_eq-Decides}
@@ -12,8 +12,8 @@ use Rattle.std.proofs.lemmas.Bool.{and_parts, and_from, or_left, or_parts, or_ri
 use Rattle.std.proofs.Math.Seq.{drop-append_seam}
 use Rattle.own_model.specs.SessionArgs.{is_quotable}
 use Rattle.own_model.specs.Routes.{as_asked, label_with}
-use Rattle.own_model.specs.Listed.{Listed, ListedEntry, ListedRule, asks_for, end_of, init_entry, most_lists, route_within, rules_for, way_by, way_to}
-use Rattle.list_labels.specs.GivenLabels.{IsGiven, leads_to}
+use Rattle.own_model.specs.Listed.{Listed, ListedEntry, ListedRule, asks_for, init_entry, most_lists, rules_for}
+use Rattle.list_labels.specs.GivenLabels.{IsGiven}
 use Rattle.list_labels.specs.Asked.{agrees, agrees_within, asked_by, asked_of_rule, asked_texts, asked_within, asks_nothing, behind, can_begin, is_given, is_known, is_open, is_tail, is_whole, known_within, rule_agrees, same_as, text_of}
 use Rattle.list_labels.specs.LabelRanges.{AskedLabel, fits}
 use Rattle.list_labels.proofs.TextLemmas.{begins_by, begins_from, ends_by, ends_from, ends_order, fronts_order, parted, same_tests, take_front}
@@ -296,19 +296,7 @@ entry_agreeing list service label front end rest head None given lost begins end
 entry_agreeing list service label front end rest head (Some entry) given lost begins ends within =
     lists_agreeing most_lists list entry service [] label front end rest head given lost begins ends within
 
--- ---- labels that agree lead alike
-
-way_alike : (entries : List ListedEntry) (init : ℕ) (service opened seen other end : List ℕ) (rules : List ListedRule)
-    → list_all (rule_agrees service opened seen end) rules ≡ true → list_all (rule_agrees service opened other end) rules ≡ true
-    → way_by entries init rules service seen ≡ way_by entries init rules service other
-way_alike entries init service opened seen other end [] one two = refl
-way_alike entries init service opened seen other end (rule ∷ rules) one two =
-    let first = and_parts (rule_agrees service opened seen end rule) _ one in
-    let second = and_parts (rule_agrees service opened other end rule) _ two in
-    let same : asks_for rule service seen ≡ asks_for rule service other = as_is _ _ first.0 ∙ sym (as_is _ _ second.0) in
-    let others = way_alike entries init service opened seen other end rules first.1 second.1 in
-    ap (λ t. if t then way_to entries init rule.target service else way_by entries init rules service seen) same
-    ∙ ap (λ w. if asks_for rule service other then way_to entries init rule.target service else w) others
+-- ---- a label after a name
 
 pub behind_is : (name label : List ℕ) → 0 < length label → label_with name label ≡ behind name label
 behind_is name [] some = absurd (omega arith)
@@ -316,52 +304,6 @@ behind_is name (b ∷ label) some = refl
 
 pub behind_long : (name label : List ℕ) → 0 < length label → 0 < length (behind name label)
 behind_long name label some = omega (arith, length-append (name ++ codes " -> ") label)
-
-outward_alike : (lists : ℕ) (list : Listed) (name service opened seen other end : List ℕ) (outer : Option ListedEntry)
-    → 0 < length seen → 0 < length other
-    → ((init : ListedEntry) → agrees_within lists list init service (behind name opened) (behind name seen) end ≡ true
-    → agrees_within lists list init service (behind name opened) (behind name other) end ≡ true
-    → route_within lists list init service (behind name seen) ≡ route_within lists list init service (behind name other))
-    → unwrap_or (option_map (λ init. agrees_within lists list init service (behind name opened) (behind name seen) end) outer) true ≡ true
-    → unwrap_or (option_map (λ init. agrees_within lists list init service (behind name opened) (behind name other) end) outer) true ≡ true
-    → option_and_then (λ init. route_within lists list init service (label_with name seen)) outer
-    ≡ option_and_then (λ init. route_within lists list init service (label_with name other)) outer
-outward_alike lists list name service opened seen other end None some more each one two = refl
-outward_alike lists list name service opened seen other end (Some init) some more each one two =
-    ap (λ t. route_within lists list init service t) (behind_is name seen some)
-    ∙ (each init one two ∙ ap (λ t. route_within lists list init service t) (sym (behind_is name other more)))
-
-route_alike : (lists : ℕ) (list : Listed) (entry : ListedEntry) (service opened seen other end : List ℕ)
-    → 0 < length seen → 0 < length other
-    → agrees_within lists list entry service opened seen end ≡ true → agrees_within lists list entry service opened other end ≡ true
-    → route_within lists list entry service seen ≡ route_within lists list entry service other
-route_alike zero list entry service opened seen other end some more one two = refl
-route_alike (suc lists) list entry service opened seen other end some more one two =
-    let first = and_parts (list_all (rule_agrees service opened seen end) (rules_for list entry)) _ one in
-    let second = and_parts (list_all (rule_agrees service opened other end) (rules_for list entry)) _ two in
-    let here = way_alike list.entries entry.home service opened seen other end (rules_for list entry) first.0 second.0 in
-    let out = outward_alike lists list entry.name service opened seen other end (init_entry list entry.home) some more
-    (λ init agreeing others. route_alike lists list init service (behind entry.name opened) (behind entry.name seen) (behind entry.name other) end
-    (behind_long entry.name seen some) (behind_long entry.name other more) agreeing others)
-    first.1 second.1 in
-    ap (λ w. end_of w (option_and_then (λ init. route_within lists list init service (label_with entry.name seen)) (init_entry list entry.home))) here
-    ∙ ap (λ o. end_of (way_by list.entries entry.home (rules_for list entry) service other) o) out
-
-entry_alike : (list : Listed) (service front label other end : List ℕ) (entry : Option ListedEntry) → 0 < length label → 0 < length other
-    → unwrap_or (option_map (λ entry. agrees_within most_lists list entry service front label end) entry) true ≡ true
-    → unwrap_or (option_map (λ entry. agrees_within most_lists list entry service front other end) entry) true ≡ true
-    → option_and_then (λ entry. route_within most_lists list entry service label) entry
-    ≡ option_and_then (λ entry. route_within most_lists list entry service other) entry
-entry_alike list service front label other end None some more one two = refl
-entry_alike list service front label other end (Some entry) some more one two =
-    route_alike most_lists list entry service front label other end some more one two
-
-pub leads_alike : (list : Listed) (client : ℕ) (service front label other end : List ℕ) → 0 < length label → 0 < length other
-    → agrees list client service front label end ≡ true → agrees list client service front other end ≡ true
-    → leads_to list client service label ≡ leads_to list client service other
-unfolding agrees leads_to
-leads_alike list client service front label other end some more one two =
-    entry_alike list service front label other end (slice_get list.entries client) some more one two
 
 -- ---- as the code goes from list to list
 

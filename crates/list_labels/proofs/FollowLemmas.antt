@@ -10,10 +10,7 @@ use Rattle.list_labels.specs.Asked.{agrees, agrees_within, behind, rule_agrees}
 use Rattle.list_labels.specs.DecidingRules.{decided, decision_of}
 use Rattle.list_labels.specs.RouteSteps.{RouteStepAt, route_steps_of, route_steps_within, leads_out}
 use Rattle.list_labels.proofs.AskedLemmas.{as_is, behind_is, behind_long}
-
--- the places of the rules that hops tell
-abbrev places_of : List RouteStepAt → List ℕ
-places_of hops = flat_map (λ (hop : RouteStepAt). decided hop.rule) hops
+use Rattle.list_labels.proofs.RuleLemmas.{places_of}
 
 before_alike : (service opened seen other end : List ℕ) (rules : List ListedRule)
     → list_all (rule_agrees service opened seen end) rules ≡ true → list_all (rule_agrees service opened other end) rules ≡ true

@@ -3,5 +3,5 @@ pub mod HopLemmas
 pub mod AskedLemmas
 pub mod AlikeLemmas
 pub mod FollowLemmas
+pub mod RuleLemmas
 mod KnownLemmas
-mod WordLemmas

@@ -1,5 +1,5 @@
 -- Which rules decide to which entry a client's request for a service is routed.
-use Rattle.std.specs.Prelude.{ℕ, ◌==◌, Bool, true, false, List, [], ◌∷◌, flat_map, Option, Some, None}
+use Rattle.std.specs.Prelude.{ℕ, List, [], ◌∷◌, flat_map, Option, Some, None}
 use Rattle.own_model.specs.Listed.{Listed}
 use Rattle.list_labels.specs.RouteSteps.{RouteStepAt, route_steps_of}
 
@@ -12,10 +12,3 @@ decided (Some place) = place ∷ []
 -- without a matching rule, that list has no place here.
 unfoldable pub decision_of : Listed → ℕ → List ℕ → List ℕ → List ℕ
 decision_of list client service label = flat_map (λ (hop : RouteStepAt). decided hop.rule) (route_steps_of list client service label)
-
--- two targets are the same
-abbrev pub same_child : Option ℕ → Option ℕ → Bool
-same_child None None = true
-same_child None (Some other) = false
-same_child (Some child) None = false
-same_child (Some child) (Some other) = child == other

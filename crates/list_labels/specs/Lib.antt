@@ -6,4 +6,3 @@ pub mod KnownLabels
 pub mod LabelRanges
 pub mod LabelSets
 pub mod RouteSteps
-pub mod Words

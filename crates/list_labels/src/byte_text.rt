@@ -1,6 +1,4 @@
 //! Bytes as characters.
-ghost use Rattle.std.specs.Prelude.{◌≡◌, Some, encode_utf8_all};
-
 use std::fmt;
 
 /// Bytes as text, each a character that can be printed.
@@ -11,16 +9,12 @@ pub struct ByteText<'a> {
 
 impl<'a> ByteText<'a> {
     /// Returns the bytes of a text as characters.
-    pub fn of(bytes: &'a [u8]) -> ByteText<'a>
-        ensures { result.bytes.now ≡ bytes.now }
-    {
+    pub fn of(bytes: &'a [u8]) -> ByteText<'a> {
         ByteText { bytes }
     }
 }
 
 impl fmt::Display for ByteText<'_> {
-    ghost output = { λ text. Some (encode_utf8_all text.bytes.now) };
-
     fn fmt<W: fmt::Write>(&self, f: &mut fmt::Formatter<W>) -> fmt::Result {
         for byte in self.bytes {
             f.write_char(char::from(*byte))?;

@@ -1,5 +1,5 @@
 //! Labels that a client gives, and the labels that the lists above it see.
-ghost use Rattle.std.specs.Prelude.{◌≡◌, ◌+◌, ◌≤◌, length, Some, encode_utf8_all};
+ghost use Rattle.std.specs.Prelude.{◌≡◌, ◌+◌, ◌≤◌, length, Some};
 ghost use Rattle.std.specs.List.{list_all};
 ghost use Rattle.own_model.specs.Routes.{label_with};
 ghost use Rattle.own_model.specs.SessionArgs.{is_quotable};
@@ -86,8 +86,6 @@ fn is_plain(text: &[u8]) -> bool
 
 /// Writes the label; each byte is a character that can be printed.
 impl fmt::Display for ClientLabel {
-    ghost output = { λ label. Some (encode_utf8_all label) };
-
     fn fmt<W: fmt::Write>(&self, f: &mut fmt::Formatter<W>) -> fmt::Result {
         ByteText::of(self.as_bytes()).fmt(f)
     }

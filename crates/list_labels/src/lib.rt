@@ -17,5 +17,5 @@ pub use label::{ClientLabel, LONGEST_GIVEN};
 pub use label_condition::{LabelCondition, asked_of};
 pub use pattern::{LabelSet, Pattern, Shape};
 pub use route_steps::{RouteStep, route_steps_of};
-pub use rules::{rules_for, same_child};
+pub use rules::rules_for;
 pub use session_requests::SessionRequests;

@@ -1,9 +1,7 @@
-//! Patterns of labels: one label, or all labels with a beginning and an ending.
-ghost use Rattle.std.specs.Prelude.{◌≡◌, Some};
-ghost use Rattle.std.specs.Fmt.{WritesOnOk};
+//! Sets of labels: one label, or all labels with a beginning and an ending, with exceptions, and several of these.
+ghost use Rattle.std.specs.Prelude.{◌≡◌};
 ghost use Rattle.std.specs.List.{list_any};
 ghost use Rattle.list_labels.specs.LabelSets.{has_label, is_in, set_has};
-ghost use Rattle.list_labels.specs.Words.{between_text, is_one, is_wide, labels_text, pattern_text, shape_text};
 
 use crate::label::ClientLabel;
 use std::fmt::{self, Display};
@@ -29,33 +27,30 @@ impl Pattern {
             }
         }
     }
-}
 
-/// `all`, `exactly "L"`, `beginning "L"`, `ending "L"` or `beginning "L" and ending "L"`.
-impl fmt::Display for Pattern {
-    ghost output = { λ pattern. Some (pattern_text pattern) };
-
-    fn fmt<W: fmt::Write>(&self, f: &mut fmt::Formatter<W>) -> fmt::Result {
+    // Whether the pattern is the one of all labels.
+    fn is_wide(&self) -> bool {
         match self {
-            Pattern::Exactly(one) => write!(f, "exactly \"{one}\""),
-            Pattern::Between(front, end) => show_between(f, front, end),
+            Pattern::Exactly(_) => false,
+            Pattern::Between(front, end) => {
+                front.as_bytes().is_empty() && end.as_bytes().is_empty()
+            }
         }
     }
 }
 
-// A beginning and an ending; an empty one isn't shown.
-fn show_between<W: fmt::Write>(
-    f: &mut fmt::Formatter<W>,
-    front: &ClientLabel,
-    end: &ClientLabel,
-) -> fmt::Result
-    ensures { WritesOnOk W.write_str_gives f.old result (between_text front.now end.now) f.new }
-{
-    match (front.as_bytes().is_empty(), end.as_bytes().is_empty()) {
-        (true, true) => f.write_str("all"),
-        (false, true) => write!(f, "beginning \"{front}\""),
-        (true, false) => write!(f, "ending \"{end}\""),
-        (false, false) => write!(f, "beginning \"{front}\" and ending \"{end}\""),
+/// `all`, `exactly "L"`, `beginning "L"`, `ending "L"` or `beginning "L" and ending "L"`.
+impl fmt::Display for Pattern {
+    fn fmt<W: fmt::Write>(&self, f: &mut fmt::Formatter<W>) -> fmt::Result {
+        match self {
+            Pattern::Exactly(one) => write!(f, "exactly \"{one}\""),
+            Pattern::Between(front, end) => match (front.as_bytes(), end.as_bytes()) {
+                ([], []) => f.write_str("all"),
+                (_, []) => write!(f, "beginning \"{front}\""),
+                ([], _) => write!(f, "ending \"{end}\""),
+                _ => write!(f, "beginning \"{front}\" and ending \"{end}\""),
+            },
+        }
     }
 }
 
@@ -106,30 +101,18 @@ fn has_any(patterns: &[Pattern], label: &[u8]) -> bool
 
 /// The pattern, and after `but` or `but not` the exceptions.
 impl fmt::Display for Shape {
-    ghost output = { λ shape. Some (shape_text shape) };
-
     fn fmt<W: fmt::Write>(&self, f: &mut fmt::Formatter<W>) -> fmt::Result {
         self.pattern.fmt(f)?;
-        let mut before = if self.is_wide() { " but " } else { " but not " };
+        let mut before = if self.pattern.is_wide() {
+            " but "
+        } else {
+            " but not "
+        };
         for pattern in self.except.as_slice() {
             write!(f, "{before}{pattern}")?;
             before = ", ";
         }
         Ok(())
-    }
-}
-
-impl Shape {
-    // Whether the pattern is the one of all labels.
-    fn is_wide(&self) -> bool
-        ensures { result ≡ is_wide self.now.pattern }
-    {
-        match &self.pattern {
-            Pattern::Exactly(_) => false,
-            Pattern::Between(front, end) => {
-                front.as_bytes().is_empty() && end.as_bytes().is_empty()
-            }
-        }
     }
 }
 
@@ -163,14 +146,9 @@ impl LabelSet {
     }
 
     /// Returns whether the set is shown as one label.
-    pub fn is_one(&self) -> bool
-        ensures { result ≡ is_one self.now }
-    {
+    pub fn is_one(&self) -> bool {
         match self.shapes.as_slice() {
-            [shape] => match &shape.pattern {
-                Pattern::Exactly(_) => true,
-                Pattern::Between(_, _) => false,
-            },
+            [shape] => matches!(&shape.pattern, Pattern::Exactly(_)),
             _ => false,
         }
     }
@@ -178,8 +156,6 @@ impl LabelSet {
 
 /// The shapes with `; ` between two of them, and `none` if there is no shape.
 impl fmt::Display for LabelSet {
-    ghost output = { λ labels. Some (labels_text labels) };
-
     fn fmt<W: fmt::Write>(&self, f: &mut fmt::Formatter<W>) -> fmt::Result {
         if self.shapes.is_empty() {
             return f.write_str("none");

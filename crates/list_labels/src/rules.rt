@@ -1,6 +1,6 @@
-//! The rules that decide a session request, and two targets compared.
+//! The rules that decide a session request.
 ghost use Rattle.std.specs.Prelude.{◌≡◌, ◌<◌, ◌++◌, length, IfOk, OnOk};
-ghost use Rattle.list_labels.specs.DecidingRules.{decided, same_child, decision_of};
+ghost use Rattle.list_labels.specs.DecidingRules.{decided, decision_of};
 
 use crate::label::ClientLabel;
 use crate::route_steps::{RouteStep, route_steps_of};
@@ -41,16 +41,5 @@ fn add_decided(rules: &mut Vec<usize>, hop: &RouteStep) -> Result<(), AllocError
             Ok(())
         }
         None => Ok(()),
-    }
-}
-
-/// Returns whether two requests are routed to the same component, or both are denied.
-pub fn same_child(child: Option<usize>, other: Option<usize>) -> bool
-    ensures { result ≡ same_child child other }
-{
-    match (child, other) {
-        (None, None) => true,
-        (Some(child), Some(other)) => child == other,
-        _ => false,
     }
 }

@@ -18,7 +18,8 @@ use Rattle.list_classes.specs.declared.label_classes.LabelClasses.{LabelClasses}
 use Rattle.list_labels.specs.declared.session_requests.SessionRequests.{SessionRequests}
 use Rattle.list_labels.proofs.AskedLemmas.{is_given_then}
 use Rattle.list_reach.specs.Comparisons.{Compares, IsSetBy, IsShortestBy, RoutesAlike}
-use Rattle.list_reach.specs.RoutedLabels.{IsShortest, IsWitness, RoutedLabel, class_routes, is_gained, is_moved, is_moved_by, is_shorter, is_to, routed_on, routes_of}
+use Rattle.list_reach.specs.RoutedLabels.{IsWitness, RoutedLabel, class_routes, is_gained, is_moved, is_moved_by, is_to, routed_length, routed_on, routes_of}
+use Rattle.list_reach.specs.Shortest.{IsShortest}
 use Rattle.list_reach.specs.declared.comparison.LabelMove.{LabelMove}
 use Rattle.list_reach.specs.declared.comparison.RouteComparison.{RouteComparison}
 use Rattle.list_reach.specs.declared.comparison.WitnessedSet.{WitnessedSet}
@@ -149,7 +150,7 @@ given_at before after comparison one compares there =
     )
 
 shortest_by : (moves : LabelMove) (before after : List ℕ → Option ℕ) (comparison : RouteComparison) (best : Option RoutedLabel)
-    → Compares before after comparison → IsShortest (is_moved moves) comparison.routed.items best
+    → Compares before after comparison → IsShortest routed_length (is_moved moves) comparison.routed.items best
     → IsShortestBy before after (is_moved moves) (option_map (λ (one : RoutedLabel). one.label) best)
 shortest_by moves before after comparison None compares none = λ label given.
     let class = class_of moves before after comparison label compares given in
@@ -198,14 +199,21 @@ pub set_found : (moves : LabelMove) (comparison : RouteComparison) (inside : Lis
 set_found moves comparison inside witness labels is union shown before after compares =
     set_is moves before after comparison inside (record { labels = labels; witness = witness }) is compares union shown
 
+-- a server to which a label is routed
+pub server_is : (child : Option ℕ) (server : ℕ) → is_to child (Some server) ≡ true → child ≡ Some server
+server_is None server is = cc
+server_is (Some child) server is = ap (λ n. Some n) (eqb-true child server is)
+
+pub server_there : (child : Option ℕ) (server : ℕ) → child ≡ Some server → is_to child (Some server) ≡ true
+server_there None server is = cc
+server_there (Some child) server is = eq-eqb child server (cc)
+
 -- the labels that a server of one list has, against no list
 pub server_from : (child : Option ℕ) (server : ℕ) → (is_to child (Some server) && true) ≡ true → child ≡ Some server
-server_from None server is = cc
-server_from (Some child) server is = ap (λ n. Some n) (eqb-true child server (and_parts (child == server) true is).0)
+server_from child server is = server_is child server (and_parts (is_to child (Some server)) true is).0
 
 pub server_to : (child : Option ℕ) (server : ℕ) → child ≡ Some server → (is_to child (Some server) && true) ≡ true
-server_to None server is = cc
-server_to (Some child) server is = and_from (child == server) true (eq-eqb child server (cc)) refl
+server_to child server is = and_from (is_to child (Some server)) true (server_there child server is) refl
 
 pub set_of_server : (list : Listed) (client : ℕ) (service : List ℕ) (server : ℕ) (found : WitnessedSet)
     → IsSetBy (routed_on None) (leads_to list client service) (is_gained None (Some server)) found → IsSetOf list client service server found.labels
@@ -214,55 +222,3 @@ set_of_server list client service server found is label given =
       λ there. server_from (leads_to list client service label) server (sym has ∙ there),
       λ leads. has ∙ server_to (leads_to list client service label) server leads,
     )
-
--- ---- the shortest
-
-less_of : (m n : ℕ) → nat_lt m n ≡ true → m < n
-less_of m n is = grind (arith, nat_tests)
-
-most_of : (m n : ℕ) → nat_lt m n ≡ false → n ≤ m
-most_of m n is = grind (arith, nat_tests)
-
-first_false : (a : Bool) → (a && true) ≡ false → a ≡ false
-first_false true lost = cc
-first_false false lost = refl
-
-second_false : (a b : Bool) → a ≡ true → (a && b) ≡ false → b ≡ false
-second_false true b is lost = lost
-second_false false b is lost = cc
-
--- one that passes and is shorter than the best so far is the best
-taken : (test : RoutedLabel → Bool) (seen : List RoutedLabel) (best : Option RoutedLabel) (one : RoutedLabel) → IsShortest test seen best
-    → test one ≡ true → is_shorter one best ≡ true → All (λ other. test other ≡ true → length one.label ≤ length other.label) seen
-taken test seen None one none passes shorter =
-    All-weaker (λ other. test other ≡ false) (λ other. test other ≡ true → length one.label ≤ length other.label)
-    (λ other lost is. cc) seen none
-taken test seen (Some best) one least passes shorter =
-    All-weaker (λ other. test other ≡ true → length best.label ≤ length other.label)
-    (λ other. test other ≡ true → length one.label ≤ length other.label)
-    (λ other less is. let less_best : length one.label < length best.label = less_of _ _ shorter in
-    let most : length best.label ≤ length other.label = less is in omega arith)
-    seen least.least
-
-pub best_taken : (test : RoutedLabel → Bool) (seen : List RoutedLabel) (best : Option RoutedLabel) (one : RoutedLabel) → IsShortest test seen best
-    → test one ≡ true → is_shorter one best ≡ true → IsShortest test (seen ++ one ∷ []) (Some one)
-best_taken test seen best one so_far passes shorter =
-    record {
-      there = Contains-push seen one;
-      passes = passes;
-      least = All-push (λ other. test other ≡ true → length one.label ≤ length other.label) seen one
-          (taken test seen best one so_far passes shorter) (λ is. omega arith);
-    }
-
--- else the best so far stays
-pub best_stays : (test : RoutedLabel → Bool) (seen : List RoutedLabel) (best : Option RoutedLabel) (one : RoutedLabel) → IsShortest test seen best
-    → (test one && is_shorter one best) ≡ false → IsShortest test (seen ++ one ∷ []) best
-best_stays test seen None one none lost =
-    All-push (λ other. test other ≡ false) seen one none (first_false (test one) lost)
-best_stays test seen (Some best) one least lost =
-    record {
-      there = Contains-append_left seen (one ∷ []) best least.there;
-      passes = least.passes;
-      least = All-push (λ other. test other ≡ true → length best.label ≤ length other.label) seen one least.least
-          (λ is. most_of _ _ (second_false (test one) _ is lost));
-    }

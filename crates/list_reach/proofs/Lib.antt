@@ -3,10 +3,10 @@ pub mod TableLemmas
 mod SummaryLemmas
 pub mod ServiceLemmas
 pub mod TrailLemmas
-pub mod WaysLemmas
 pub mod WishLemmas
 pub mod NamedLemmas
 pub mod ComparisonLemmas
 pub mod ReachLemmas
-pub mod TableTextLemmas
-mod RouteTextLemmas
+mod AskingLemmas
+pub mod ShortestLemmas
+pub mod WitnessLemmas

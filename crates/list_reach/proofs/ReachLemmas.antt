@@ -6,7 +6,7 @@ use Rattle.std.proofs.lemmas.Bool.{both_ways}
 use Rattle.std.proofs.lemmas.List.Elements.{Contains-append_right}
 use Rattle.std.proofs.lemmas.List.Sums.{AllPass-from_list_all}
 use Rattle.own_model.specs.Listed.{Listed}
-use Rattle.list_labels.specs.GivenLabels.{leads_to}
+use Rattle.list_labels.specs.GivenLabels.{IsGiven, leads_to}
 use Rattle.list_reach.specs.Comparisons.{Compares, IsShortestBy}
 use Rattle.list_reach.specs.Reach.{AllRouted, IsShortest, NoneRouted, SomeNotRouted}
 use Rattle.list_reach.specs.RoutedLabels.{RoutedLabel, is_gained, is_moved, routed_on, routes_of}
@@ -63,3 +63,10 @@ reach_some list client service server comparison compares none =
       at.0,
       λ leads. both_ways _ one.2 (ap (is_moved moves) at.1 ∙ server_to (leads_to list client service one.0.label) server leads),
     )
+
+-- if all labels are routed to a server, the empty one is a shortest
+pub empty_is_shortest : (list : Listed) (client : ℕ) (service : List ℕ) (server : ℕ) → AllRouted list client service server
+    → IsShortest list client service server []
+empty_is_shortest list client service server all =
+    let given : IsGiven [] = record { short = omega arith; plain = refl } in
+    record { given = given; leads = all [] given; least = λ other is leads. omega arith }

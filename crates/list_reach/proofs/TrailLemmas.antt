@@ -13,25 +13,26 @@ use Rattle.std.proofs.lemmas.List.Quantifiers.{Any-push}
 use Rattle.std.proofs.lemmas.Bool.{and_from, and_parts, or_left, or_right, or_cases}
 use Rattle.own_model.specs.Listed.{Listed}
 use Rattle.own_model.specs.SessionArgs.{is_quotable}
-use Rattle.list_classes.specs.Representatives.{GoesAlike, IsTold, KeptLabel, RepresentAll}
+use Rattle.list_classes.specs.Described.{AreWhole, RouteAlike}
+use Rattle.list_classes.specs.declared.label_class.LabelClass.{LabelClass}
+use Rattle.list_classes.specs.declared.label_classes.LabelClasses.{LabelClasses}
 use Rattle.list_reach.specs.Deciding.{AreDecisions, HasDecision, IsDecision, KeepsDecision, DecisionAt, for_some_label, is_same, some_byte, some_label}
-use Rattle.list_labels.specs.DecidingRules.{same_child, decision_of}
+use Rattle.list_labels.specs.Alike.{IsAlike}
+use Rattle.list_labels.specs.Asked.{is_given}
+use Rattle.list_labels.specs.DecidingRules.{decision_of}
+use Rattle.list_labels.specs.declared.session_requests.SessionRequests.{SessionRequests}
 use Rattle.list_labels.specs.GivenLabels.{IsGiven, leads_to}
 use Rattle.list_reach.specs.DecisionOrder.{AreSeen}
+use Rattle.list_labels.proofs.AskedLemmas.{is_given_then}
+use Rattle.list_labels.proofs.RuleLemmas.{routed_by_rules}
 use Rattle.list_labels.proofs.TextLemmas.{same_tests}
+use Rattle.list_reach.proofs.WitnessLemmas.{class_with}
 
 below_or_at : (n most : ℕ) → n ≤ most → (n < most) ⊎ (n ≡ most)
 below_or_at zero zero within = inr refl
 below_or_at zero (suc most) within = inl (omega arith)
 below_or_at (suc n) zero within = absurd (omega arith)
 below_or_at (suc n) (suc most) within = elim (below_or_at n most (omega arith)) [ inl less ↦ inl (omega arith) | inr same ↦ inr (ap suc same) ]
-
--- two targets that a test finds the same are the same
-same_end : (child other : Option ℕ) → same_child child other ≡ true → child ≡ other
-same_end None None is = refl
-same_end None (Some other) is = cc
-same_end (Some child) None is = cc
-same_end (Some child) (Some other) is = let same : child ≡ other = grind (arith, nat_tests) in ap Some same
 
 quotable_below : (byte : ℕ) → is_quotable byte ≡ true → byte < 127
 quotable_below byte plain = grind (arith, nat_tests)
@@ -41,13 +42,14 @@ quotable_below byte plain = grind (arith, nat_tests)
 at_most : (m n : ℕ) → nat_le m n ≡ true → m ≤ n
 at_most m n is = grind (arith, nat_tests)
 
-pub keeps_known : (list : Listed) (client : ℕ) (service rules : List ℕ) (one : KeptLabel) (trails : List DecisionAt)
-    → IsTold list client service one → All (IsDecision list client service) trails → rules ≡ decision_of list client service one.label
-    → list_any (is_same one.label rules one.child) trails ≡ true → KeepsDecision list client service one.label trails trails
-keeps_known list client service rules one trails told are decides known =
-    let any = Any-from_list_any (is_same one.label rules one.child) trails known in
-    let first = and_parts (bytes_eq any.1.rules rules) _ any.4 in
-    let then = and_parts (same_child any.1.child one.child) _ first.1 in
+pub keeps_known : (list : Listed) (client : ℕ) (service label rules : List ℕ) (trails : List DecisionAt)
+    → All (IsDecision list client service) trails → rules ≡ decision_of list client service label
+    → list_any (is_same label rules) trails ≡ true → KeepsDecision list client service label trails trails
+keeps_known list client service label rules trails are decides known =
+    let any = Any-from_list_any (is_same label rules) trails known in
+    let told = All-contains (IsDecision list client service) trails any.1 are (any.0, any.2, any.3) in
+    let same = and_parts (bytes_eq any.1.rules rules) _ any.4 in
+    let decided : any.1.rules ≡ decision_of list client service label = (bytes_eq-Decides any.1.rules rules).0 same.0 ∙ decides in
     record {
       told = are;
       stays = λ other there. there;
@@ -57,9 +59,9 @@ keeps_known list client service rules one trails told are decides known =
         any.2,
         any.3,
         record {
-          short = at_most _ _ then.1;
-          decides = (bytes_eq-Decides any.1.rules rules).0 first.0 ∙ decides;
-          leads = same_end _ _ then.0 ∙ told.leads;
+          short = at_most _ _ same.1;
+          decides = decided;
+          leads = told.leads ∙ routed_by_rules list client service any.1.label label (sym told.decides ∙ decided);
         },
       );
     }
@@ -68,123 +70,113 @@ any_more : (P : DecisionAt → Type 0) (trails : List DecisionAt) (trail : Decis
 any_more P trails trail any =
     (any.0, any.1, (omega (arith, any.2, length-append trails (trail ∷ []))), get_or-append trails (trail ∷ []) any.1 any.0 any.2 ∙ any.3, any.4)
 
-pub keeps_new : (list : Listed) (client : ℕ) (service : List ℕ) (one : KeptLabel) (trail : DecisionAt) (trails : List DecisionAt)
-    → IsTold list client service one → All (IsDecision list client service) trails
-    → trail.label ≡ one.label → trail.rules ≡ decision_of list client service one.label → trail.child ≡ one.child
-    → KeepsDecision list client service one.label trails (trails ++ trail ∷ [])
-keeps_new list client service one trail trails told are is decides leads =
-    let short : length trail.label ≤ length one.label = omega (arith, ap length is) in
+pub keeps_new : (list : Listed) (client : ℕ) (service label : List ℕ) (trail : DecisionAt) (trails : List DecisionAt)
+    → is_given label ≡ true → All (IsDecision list client service) trails → trail.label ≡ label
+    → trail.rules ≡ decision_of list client service label → trail.child ≡ leads_to list client service label
+    → KeepsDecision list client service label trails (trails ++ trail ∷ [])
+keeps_new list client service label trail trails given are is decides leads =
+    let short : length trail.label ≤ length label = omega (arith, ap length is) in
     record {
       told = All-push (IsDecision list client service) trails trail are
-          (record { given = rw is told.given; decides = rw is decides; leads = rw is (leads ∙ told.leads) });
+          (record { given = is_given_then trail.label (ap is_given is ∙ given); decides = rw is decides; leads = rw is leads });
       stays = λ other there. any_more (HasDecision list client service other) trails trail there;
-      there = Any-push (HasDecision list client service one.label) trails trail
-          (record { short = short; decides = decides; leads = leads ∙ told.leads });
+      there = Any-push (HasDecision list client service label) trails trail (record { short = short; decides = decides; leads = leads });
     }
 
 -- ---- all trails
 
-on_trail : (list : Listed) (client : ℕ) (service label : List ℕ) (one : KeptLabel) (trail : DecisionAt)
-    → IsTold list client service one → GoesAlike list client service label one → HasDecision list client service one.label trail
-    → HasDecision list client service label trail
-on_trail list client service label one trail told goes on =
-    let shorter : length trail.label ≤ length one.label = on.short in
-    let short : length one.label ≤ length label = goes.short in
-    record {
-      short = omega arith;
-      decides = on.decides ∙ goes.decided;
-      leads = on.leads ∙ (sym told.leads ∙ goes.alike);
-    }
+on_trail : (list : Listed) (client : ℕ) (service label witness : List ℕ) (trail : DecisionAt) → length witness ≤ length label
+    → IsAlike list client service witness label → HasDecision list client service witness trail → HasDecision list client service label trail
+on_trail list client service label witness trail shorter alike on =
+    let short : length trail.label ≤ length witness = on.short in
+    record { short = omega arith; decides = on.decides ∙ alike.decided; leads = on.leads ∙ alike.leads }
 
-pub seen_none : (list : Listed) (client : ℕ) (service : List ℕ) (kept : List KeptLabel) (trails : List DecisionAt) → trails ≡ []
-    → AreSeen list client service kept 0 0 trails
-seen_none list client service kept trails is =
+pub seen_none : (list : Listed) (client : ℕ) (service : List ℕ) (classes : List LabelClass) (trails : List DecisionAt) → trails ≡ []
+    → AreSeen list client service classes 0 0 trails
+seen_none list client service classes trails is =
     record {
       told = λ k d within. absurd (omega (arith, ap length is));
       shorter = λ k d within less. absurd (omega arith);
       before = λ k d less. absurd (omega arith);
     }
 
-seen_at : (list : Listed) (client : ℕ) (service : List ℕ) (kept : List KeptLabel) (size place k : ℕ) (one d : KeptLabel) (old new : List DecisionAt)
-    → place < length kept → get_or kept place one ≡ one → AreSeen list client service kept size place old
-    → KeepsDecision list client service one.label old new → length (get_or kept k d).label ≡ size → (k < place) ⊎ (k ≡ place)
-    → Any (HasDecision list client service (get_or kept k d).label) new
-seen_at list client service kept size place k one d old new within is seen keeps long (inl below) =
-    keeps.stays (get_or kept k d).label (seen.before k d below long)
-seen_at list client service kept size place k one d old new within is seen keeps long (inr same) =
-    subst (λ (o : KeptLabel). Any (HasDecision list client service o.label) new)
-    (sym (ap (λ n. get_or kept n d) same ∙ (get_or_default kept place d one within ∙ is))) keeps.there
+seen_at : (list : Listed) (client : ℕ) (service : List ℕ) (classes : List LabelClass) (size place k : ℕ) (one d : LabelClass) (old new : List DecisionAt)
+    → place < length classes → get_or classes place one ≡ one → AreSeen list client service classes size place old
+    → KeepsDecision list client service one.witness old new → length (get_or classes k d).witness ≡ size → (k < place) ⊎ (k ≡ place)
+    → Any (HasDecision list client service (get_or classes k d).witness) new
+seen_at list client service classes size place k one d old new within is seen keeps long (inl below) =
+    keeps.stays (get_or classes k d).witness (seen.before k d below long)
+seen_at list client service classes size place k one d old new within is seen keeps long (inr same) =
+    subst (λ (o : LabelClass). Any (HasDecision list client service o.witness) new)
+    (sym (ap (λ n. get_or classes n d) same ∙ (get_or_default classes place d one within ∙ is))) keeps.there
 
-pub seen_more : (list : Listed) (client : ℕ) (service : List ℕ) (kept : List KeptLabel) (size place : ℕ) (one : KeptLabel) (old new : List DecisionAt)
-    → place < length kept → get_or kept place one ≡ one → AreSeen list client service kept size place old
-    → KeepsDecision list client service one.label old new → AreSeen list client service kept size (place + 1) new
-seen_more list client service kept size place one old new within is seen keeps =
+pub seen_more : (list : Listed) (client : ℕ) (service : List ℕ) (classes : List LabelClass) (size place : ℕ) (one : LabelClass) (old new : List DecisionAt)
+    → place < length classes → get_or classes place one ≡ one → AreSeen list client service classes size place old
+    → KeepsDecision list client service one.witness old new → AreSeen list client service classes size (place + 1) new
+seen_more list client service classes size place one old new within is seen keeps =
     record {
       told = keeps.told;
-      shorter = λ k d there less. keeps.stays (get_or kept k d).label (seen.shorter k d there less);
-      before = λ k d less long. seen_at list client service kept size place k one d old new within is seen keeps long
+      shorter = λ k d there less. keeps.stays (get_or classes k d).witness (seen.shorter k d there less);
+      before = λ k d less long. seen_at list client service classes size place k one d old new within is seen keeps long
           (below_or_at k place (omega arith));
     }
 
-passed_at : (list : Listed) (client : ℕ) (service : List ℕ) (kept : List KeptLabel) (size place k : ℕ) (one d : KeptLabel) (trails : List DecisionAt)
-    → place < length kept → get_or kept place one ≡ one → length one.label ≢ size → AreSeen list client service kept size place trails
-    → length (get_or kept k d).label ≡ size → (k < place) ⊎ (k ≡ place)
-    → Any (HasDecision list client service (get_or kept k d).label) trails
-passed_at list client service kept size place k one d trails within is other seen long (inl below) = seen.before k d below long
-passed_at list client service kept size place k one d trails within is other seen long (inr same) =
+passed_at : (list : Listed) (client : ℕ) (service : List ℕ) (classes : List LabelClass) (size place k : ℕ) (one d : LabelClass) (trails : List DecisionAt)
+    → place < length classes → get_or classes place one ≡ one → length one.witness ≢ size → AreSeen list client service classes size place trails
+    → length (get_or classes k d).witness ≡ size → (k < place) ⊎ (k ≡ place)
+    → Any (HasDecision list client service (get_or classes k d).witness) trails
+passed_at list client service classes size place k one d trails within is other seen long (inl below) = seen.before k d below long
+passed_at list client service classes size place k one d trails within is other seen long (inr same) =
     absurd (other
-    (ap (λ (o : KeptLabel). length o.label) (sym (ap (λ n. get_or kept n d) same ∙ (get_or_default kept place d one within ∙ is))) ∙ long))
+    (ap (λ (o : LabelClass). length o.witness) (sym (ap (λ n. get_or classes n d) same ∙ (get_or_default classes place d one within ∙ is))) ∙ long))
 
 -- a label of another length is passed
-pub seen_passed : (list : Listed) (client : ℕ) (service : List ℕ) (kept : List KeptLabel) (size place : ℕ) (one : KeptLabel) (trails : List DecisionAt)
-    → place < length kept → get_or kept place one ≡ one → length one.label ≢ size → AreSeen list client service kept size place trails
-    → AreSeen list client service kept size (place + 1) trails
-seen_passed list client service kept size place one trails within is other seen =
+pub seen_passed : (list : Listed) (client : ℕ) (service : List ℕ) (classes : List LabelClass) (size place : ℕ) (one : LabelClass) (trails : List DecisionAt)
+    → place < length classes → get_or classes place one ≡ one → length one.witness ≢ size → AreSeen list client service classes size place trails
+    → AreSeen list client service classes size (place + 1) trails
+seen_passed list client service classes size place one trails within is other seen =
     record {
       told = seen.told;
       shorter = seen.shorter;
-      before = λ k d less long. passed_at list client service kept size place k one d trails within is other seen long
+      before = λ k d less long. passed_at list client service classes size place k one d trails within is other seen long
           (below_or_at k place (omega arith));
     }
 
-longer_at : (list : Listed) (client : ℕ) (service : List ℕ) (kept : List KeptLabel) (size k : ℕ) (d : KeptLabel) (trails : List DecisionAt)
-    → AreSeen list client service kept size (length kept) trails → k < length kept
-    → (length (get_or kept k d).label < size) ⊎ (length (get_or kept k d).label ≡ size)
-    → Any (HasDecision list client service (get_or kept k d).label) trails
-longer_at list client service kept size k d trails seen within (inl less) = seen.shorter k d within less
-longer_at list client service kept size k d trails seen within (inr long) = seen.before k d within long
+longer_at : (list : Listed) (client : ℕ) (service : List ℕ) (classes : List LabelClass) (size k : ℕ) (d : LabelClass) (trails : List DecisionAt)
+    → AreSeen list client service classes size (length classes) trails → k < length classes
+    → (length (get_or classes k d).witness < size) ⊎ (length (get_or classes k d).witness ≡ size)
+    → Any (HasDecision list client service (get_or classes k d).witness) trails
+longer_at list client service classes size k d trails seen within (inl less) = seen.shorter k d within less
+longer_at list client service classes size k d trails seen within (inr long) = seen.before k d within long
 
 -- with all of one length those of one byte more are begun
-pub seen_longer : (list : Listed) (client : ℕ) (service : List ℕ) (kept : List KeptLabel) (size : ℕ) (trails : List DecisionAt)
-    → AreSeen list client service kept size (length kept) trails → AreSeen list client service kept (size + 1) 0 trails
-seen_longer list client service kept size trails seen =
+pub seen_longer : (list : Listed) (client : ℕ) (service : List ℕ) (classes : List LabelClass) (size : ℕ) (trails : List DecisionAt)
+    → AreSeen list client service classes size (length classes) trails → AreSeen list client service classes (size + 1) 0 trails
+seen_longer list client service classes size trails seen =
     record {
       told = seen.told;
-      shorter = λ k d within less. longer_at list client service kept size k d trails seen within
-          (below_or_at (length (get_or kept k d).label) size (omega arith));
+      shorter = λ k d within less. longer_at list client service classes size k d trails seen within
+          (below_or_at (length (get_or classes k d).witness) size (omega arith));
       before = λ k d less. absurd (omega arith);
     }
 
-pub told_at : (list : Listed) (client : ℕ) (service : List ℕ) (kept : List KeptLabel) (place : ℕ) (one : KeptLabel)
-    → RepresentAll list client service kept → place < length kept → get_or kept place one ≡ one → IsTold list client service one
-told_at list client service kept place one stand within is =
-    All-contains (IsTold list client service) kept one stand.told (place, within, is)
-
-pub trails_of : (list : Listed) (client : ℕ) (service : List ℕ) (kept : List KeptLabel) (trails : List DecisionAt)
-    → RepresentAll list client service kept → AreSeen list client service kept 65 0 trails → AreDecisions list client service trails
-trails_of list client service kept trails stand seen =
+pub trails_of : (wishes : SessionRequests) (classes : LabelClasses) (trails : List DecisionAt) → AreWhole classes → RouteAlike (Some wishes) classes
+    → AreSeen wishes.list.now wishes.client wishes.service.now classes.classes.items 65 0 trails
+    → AreDecisions wishes.list.now wishes.client wishes.service.now trails
+trails_of wishes classes trails whole alike seen =
     record {
       told = seen.told;
-      covers = λ label given. let any = stand.covers label given in
-          let told = All-contains (IsTold list client service) kept any.1 stand.told (any.0, any.2, any.3) in
-          let is : (get_or kept any.0 any.1).label ≡ any.1.label = ap (λ (o : KeptLabel). o.label) any.3 in
-          let short : length any.1.label ≤ 64 = told.given.short in
-          let on = seen.shorter any.0 any.1 any.2 (omega (arith, ap length is)) in (
+      covers = λ label given.
+          let one = class_with wishes classes label whole alike given in
+          let class = one.0 in
+          let short : length class.witness ≤ 64 = one.1.given.short in
+          let on = seen.shorter one.1.place class one.1.within (subst (λ (c : LabelClass). length c.witness < 65) (sym one.1.at) (omega arith)) in (
             on.0,
             on.1,
             on.2,
             on.3,
-            on_trail list client service label any.1 on.1 told any.4 (subst (λ l. HasDecision list client service l on.1) is on.4),
+            on_trail wishes.list.now wishes.client wishes.service.now label class.witness on.1 one.1.short one.1.alike
+                (subst (λ (c : LabelClass). HasDecision wishes.list.now wishes.client wishes.service.now c.witness on.1) one.1.at on.4),
           );
     }
 

@@ -3,7 +3,7 @@ use Rattle.std.specs.Prelude.{◌≡◌, ℕ, ◌≤◌, ◌&&◌, ◌||◌, zer
 use Rattle.std.specs.Str.{bytes_eq}
 use Rattle.own_model.specs.Listed.{Listed}
 use Rattle.own_model.specs.SessionArgs.{is_quotable}
-use Rattle.list_labels.specs.DecidingRules.{decision_of, same_child}
+use Rattle.list_labels.specs.DecidingRules.{decision_of}
 use Rattle.list_labels.specs.GivenLabels.{IsGiven, leads_to}
 
 -- a label, the rules that decide its request, and the entry to which they route it
@@ -30,9 +30,8 @@ pub record AreDecisions (list : Listed) (client : ℕ) (service : List ℕ) (tra
   pub covers : (label : List ℕ) → IsGiven label → Any (HasDecision list client service label) trails
 
 -- a decision is by these rules, with a label that is no longer
-abbrev pub is_same : List ℕ → List ℕ → Option ℕ → DecisionAt → Bool
-is_same label rules child trail =
-    bytes_eq trail.rules rules && (same_child trail.child child && nat_le (length trail.label) (length label))
+abbrev pub is_same : List ℕ → List ℕ → DecisionAt → Bool
+is_same label rules trail = bytes_eq trail.rules rules && nat_le (length trail.label) (length label)
 
 -- the decision on a label is kept, after those that were kept
 pub record KeepsDecision (list : Listed) (client : ℕ) (service label : List ℕ) (old new : List DecisionAt) : Type 0 where

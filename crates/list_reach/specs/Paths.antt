@@ -1,4 +1,4 @@
--- The paths of components, and which components a path denotes: a `*` is 42, a `,` is 44 and a `/` is 47.
+-- Which components a path denotes: a `*` is 42, a `,` is 44 and a `/` is 47.
 use Rattle.std.specs.Prelude.{◌≡◌, ℕ, ◌-◌, ◌&&◌, ◌||◌, ◌==◌, zero, suc, not, Bool, false, List, [], ◌∷◌, ◌++◌, length, map, position, take, drop, nat_eq, if◌then◌else◌, Option, Some, None, is_some, IfSome, Result, Ok, Err}
 use Rattle.std.specs.Borrow.{Bor}
 use Rattle.std.specs.Char.{is_ascii_whitespace}
@@ -12,10 +12,6 @@ use Rattle.list_reach.specs.declared.component_numbers.ComponentKind.{ComponentK
 use Rattle.list_reach.specs.declared.component_numbers.ComponentKind.TheVariants.{Script as Scripts, Server as Servers}
 use Rattle.list_reach.specs.declared.component_numbers.Unnamed.{Unnamed}
 use Rattle.list_reach.specs.declared.component_numbers.Unnamed.TheVariants.{Nobody, NoScript, NoServer, NoMemory}
-
--- the path of the component of a number
-abbrev pub path_of : Listed → ℕ → List ℕ
-path_of list number = unwrap_or (option_map (λ entry. entry.path) (slice_get list.entries number)) []
 
 abbrev pub is_slash : ℕ → Bool
 is_slash b = b == 47

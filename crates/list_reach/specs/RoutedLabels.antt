@@ -1,7 +1,8 @@
--- Labels as two start lists route their requests, and the shortest of those that pass a test.
-use Rattle.std.specs.Prelude.{◌≡◌, ℕ, ◌≤◌, ◌==◌, ◌&&◌, not, Bool, true, false, List, length, nat_lt, Option, Some, None, All, Contains}
+-- Labels as two start lists route their requests.
+use Rattle.std.specs.Prelude.{◌≡◌, ℕ, ◌==◌, ◌&&◌, not, Bool, true, false, List, length, Option, Some, None}
 use Rattle.std.specs.Option.{option_map}
 use Rattle.list_labels.specs.GivenLabels.{leads_to}
+use Rattle.list_reach.specs.Shortest.{IsShortest}
 use Rattle.list_reach.specs.declared.comparison.LabelMove.{LabelMove}
 use Rattle.list_classes.specs.declared.label_class.LabelClass.{LabelClass}
 use Rattle.list_labels.specs.declared.session_requests.SessionRequests.{SessionRequests}
@@ -46,23 +47,10 @@ is_moved_by false was now one = is_lost was now one
 abbrev pub is_moved : LabelMove → RoutedLabel → Bool
 is_moved moves one = is_moved_by moves.is_gain moves.was moves.now one
 
--- one of these passes a test, and no shorter one does
-pub record IsLeast (test : RoutedLabel → Bool) (all : List RoutedLabel) (best : RoutedLabel) : Type 0 where
-  pub there : Contains all best
-  pub passes : test best ≡ true
-  pub least : All (λ one. test one ≡ true → length best.label ≤ length one.label) all
-
--- a label is shorter than another one, or there is no other one
-abbrev pub is_shorter : RoutedLabel → Option RoutedLabel → Bool
-is_shorter one None = true
-is_shorter one (Some other) = nat_lt (length one.label) (length other.label)
-
--- a shortest one that passes, or none passes
-abbrev pub IsShortest : (RoutedLabel → Bool) → List RoutedLabel → Option RoutedLabel → Type 0
-IsShortest test all None = All (λ one. test one ≡ false) all
-IsShortest test all (Some best) = IsLeast test all best
+abbrev pub routed_length : RoutedLabel → ℕ
+routed_length one = length one.label
 
 -- a witness is the label of a shortest one that passes; there is none just if none passes
 abbrev pub IsWitness : (RoutedLabel → Bool) → List RoutedLabel → Option (List ℕ) → Type 0
 IsWitness test all witness =
-    (best : Option RoutedLabel) × IsShortest test all best × (witness ≡ option_map (λ one. one.label) best)
+    (best : Option RoutedLabel) × IsShortest routed_length test all best × (witness ≡ option_map (λ one. one.label) best)

@@ -1,9 +1,9 @@
 -- What a table has rows for: each selected script, each service, and each selected server that provides it.
 use Rattle.std.specs.Prelude.{ℕ, ◌&&◌, Bool, List, [], ◌∷◌, if◌then◌else◌}
 use Rattle.std.specs.List.{enumerate_from, flat_map}
-use Rattle.own_model.specs.Listed.{Listed, ListedEntry, offers, services_of}
-use Rattle.list_parser.specs.Depth.{runs_script}
+use Rattle.own_model.specs.Listed.{Listed, ListedEntry, offers}
 use Rattle.list_reach.specs.Additions.{AddsBy}
+use Rattle.list_reach.specs.ScriptDecisions.{Asking, askings}
 use Rattle.list_reach.specs.Table.{IsTrue}
 use Rattle.list_reach.specs.declared.reach_cell.ReachCell.{ReachCell}
 
@@ -27,14 +27,13 @@ abbrev pub service_rows : Listed → (ℕ → Bool) → ℕ → List ℕ → Lis
 service_rows list servers client service =
     flat_map (provider_rows servers client service) (enumerate_from 0 list.entries)
 
--- the rows of an entry, by its number, if it is a selected script: service by service
-abbrev pub script_rows : Listed → (ℕ → Bool) → (ℕ → Bool) → ℕ × ListedEntry → List Row
-script_rows list scripts servers entry =
-    if scripts entry.0 && runs_script entry.1.binary then flat_map (service_rows list servers entry.0) (services_of list.entries) else []
+-- the rows for a script's requests
+abbrev pub asking_rows : Listed → (ℕ → Bool) → Asking → List Row
+asking_rows list servers asking = service_rows list servers asking.client asking.service
 
--- the rows of a table, script by script
+-- the rows of a table, script by script, and for each script service by service
 abbrev pub rows : Listed → (ℕ → Bool) → (ℕ → Bool) → List Row
-rows list scripts servers = flat_map (script_rows list scripts servers) (enumerate_from 0 list.entries)
+rows list scripts servers = flat_map (asking_rows list servers) (askings list scripts)
 
 -- cells for these rows are added, and each cell is true
 abbrev pub AddsRows : Listed → List ReachCell → List Row → List ReachCell → Type 0

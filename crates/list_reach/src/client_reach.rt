@@ -1,12 +1,13 @@
 //! Whether a client's requests for a service are routed to a server, and a shortest label of a range that is.
-ghost use Rattle.std.specs.Prelude.{◌≡◌, ◌<◌, ◌+◌, ℕ, List, length, slice_index_or, IfOk, IfSome, MatchOption};
-ghost use Rattle.own_model.specs.Listed.{Listed};
-ghost use Rattle.list_labels.specs.LabelRanges.{AskedLabel};
-ghost use Rattle.list_classes.specs.Representatives.{RepresentRange};
-ghost use Rattle.list_reach.specs.ClientReach.{IsBest, is_shorter, leads};
-ghost use Rattle.list_reach.specs.RangeReach.{IsShortestInRange, NoneRoutedInRange};
+ghost use Rattle.std.specs.Prelude.{◌≡◌, ◌<◌, ◌++◌, ◌∷◌, [], List, Some, length, IfOk, MatchOption};
+ghost use Rattle.std.specs.Option.{option_copied};
+ghost use Rattle.list_classes.specs.declared.label_class.LabelClass.{LabelClass as Class};
+ghost use Rattle.list_reach.specs.RangeReach.{IsShortestInRange, NoneRoutedInRange, is_routed_in, witness_length};
+ghost use Rattle.list_reach.specs.RoutedLabels.{routed_on};
+ghost use Rattle.list_reach.specs.Shortest.{IsShortest, is_shorter};
 
-use list_classes::{RoutedLabel, representatives_in};
+use crate::comparison::{child_of, is_to};
+use list_classes::{LabelClass, LabelClasses};
 use list_labels::{ClientLabel, LabelCondition, SessionRequests};
 use std::alloc::{AllocError, Global};
 
@@ -36,78 +37,77 @@ pub fn shortest_in_range(
         (IsShortestInRange range.now wishes.entry.list.now wishes.entry.client
         wishes.entry.service.now server)) }
 {
-    let kept = representatives_in(alloc, wishes, range)?;
-    Ok(shortest_of(kept.as_slice(), server))
-}
-
-// A shortest label that is routed to a server, if one is.
-fn shortest_of(kept: &[RoutedLabel], server: usize) -> Option<ClientLabel>
-    ensures { (range : AskedLabel) (list : Listed) (client : ℕ) (service : List ℕ)
-        → RepresentRange range list client service kept.now → MatchOption result
-        (NoneRoutedInRange range list client service server)
-        (IsShortestInRange range list client service server) }
-{
-    match shortest(kept, server) {
-        Some(place) => {
-            let one = &kept[place];
-            Some(one.label.copy())
-        }
-        None => None,
+    let classes = LabelClasses::of(alloc, range, Some(wishes), None)?;
+    match shortest(classes.as_slice(), wishes, range, server) {
+        Some(class) => Ok(Some(class.witness.copy())),
+        None => Ok(None),
     }
 }
 
-// The place of a shortest label that is routed to a server, if one is.
-fn shortest(kept: &[RoutedLabel], server: usize) -> Option<usize>
-    ensures { IsBest kept.now server (length kept.now) result }
+// One of the classes with the shortest label of those in a range that are routed to a server.
+fn shortest<'a>(
+    classes: &'a [LabelClass],
+    wishes: SessionRequests<'_>,
+    range: &LabelCondition,
+    server: usize,
+) -> Option<&'a LabelClass>
+    requires client { wishes.client < length wishes.list.now.entries }
+    ensures { IsShortest witness_length (is_routed_in range.now (routed_on (Some wishes.entry)) server)
+        classes.now (option_copied result) }
 {
     let mut best = None;
-    for (place, one) in kept.iter().enumerate() {
-        best = better(kept, server, best, place, one);
+    for place in 0..classes.len() {
+        best = better(best, &classes[place], wishes, range, server);
     }
     best
 }
 
-// The shorter one of the best so far and the next label, if the next is routed to a server.
-#[tactic(auto, using(crate::proofs::WaysLemmas::best_stays))]
-fn better(
-    kept: &[RoutedLabel],
+// The best so far, or the next class if that has a shorter label that is in a range and is routed to a server.
+#[tactic(auto, using(crate::proofs::ShortestLemmas::best_taken, crate::proofs::ShortestLemmas::best_shorter, crate::proofs::ShortestLemmas::best_alone))]
+fn better<'a>(
+    best: Option<&'a LabelClass>,
+    class: &'a LabelClass,
+    wishes: SessionRequests<'_>,
+    range: &LabelCondition,
     server: usize,
-    best: Option<usize>,
-    place: usize,
-    one: &RoutedLabel,
-) -> Option<usize>
-    requires place { place < length kept.now }
-    requires here { one.now ≡ slice_index_or kept.now place one.now }
-    requires best { IsBest kept.now server place best }
-    ensures { IsBest kept.now server (place + 1) result }
+) -> Option<&'a LabelClass>
+    requires client { wishes.client < length wishes.list.now.entries }
+    ensures { (seen : List Class)
+        → IsShortest witness_length (is_routed_in range.now (routed_on (Some wishes.entry)) server)
+        seen (option_copied best.entry)
+        → IsShortest witness_length (is_routed_in range.now (routed_on (Some wishes.entry)) server)
+        (seen ++ class.now ∷ []) (option_copied result) }
 {
-    if leads(one, server) && is_shorter(kept, one, best) {
-        Some(place)
-    } else {
-        best
+    if !is_shorter(class, best) {
+        return best;
     }
+    if is_routed_in(class, wishes, range, server) {
+        return Some(class);
+    }
+    best
 }
 
-// Whether a label is routed to a server.
-fn leads(one: &RoutedLabel, server: usize) -> bool
-    ensures { result ≡ leads server one.now }
-{
-    match one.child {
-        Some(child) => child == server,
-        None => false,
-    }
-}
-
-// Whether a label is shorter than the one at a place, or there is none.
-fn is_shorter(kept: &[RoutedLabel], one: &RoutedLabel, best: Option<usize>) -> bool
-    requires within { IfSome best (λ place. place < length kept.now) }
-    ensures { result ≡ is_shorter kept.now one.now best }
+// Whether a label is shorter than that of another class, or there is no other class.
+fn is_shorter(class: &LabelClass, best: Option<&LabelClass>) -> bool
+    ensures { result ≡ is_shorter witness_length class.now (option_copied best.entry) }
 {
     match best {
-        Some(place) => {
-            let other = &kept[place];
-            one.label.as_bytes().len() < other.label.as_bytes().len()
-        }
+        Some(other) => class.witness.as_bytes().len() < other.witness.as_bytes().len(),
         None => true,
     }
+}
+
+// Whether the label of a class is in a range and is routed to a server.
+fn is_routed_in(
+    class: &LabelClass,
+    wishes: SessionRequests<'_>,
+    range: &LabelCondition,
+    server: usize,
+) -> bool
+    requires client { wishes.client < length wishes.list.now.entries }
+    ensures { result
+        ≡ is_routed_in range.now (routed_on (Some wishes.entry)) server class.now }
+{
+    range.matches(class.witness.as_bytes())
+        && is_to(child_of(Some(wishes), &class.witness), Some(server))
 }

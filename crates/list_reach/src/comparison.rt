@@ -6,7 +6,8 @@ ghost use Rattle.own_model.specs.Listed.{Listed};
 ghost use Rattle.list_labels.specs.GivenLabels.{leads_to};
 ghost use Rattle.list_reach.specs.ClientReach.{DescribesReach};
 ghost use Rattle.list_reach.specs.Comparisons.{Compares, IsSetBy, IsShortestBy};
-ghost use Rattle.list_reach.specs.RoutedLabels.{IsShortest, IsWitness, RoutedLabel, class_routes, is_gained, is_lost, is_moved, is_shorter, is_to, routed_on, routes_of};
+ghost use Rattle.list_reach.specs.RoutedLabels.{IsWitness, RoutedLabel, class_routes, is_gained, is_lost, is_moved, is_to, routed_length, routed_on, routes_of};
+ghost use Rattle.list_reach.specs.Shortest.{IsShortest, is_shorter};
 
 use crate::client_reach::Reach;
 use list_classes::{LabelClass, LabelClasses, described};
@@ -211,8 +212,8 @@ fn add_routed(
     Ok(())
 }
 
-// The component to which a request with a label is routed, if the client is there.
-fn child_of(wishes: Option<SessionRequests<'_>>, label: &ClientLabel) -> Option<usize>
+/// Returns the component to which a request with a label is routed, if the client is there.
+pub(crate) fn child_of(wishes: Option<SessionRequests<'_>>, label: &ClientLabel) -> Option<usize>
     requires { IfSome wishes (λ wishes. wishes.client < length wishes.list.now.entries) }
     ensures { result ≡ routed_on wishes.entry label.now }
 {
@@ -233,8 +234,8 @@ fn is_moved(moves: LabelMove, one: &LabelRoutes) -> bool
     }
 }
 
-// Whether a request is routed to a server, if the server is there.
-fn is_to(child: Option<usize>, server: Option<usize>) -> bool
+/// Returns whether a request is routed to a server, if the server is there.
+pub(crate) fn is_to(child: Option<usize>, server: Option<usize>) -> bool
     ensures { result ≡ is_to child server }
 {
     match (child, server) {
@@ -243,9 +244,9 @@ fn is_to(child: Option<usize>, server: Option<usize>) -> bool
     }
 }
 
-// Its routes.
+// One of the shortest labels that a server gains or loses.
 fn shortest(routed: &[LabelRoutes], moves: LabelMove) -> Option<&LabelRoutes>
-    ensures { IsShortest (is_moved moves) routed.now (option_copied result) }
+    ensures { IsShortest routed_length (is_moved moves) routed.now (option_copied result) }
 {
     let mut best = None;
     for place in 0..routed.len() {
@@ -255,26 +256,28 @@ fn shortest(routed: &[LabelRoutes], moves: LabelMove) -> Option<&LabelRoutes>
 }
 
 // The shorter of the best so far and the next one, if a server gains or loses that.
-#[tactic(auto, using(crate::proofs::ComparisonLemmas::best_taken, crate::proofs::ComparisonLemmas::best_stays))]
+#[tactic(auto, using(crate::proofs::ShortestLemmas::best_taken, crate::proofs::ShortestLemmas::best_shorter, crate::proofs::ShortestLemmas::best_alone))]
 fn better<'a>(
     moves: LabelMove,
     best: Option<&'a LabelRoutes>,
     one: &'a LabelRoutes,
 ) -> Option<&'a LabelRoutes>
     ensures { (seen : List RoutedLabel)
-        → IsShortest (is_moved moves) seen (option_copied best.entry)
-        → IsShortest (is_moved moves) (seen ++ one.now ∷ []) (option_copied result) }
+        → IsShortest routed_length (is_moved moves) seen (option_copied best.entry)
+        → IsShortest routed_length (is_moved moves) (seen ++ one.now ∷ []) (option_copied result) }
 {
-    if is_moved(moves, one) && is_shorter(one, best) {
-        Some(one)
-    } else {
-        best
+    if !is_moved(moves, one) {
+        return best;
     }
+    if is_shorter(one, best) {
+        return Some(one);
+    }
+    best
 }
 
 // Whether a label is shorter than another one, or there is no other one.
 fn is_shorter(one: &LabelRoutes, best: Option<&LabelRoutes>) -> bool
-    ensures { result ≡ is_shorter one.now (option_copied best.entry) }
+    ensures { result ≡ is_shorter routed_length one.now (option_copied best.entry) }
 {
     match best {
         Some(other) => one.label.as_bytes().len() < other.label.as_bytes().len(),

@@ -1,8 +1,6 @@
 //! The numbers of scripts and servers, by the paths that people write.
-ghost use Rattle.std.specs.Prelude.{◌≡◌, Ok, Some, IfErr, IfOk, IfSome};
-ghost use Rattle.std.specs.Fmt.{WritesOnOk};
-ghost use Rattle.list_reach.specs.Paths.{GivesReason, as_text, denotes, denotes_at, fault_of, is_sought, numbers_for, numbers_of, numbers_of_path, why_unnamed};
-ghost use Rattle.list_reach.specs.UnnamedTexts.{meant_text, unnamed_text};
+ghost use Rattle.std.specs.Prelude.{◌≡◌, Ok, IfErr, IfOk, IfSome};
+ghost use Rattle.list_reach.specs.Paths.{GivesReason, as_text, denotes_at, fault_of, is_sought, numbers_for, numbers_of, numbers_of_path, why_unnamed};
 ghost use Rattle.list_reach.specs.declared.component_numbers.Unnamed.TheVariants.{NoMemory as NoRoom};
 
 use crate::near_path::near_path;
@@ -34,13 +32,14 @@ pub enum Unnamed<'a> {
 }
 
 impl fmt::Display for Unnamed<'_> {
-    ghost output = { λ fault. Some (unnamed_text fault) };
-
     fn fmt<W: fmt::Write>(&self, f: &mut fmt::Formatter<W>) -> fmt::Result {
         match self {
             Unnamed::Nobody(path, near) => {
                 write!(f, "unknown component `{}`", as_text(*path))?;
-                show_meant(f, near)
+                match near {
+                    Some(near) => write!(f, "; did you mean `{}`?", near.as_str()),
+                    None => Ok(()),
+                }
             }
             Unnamed::NoScript(path) => write!(f, "expected a script, found `{}`", as_text(*path)),
             Unnamed::NoServer(path) => write!(
@@ -58,16 +57,6 @@ impl<'a> From<AllocError> for Unnamed<'a> {
 
     fn from(_fault: AllocError) -> Unnamed<'a> {
         Unnamed::NoMemory
-    }
-}
-
-// Writes the path that may have been meant.
-fn show_meant<W: fmt::Write>(f: &mut fmt::Formatter<W>, near: &Option<Path>) -> fmt::Result
-    ensures { WritesOnOk W.write_str_gives f.old result (meant_text near.now) f.new }
-{
-    match near {
-        Some(near) => write!(f, "; did you mean `{}`?", near.as_str()),
-        None => Ok(()),
     }
 }
 
@@ -143,16 +132,9 @@ fn denotes_at(list: &StartList, sought: ComponentKind, path: &[u8], number: usiz
     ensures { result ≡ denotes_at list.now sought path.now number }
 {
     match list.entries().get(number) {
-        Some(entry) => denotes(sought, path, entry),
+        Some(entry) => selects(path, entry.path()) && is_sought(entry, sought),
         None => false,
     }
-}
-
-// Whether a path denotes an entry of the kind.
-fn denotes(sought: ComponentKind, path: &[u8], entry: &ListEntry) -> bool
-    ensures { result ≡ denotes sought path.now entry.now }
-{
-    selects(path, entry.path()) && is_sought(entry, sought)
 }
 
 // Why a path denotes no component of the kind.

@@ -1,7 +1,4 @@
 //! A cell of a table of reach: which labels of a script's requests are routed to a server.
-ghost use Rattle.std.specs.Prelude.{◌≡◌, string_bytes};
-ghost use Rattle.list_reach.specs.CellTexts.{cell_text};
-
 use crate::client_reach::Reach;
 use list_labels::LabelSet;
 
@@ -18,9 +15,6 @@ pub struct ReachCell<'a> {
     pub reach: Reach,
     /// The set of the labels that are routed to the server.
     pub labels: LabelSet,
-    // The text of the labels in a row of a table.
-    pub(crate) shown: String,
-    ghost shows: { string_bytes shown ≡ cell_text reach labels },
 }
 
 impl ReachCell<'_> {
@@ -31,7 +25,7 @@ impl ReachCell<'_> {
     ghost use Rattle.list_reach.specs.Table.{IsTrue};
 
     /// Returns one of the shortest labels that are routed to the server, or none if no label is.
-    #[tactic(auto, using(crate::proofs::WaysLemmas::empty_is_shortest))]
+    #[tactic(auto, using(crate::proofs::ReachLemmas::empty_is_shortest))]
     pub fn witness(&self) -> Option<&[u8]>
         ensures { (list : Listed) → IsTrue list self.now → MatchOption (option_copied result)
             (NoneRouted list self.now.client self.now.service.now self.now.server)

@@ -1,10 +1,7 @@
 //! Each path by which scripts reach servers: a label, and the rules that route it to the server.
-ghost use Rattle.std.specs.Prelude.{◌≡◌, ◌<◌, length, All, IfOk, OnOk, Some};
-ghost use Rattle.std.specs.Fmt.{WritesOnOk};
-ghost use Rattle.std.specs.List.{flat_map};
+ghost use Rattle.std.specs.Prelude.{◌≡◌, ◌<◌, length, All, IfOk, OnOk};
 ghost use Rattle.list_reach.specs.AllPaths.{AddsPaths, AreAllPaths, reached, reached_of, selected_child};
 ghost use Rattle.list_reach.specs.Deciding.{IsDecision};
-ghost use Rattle.list_reach.specs.PathTexts.{asked_text, way_text, ways_text};
 ghost use Rattle.list_reach.specs.Paths.{is_chosen};
 ghost use Rattle.list_reach.specs.ScriptDecisions.{IsDecided};
 ghost use Rattle.list_reach.specs.Table.{IsReachPath};
@@ -141,53 +138,13 @@ fn selected_child(chosen: &ReachFilter, child: Option<usize>) -> Option<usize>
 
 /// Writes an empty line, and then a line for each path, or nothing if there is no path.
 impl fmt::Display for ReachPathList<'_> {
-    ghost output = { λ paths. Some (ways_text paths) };
-
     fn fmt<W: fmt::Write>(&self, f: &mut fmt::Formatter<W>) -> fmt::Result {
-        show_ways(f, self.list, self.ways.as_slice())?;
+        for way in self.ways.as_slice() {
+            let client = PathText::of(self.list, way.client);
+            write!(f, "\n{client} {} label \"{}\": ", way.service, way.label)?;
+            let server = PathText::of(self.list, way.server);
+            write!(f, "{} -> {server}", RouteSummary::of(&way.course))?;
+        }
         f.write_str(if self.ways.is_empty() { "" } else { "\n" })
     }
-}
-
-// Writes paths, each after the end of the line before.
-fn show_ways<W: fmt::Write>(
-    f: &mut fmt::Formatter<W>,
-    list: &StartList,
-    ways: &[ReachPath<'_>],
-) -> fmt::Result
-    ensures { WritesOnOk W.write_str_gives f.old result (flat_map (way_text list.now) ways.now) f.new }
-{
-    for way in ways {
-        show_way(f, list, way)?;
-    }
-    Ok(())
-}
-
-// A path after the end of the line before: who reaches whom, for which service, with which label and by which rules.
-fn show_way<W: fmt::Write>(
-    f: &mut fmt::Formatter<W>,
-    list: &StartList,
-    way: &ReachPath<'_>,
-) -> fmt::Result
-    ensures { WritesOnOk W.write_str_gives f.old result (way_text list.now way.now) f.new }
-{
-    f.write_str("\n")?;
-    show_asked(f, list, way)?;
-    let (brief, server) = (
-        RouteSummary::of(&way.course),
-        PathText::of(list, way.server),
-    );
-    write!(f, "{brief} -> {server}")
-}
-
-// The script, the service and the label of a path.
-fn show_asked<W: fmt::Write>(
-    f: &mut fmt::Formatter<W>,
-    list: &StartList,
-    way: &ReachPath<'_>,
-) -> fmt::Result
-    ensures { WritesOnOk W.write_str_gives f.old result (asked_text list.now way.now) f.new }
-{
-    let client = PathText::of(list, way.client);
-    write!(f, "{client} {} label \"{}\": ", way.service, way.label)
 }

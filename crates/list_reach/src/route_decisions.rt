@@ -1,12 +1,13 @@
 //! Which rules decide a client's requests for a service, list by list outward, for every label that the client can give.
-ghost use Rattle.std.specs.Prelude.{◌≡◌, ◌+◌, ◌<◌, length, All, IfOk, OnOk};
+ghost use Rattle.std.specs.Prelude.{◌≡◌, ◌+◌, ◌<◌, length, true, All, IfOk, OnOk};
 ghost use Rattle.std.specs.List.{list_any};
 ghost use Rattle.list_reach.specs.Deciding.{AreDecisions, IsDecision, KeepsDecision, is_same};
 ghost use Rattle.list_reach.specs.DecisionOrder.{AreSeen};
-ghost use Rattle.list_classes.specs.Representatives.{IsTold, RepresentAll};
+ghost use Rattle.list_labels.specs.Asked.{is_given};
 
-use list_classes::{RoutedLabel, representatives_of};
-use list_labels::{ClientLabel, LONGEST_GIVEN, SessionRequests, rules_for, same_child};
+use crate::comparison::child_of;
+use list_classes::{LabelClass, LabelClasses};
+use list_labels::{ClientLabel, LONGEST_GIVEN, LabelCondition, SessionRequests, rules_for};
 use std::alloc::{AllocError, Global};
 use std::marker::Model;
 
@@ -76,10 +77,10 @@ impl RouteDecisions {
         ensures { IfOk result (λ trails.
             AreDecisions wishes.entry.list.now wishes.entry.client wishes.entry.service.now trails) }
     {
-        let kept = representatives_of(alloc, wishes)?;
+        let classes = LabelClasses::of(alloc, &LabelCondition::none(), Some(wishes), None)?;
         let mut trails = Vec::new(alloc);
         for size in 0..LONGEST_GIVEN + 1 {
-            keep_all_of(alloc, &mut trails, wishes, kept.as_slice(), size)?;
+            keep_all_of(alloc, &mut trails, wishes, classes.as_slice(), size)?;
         }
         Ok(RouteDecisions { trails })
     }
@@ -92,104 +93,89 @@ impl RouteDecisions {
     }
 }
 
-// Keeps the decisions on all labels of so many bytes, after those of shorter ones. So each decision is kept once, with a shortest
-// label.
+// Keeps the decisions on the witnesses of so many bytes, after those on shorter ones. So each decision is kept once, with a
+// shortest label.
 fn keep_all_of(
     alloc: Global,
     trails: &mut Vec<RouteDecision>,
     wishes: SessionRequests<'_>,
-    kept: &[RoutedLabel],
+    classes: &[LabelClass],
     size: usize,
 ) -> Result<(), AllocError>
     requires client { wishes.client < length wishes.list.now.entries }
-    requires stand { RepresentAll wishes.list.now wishes.client wishes.service.now kept.now }
-    requires seen { AreSeen wishes.list.now wishes.client wishes.service.now kept.now size 0
+    requires seen { AreSeen wishes.list.now wishes.client wishes.service.now classes.now size 0
         trails.old.items }
     ensures { OnOk result (AreSeen wishes.entry.list.now wishes.entry.client
-        wishes.entry.service.now kept.now (size + 1) 0 trails.new.items) }
+        wishes.entry.service.now classes.now (size + 1) 0 trails.new.items) }
 {
-    for place in 0..kept.len() {
-        keep_if(alloc, trails, wishes, kept, size, place)?;
+    for place in 0..classes.len() {
+        keep_if(alloc, trails, wishes, classes, size, place)?;
     }
     Ok(())
 }
 
-// The same for the label at a place, if it has so many bytes.
+// The same for the witness at a place, if it has so many bytes.
 fn keep_if(
     alloc: Global,
     trails: &mut Vec<RouteDecision>,
     wishes: SessionRequests<'_>,
-    kept: &[RoutedLabel],
+    classes: &[LabelClass],
     size: usize,
     place: usize,
 ) -> Result<(), AllocError>
     requires client { wishes.client < length wishes.list.now.entries }
-    requires stand { RepresentAll wishes.list.now wishes.client wishes.service.now kept.now }
-    requires within { place < length kept.now }
-    requires seen { AreSeen wishes.list.now wishes.client wishes.service.now kept.now size place
+    requires within { place < length classes.now }
+    requires seen { AreSeen wishes.list.now wishes.client wishes.service.now classes.now size place
         trails.old.items }
     ensures { OnOk result (AreSeen wishes.entry.list.now wishes.entry.client
-        wishes.entry.service.now kept.now size (place + 1) trails.new.items) }
+        wishes.entry.service.now classes.now size (place + 1) trails.new.items) }
 {
-    let one = &kept[place];
-    if one.label.as_bytes().len() != size {
+    let label = &classes[place].witness;
+    if label.as_bytes().len() != size {
         return Ok(());
     }
-    keep(alloc, trails, wishes, one)?;
+    keep(alloc, trails, wishes, label)?;
     Ok(())
 }
 
-// Keeps the decision on a label, unless it is kept with a label that is no longer.
+// Keeps the decision on a label, unless one by the same rules is kept with a label that is no longer.
 #[tactic(auto, using(crate::proofs::TrailLemmas::keeps_known, crate::proofs::TrailLemmas::keeps_new))]
 fn keep(
     alloc: Global,
     trails: &mut Vec<RouteDecision>,
     wishes: SessionRequests<'_>,
-    one: &RoutedLabel,
+    label: &ClientLabel,
 ) -> Result<(), AllocError>
     requires client { wishes.client < length wishes.list.now.entries }
-    requires told { IsTold wishes.list.now wishes.client wishes.service.now one.now }
+    requires given { is_given label.now ≡ true }
     requires trails { All (IsDecision wishes.list.now wishes.client wishes.service.now)
         trails.old.items }
     ensures { OnOk result (KeepsDecision wishes.entry.list.now wishes.entry.client
-        wishes.entry.service.now one.now.label trails.old.items trails.new.items) }
+        wishes.entry.service.now label.now trails.old.items trails.new.items) }
 {
-    let rules = rules_for(alloc, wishes, &one.label)?;
-    if is_known(trails, &one.label, rules.as_slice(), one.child) {
+    let rules = rules_for(alloc, wishes, label)?;
+    if is_known(trails, label, rules.as_slice()) {
         return Ok(());
     }
+    let child = child_of(Some(wishes), label);
     trails.push(RouteDecision {
-        label: one.label.copy(),
+        label: label.copy(),
         rules,
-        child: one.child,
+        child,
     })?;
     Ok(())
 }
 
 // Whether a decision by these rules is kept, with a label that is no longer.
-fn is_known(
-    trails: &[RouteDecision],
-    label: &ClientLabel,
-    rules: &[usize],
-    child: Option<usize>,
-) -> bool
-    ensures { result ≡ list_any (is_same label.now rules.now child) trails.now }
+fn is_known(trails: &[RouteDecision], label: &ClientLabel, rules: &[usize]) -> bool
+    ensures { result ≡ list_any (is_same label.now rules.now) trails.now }
 {
-    trails
-        .iter()
-        .any(|trail| is_same(label, rules, child, trail))
+    trails.iter().any(|trail| is_same(label, rules, trail))
 }
 
 // Whether a decision is by these rules, with a label that is no longer.
-fn is_same(
-    label: &ClientLabel,
-    rules: &[usize],
-    child: Option<usize>,
-    trail: &RouteDecision,
-) -> bool
-    ensures { result ≡ is_same label.now rules.now child trail.now }
+fn is_same(label: &ClientLabel, rules: &[usize], trail: &RouteDecision) -> bool
+    ensures { result ≡ is_same label.now rules.now trail.now }
 {
-    trail.rules.as_slice() == rules
-        && same_child(trail.child, child)
-        && trail.label.as_bytes().len() <= label.as_bytes().len()
+    trail.rules.as_slice() == rules && trail.label.as_bytes().len() <= label.as_bytes().len()
 }

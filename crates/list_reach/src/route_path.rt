@@ -1,21 +1,17 @@
 //! The route path of one session request: which rules decide it, list by list outward, and the server to which they route it.
-ghost use Rattle.std.specs.Prelude.{◌≡◌, ◌<◌, ◌≤◌, ◌++◌, length, IfErr, IfOk, IfSome, Some};
-ghost use Rattle.std.specs.Fmt.{WritesOnOk};
-ghost use Rattle.std.specs.Option.{option_copied, option_map};
+ghost use Rattle.std.specs.Prelude.{◌≡◌, ◌<◌, ◌≤◌, length, IfErr, IfOk, IfSome};
 ghost use Rattle.list_labels.specs.RouteSteps.{route_steps_of};
 ghost use Rattle.list_labels.specs.GivenLabels.{leads_to};
-ghost use Rattle.list_parser.specs.View.{model_target};
 ghost use Rattle.list_reach.specs.RouteQuery.{Answers, IsWhy, script_named};
-ghost use Rattle.list_reach.specs.RouteTexts.{end_line, route_text, rule_if, seen_text, step_line, target_at, target_text};
 
 use crate::component_numbers::{ComponentKind, is_sought};
 use crate::texts::{EntryRuleText, PathText};
 use list_labels::{ByteText, RouteStep, route_steps_of};
-use list_parser::{ListEntry, Rule, StartList, Target};
+use list_parser::{Rule, StartList, Target};
 use list_routes::route;
 use session_proto::SessionArgs;
 use std::alloc::{AllocError, Global};
-use std::fmt::{self, Display};
+use std::fmt;
 
 /// The route path of a session request: its steps from the client's own list outward, and the component to which it is routed.
 #[derive(Drop)]
@@ -133,20 +129,22 @@ fn script_named(list: &StartList, path: &[u8]) -> Option<usize>
 
 /// Writes a line for each list, and then the component to which the request is routed, or the rule by which it is denied.
 impl fmt::Display for RoutePath<'_> {
-    ghost output = { λ course. Some (route_text course) };
-
     fn fmt<W: fmt::Write>(&self, f: &mut fmt::Formatter<W>) -> fmt::Result {
         let list = self.list;
-        let hops = self.hops.as_slice();
         let mut asks = list.entries().get(self.client);
         let mut last = None;
-        for place in 0..hops.len() {
+        for hop in self.hops.as_slice() {
             let Some(entry) = asks else {
                 return show_end(f, list, self.child, last);
             };
-            let hop = &hops[place];
-            show_hop(f, list, entry, hop)?;
-            last = Some(EntryRuleText::of(entry, hop.rule()));
+            let rule = EntryRuleText::of(entry, hop.rule());
+            write!(
+                f,
+                "{rule}, where the label is \"{}\"",
+                ByteText::of(hop.seen())
+            )?;
+            show_target(f, list.rules_of(entry), hop.rule())?;
+            last = Some(rule);
             asks = list.init_entry(entry.home());
         }
         show_end(f, list, self.child, last)
@@ -159,9 +157,7 @@ fn show_end<W: fmt::Write>(
     list: &StartList,
     child: Option<usize>,
     last: Option<EntryRuleText<'_>>,
-) -> fmt::Result
-    ensures { WritesOnOk W.write_str_gives f.old result (end_line list.now child (rule_if last.entry)) f.new }
-{
+) -> fmt::Result {
     match (child, last) {
         (Some(child), _) => writeln!(f, "leads to {}", PathText::of(list, child)),
         (None, Some(last)) => writeln!(f, "denied by {last}"),
@@ -169,61 +165,22 @@ fn show_end<W: fmt::Write>(
     }
 }
 
-// What a list decides, by the label as it sees it.
-fn show_hop<W: fmt::Write>(
-    f: &mut fmt::Formatter<W>,
-    list: &StartList,
-    entry: &ListEntry,
-    hop: &RouteStep,
-) -> fmt::Result
-    ensures { WritesOnOk W.write_str_gives f.old result (step_line list.now (entry.now, hop.now)) f.new }
-{
-    EntryRuleText::of(entry, hop.rule()).fmt(f)?;
-    show_decision(f, list.rules_of(entry), hop)
-}
-
-// The label as a list sees it, and the target of the rule that decides.
-fn show_decision<W: fmt::Write>(
+// The target of the rule at a place, if there is one, and the end of the line.
+fn show_target<W: fmt::Write>(
     f: &mut fmt::Formatter<W>,
     rules: &[Rule],
-    hop: &RouteStep,
-) -> fmt::Result
-    ensures { WritesOnOk W.write_str_gives f.old result
-        (seen_text hop.now.seen ++ target_text (target_at rules.now hop.now.rule)) f.new }
-{
-    show_seen(f, hop.seen())?;
-    show_target(f, target_at(rules, hop.rule()))
-}
-
-// The label as a list sees it.
-fn show_seen<W: fmt::Write>(f: &mut fmt::Formatter<W>, seen: &[u8]) -> fmt::Result
-    ensures { WritesOnOk W.write_str_gives f.old result (seen_text seen.now) f.new }
-{
-    write!(f, ", where the label is \"{}\"", ByteText::of(seen))
-}
-
-// The target of the rule at a place, if there is one.
-fn target_at(rules: &[Rule], place: Option<usize>) -> Option<&Target>
-    ensures { option_map model_target (option_copied result) ≡ target_at rules.now place }
-{
-    match place {
-        Some(place) => match rules.get(place) {
-            Some(rule) => Some(rule.target()),
-            None => None,
-        },
+    place: Option<usize>,
+) -> fmt::Result {
+    let rule = match place {
+        Some(place) => rules.get(place),
         None => None,
-    }
-}
-
-// The target of a rule, and the end of the line.
-fn show_target<W: fmt::Write>(f: &mut fmt::Formatter<W>, target: Option<&Target>) -> fmt::Result
-    ensures { WritesOnOk W.write_str_gives f.old result
-        (target_text (option_map model_target (option_copied target.entry))) f.new }
-{
-    match target {
-        Some(Target::Child(name)) => writeln!(f, ": child {}", name.as_str()),
-        Some(Target::AnyChild) => f.write_str(": any-child\n"),
-        Some(Target::Parent) => f.write_str(": parent\n"),
+    };
+    match rule {
+        Some(rule) => match rule.target() {
+            Target::Child(name) => writeln!(f, ": child {}", name.as_str()),
+            Target::AnyChild => f.write_str(": any-child\n"),
+            Target::Parent => f.write_str(": parent\n"),
+        },
         None => f.write_str("\n"),
     }
 }

@@ -1,6 +1,5 @@
 //! Pieces of lines: components by their paths, and rules by their places.
 ghost use Rattle.std.specs.Prelude.{◌≡◌, Some};
-ghost use Rattle.list_reach.specs.Paths.{path_of};
 ghost use Rattle.list_reach.specs.RuleTexts.{entry_rule_text, rule_text};
 
 use list_parser::{ListEntry, StartList};
@@ -15,17 +14,12 @@ pub(crate) struct PathText<'a> {
 
 impl<'a> PathText<'a> {
     /// Returns the text of the path of the component of a number.
-    pub(crate) fn of(list: &'a StartList, number: usize) -> PathText<'a>
-        ensures list { result.list.now ≡ list.now }
-        ensures number { result.number ≡ number }
-    {
+    pub(crate) fn of(list: &'a StartList, number: usize) -> PathText<'a> {
         PathText { list, number }
     }
 }
 
 impl fmt::Display for PathText<'_> {
-    ghost output = { λ text. Some (path_of text.list.now text.number) };
-
     fn fmt<W: fmt::Write>(&self, f: &mut fmt::Formatter<W>) -> fmt::Result {
         match self.list.entries().get(self.number) {
             Some(entry) => f.write_str(entry.to_path().as_str()),
