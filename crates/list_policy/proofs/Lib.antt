@@ -1,3 +1,4 @@
 pub mod BreachLemmas
+pub mod PairLemmas
 pub mod ReadingLemmas
 pub mod VerdictLemmas

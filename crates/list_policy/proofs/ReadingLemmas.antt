@@ -1,5 +1,5 @@
 -- The lines of a policy, text by text, and the components of a line, path by path.
-use Rattle.std.proofs.Common.{Option, Some, None, Result, Ok, Err, ◌≡◌, ℕ, ◌<◌, ◌≤◌, ◌+◌, ◌==◌, suc, Bool, true, false, List, [], ◌∷◌, ◌++◌, length, drop, map, get_or, nat_eq, refl, sym, ap, ◌∙◌, arith}
+use Rattle.std.proofs.Common.{Option, Some, None, Result, Ok, Err, ◌≡◌, ℕ, ◌<◌, ◌≤◌, ◌+◌, ◌==◌, ◌&&◌, suc, Bool, true, false, List, [], ◌∷◌, ◌++◌, length, drop, map, get_or, nat_eq, refl, sym, ap, ◌∙◌, arith}
 use Rattle.std.proofs.lemmas.Bool.{false≢true}
 use Rattle.std.proofs.lemmas.Bool.Decides.{nat_tests}
 use Rattle.std.proofs.lemmas.List.{append-nil, append_assoc, drop_all, drop_more}
@@ -9,12 +9,14 @@ use Rattle.std.specs.Option.{option_map}
 use Rattle.own_model.specs.Listed.{Listed}
 use Rattle.list_reach.specs.Paths.{PathFault, numbers_below}
 use Rattle.list_reach.proofs.NamedLemmas.{numbers_more as below_more}
-use Rattle.list_policy.specs.Components.{FaultAt, fault_at, fault_in, faults_in, flawed, found_in, next_place, numbers_in, read_at}
+use Rattle.list_policy.specs.Components.{FaultAt, fault_at, fault_in, faults_in, flaw_in, flawed, found_in, next_place, numbers_in, read_at}
 use Rattle.list_policy.specs.Cuts.{blanks, text_at}
-use Rattle.list_policy.specs.Reading.{LineSaid, unless_faulty}
-use Rattle.list_policy.specs.Statement.{FlawAt, HasBadPath}
+use Rattle.list_policy.specs.Line.{line_at}
+use Rattle.list_policy.specs.Reading.{LineSaid, unless_faulty, unless_silent}
+use Rattle.list_policy.specs.Statement.{FlawAt, HasBadPath, SaysNothing}
 use Rattle.list_policy.specs.declared.components.NamedKind.{NamedKind}
 use Rattle.list_policy.specs.declared.components.PolicyPlace.{PolicyPlace}
+use Rattle.list_policy.specs.declared.demand.PolicyLine.{PolicyLine}
 use Rattle.list_policy.specs.declared.fault.PolicyFault.{PolicyFault}
 
 -- the flaw of paths that denote nobody
@@ -46,6 +48,29 @@ below_kept passes n found is yes' = rw (below_more passes n) (rw yes' (ap (λ xs
 pub below_left : (passes : ℕ → Bool) (n : ℕ) (found : List ℕ) → found ≡ numbers_below passes n → passes n ≡ false
     → found ≡ numbers_below passes (n + 1)
 below_left passes n found is no' = rw (below_more passes n) (rw no' (is ∙ sym (append-nil (numbers_below passes n))))
+
+-- ---- whether a text has a demand
+
+pub spoken : (lines : List PolicyLine) (faults : List PolicyFault) → (length lines == 0 && length faults == 0) ≡ false
+    → map fault_at faults ≡ unless_silent (map line_at lines) (map fault_at faults)
+spoken [] [] some = absurd (false≢true (sym some))
+spoken [] (fault ∷ faults) some = refl
+spoken (line ∷ lines) faults some = refl
+
+first_true : (a b : Bool) → (a && b) ≡ true → a ≡ true
+first_true true b both = refl
+first_true false b both = both
+
+pub silent : (lines : List PolicyLine) (faults : List PolicyFault) (fault : PolicyFault) → (length lines == 0 && length faults == 0) ≡ true
+    → fault_at fault ≡ flaw_in (record { line = 0; column = 0 }) SaysNothing
+    → map fault_at (faults ++ fault ∷ []) ≡ unless_silent (map line_at lines) (map fault_at faults)
+silent [] [] fault none is = ap (λ (f : FaultAt). f ∷ []) is
+silent [] (other ∷ faults) fault none is =
+    let rest : (length (other ∷ faults) == 0) ≡ true = none in
+    let empty : length (other ∷ faults) ≡ 0 = grind (arith, nat_tests, rest) in absurd (omega (arith, empty))
+silent (line ∷ lines) faults fault none is =
+    let some : (length (line ∷ lines) == 0) ≡ true = first_true (length (line ∷ lines) == 0) (length faults == 0) none in
+    let empty : length (line ∷ lines) ≡ 0 = grind (arith, nat_tests, some) in absurd (omega (arith, empty))
 
 -- ---- the first place of a text
 

@@ -4,6 +4,7 @@ pub mod Statement
 pub mod Components
 pub mod Reading
 pub mod Demand
+pub mod Pairs
 pub mod Status
 pub mod Claims
 pub mod Verdict

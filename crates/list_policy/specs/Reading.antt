@@ -1,12 +1,13 @@
 -- What the text of a policy says, line by line: a line feed is 10, a quote 34, a `#` 35 and a comma 44.
-use Rattle.std.specs.Prelude.{◌≡◌, ℕ, ◌+◌, ◌==◌, ◌&&◌, not, Bool, true, false, List, [], ◌∷◌, ◌++◌, length, map, if◌then◌else◌, Option, Some, None, is_some, Result, Ok, Err}
+use Rattle.std.specs.Prelude.{◌≡◌, ℕ, ◌+◌, ◌==◌, ◌&&◌, not, Bool, true, false, List, [], ◌∷◌, ◌++◌, codes, length, map, if◌then◌else◌, Option, Some, None, is_some, Result, Ok, Err}
+use Rattle.std.specs.Option.{unwrap_or}
 use Rattle.own_model.specs.Listed.{Listed}
 use Rattle.list_reach.specs.Paths.{pieces, trimmed}
 use Rattle.list_policy.specs.Components.{FaultAt, fault_at, faults_in, flaw_in, found_in}
-use Rattle.list_policy.specs.Cuts.{blanks, front, plus, rest}
+use Rattle.list_policy.specs.Cuts.{blanks, front, plus, rest, text_at}
 use Rattle.list_policy.specs.Demand.{are_separate}
 use Rattle.list_policy.specs.Line.{LineAt, line_at}
-use Rattle.list_policy.specs.Statement.{FlawAt, IsNotApart, PathAt, StatementAt, statement_of}
+use Rattle.list_policy.specs.Statement.{FlawAt, HasBadLabel, IsNotApart, PathAt, SaysNothing, StatementAt, statement_of}
 use Rattle.list_policy.specs.declared.components.NamedKind.{NamedKind}
 use Rattle.list_policy.specs.declared.components.NamedKind.TheVariants.{Scripts, Servers, Any}
 use Rattle.list_policy.specs.declared.components.PolicyPlace.{PolicyPlace}
@@ -85,13 +86,23 @@ line_of list place statement =
       to = targets_in list statement.to;
     }))
 
-abbrev pub line_by : Listed → PolicyPlace → Result StatementAt FlawAt → LineSaid
-line_by list place (Ok statement) = line_of list place statement
-line_by list place (Err flaw) = one_flaw place flaw
+-- a label that is none has a place of its own
+abbrev pub line_by : Listed → PolicyPlace → PolicyPlace → Result StatementAt FlawAt → LineSaid
+line_by list place label (Ok statement) = line_of list place statement
+line_by list place label (Err HasBadLabel) = one_flaw label HasBadLabel
+line_by list place label (Err flaw) = one_flaw place flaw
 
 -- the line of a head and of the text after its quote
-abbrev pub line_from : Listed → PolicyPlace → List ℕ → Option (List ℕ) → LineSaid
-line_from list place head quoted = line_by list place (statement_of head quoted)
+abbrev pub line_from : Listed → PolicyPlace → PolicyPlace → List ℕ → Option (List ℕ) → LineSaid
+line_from list place label head quoted = line_by list place label (statement_of head quoted)
+
+-- the bytes before a label: before its quote, or else before the word `with`
+abbrev pub before_label : List ℕ → Option (List ℕ) → ℕ
+before_label line (Some quoted) = length (front 34 line)
+before_label line None = plus (unwrap_or (text_at (codes " with ") line) 0) 1
+
+abbrev pub place_of_label : ℕ → List ℕ → Option (List ℕ) → PolicyPlace
+place_of_label number line quoted = record { line = number; column = plus (before_label line quoted) 1 }
 
 -- where a line begins
 abbrev pub start_of : ℕ → List ℕ → PolicyPlace
@@ -101,7 +112,7 @@ start_of number line = record { line = number; column = plus (blanks line) 1 }
 abbrev pub said : Listed → ℕ → List ℕ → Option LineSaid
 said list number line =
     if length (head_of line) == 0 && not (is_some (quoted_of line)) then None
-    else Some (line_from list (start_of number line) (head_of line) (quoted_of line))
+    else Some (line_from list (start_of number line) (place_of_label number line (quoted_of line)) (head_of line) (quoted_of line))
 
 abbrev pub lines_in_line : Option LineSaid → List LineAt
 lines_in_line None = []
@@ -123,7 +134,23 @@ abbrev pub faults_from : Listed → ℕ → List (List ℕ) → List FaultAt
 faults_from list number [] = []
 faults_from list number (text ∷ texts) = faults_in_line (said list number text) ++ faults_from list (number + 1) texts
 
--- a policy has the lines of a text and the faults of all its other lines, in order
+-- ---- a whole text
+
+-- the lines of a text
+abbrev pub lines_of : Listed → List ℕ → List LineAt
+lines_of list text = lines_from list 1 (pieces 10 text)
+
+-- faults of lines; if there is neither a line nor a fault, the text has one itself
+abbrev pub unless_silent : List LineAt → List FaultAt → List FaultAt
+unless_silent [] [] = flaw_in (record { line = 0; column = 0 }) SaysNothing ∷ []
+unless_silent [] (fault ∷ faults) = fault ∷ faults
+unless_silent (line ∷ lines) faults = faults
+
+-- the faults of a text: those of its lines, or that it has no demand
+abbrev pub faults_of : Listed → List ℕ → List FaultAt
+faults_of list text = unless_silent (lines_of list text) (faults_from list 1 (pieces 10 text))
+
+-- a policy has the lines of a text and its faults, in order
 pub record Reads (list : Listed) (text : List ℕ) (policy : Policy) : Type 0 where
-  pub lines : map line_at policy.lines.items ≡ lines_from list 1 (pieces 10 text)
-  pub faults : map fault_at policy.faults.items ≡ faults_from list 1 (pieces 10 text)
+  pub lines : map line_at policy.lines.items ≡ lines_of list text
+  pub faults : map fault_at policy.faults.items ≡ faults_of list text

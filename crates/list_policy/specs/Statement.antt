@@ -1,5 +1,5 @@
 -- What a line of a policy states: a space is 32, a quote 34, a `#` 35, a comma 44 and a `>` 62.
-use Rattle.std.specs.Prelude.{ℕ, ◌-◌, ◌==◌, ◌&&◌, List, length, take, drop, codes, if◌then◌else◌, Option, Some, None, Result, Ok, Err}
+use Rattle.std.specs.Prelude.{ℕ, ◌-◌, ◌==◌, ◌&&◌, List, length, take, drop, codes, if◌then◌else◌, is_some, Option, Some, None, Result, Ok, Err}
 use Rattle.std.specs.Option.{option_and_then, option_map}
 use Rattle.std.specs.Str.{bytes_eq}
 use Rattle.trade_base.specs.Amount.{amount_of, number_of}
@@ -31,6 +31,7 @@ pub data FlawAt : Type 0 where
   HasBadBudget : FlawAt
   IsNotApart : FlawAt
   HasBadPath : Option PathFault → FlawAt
+  SaysNothing : FlawAt
 
 abbrev pub flaw_at : PolicyFlaw → FlawAt
 flaw_at flaw.NoDemand = LacksDemand
@@ -39,7 +40,8 @@ flaw_at flaw.TooMuch = SaysTooMuch
 flaw_at flaw.BadLabel = HasBadLabel
 flaw_at flaw.BadBudget = HasBadBudget
 flaw_at flaw.NotApart = IsNotApart
-flaw_at (flaw.Unnamed fault) = HasBadPath (fault_of fault)
+flaw_at (flaw.Unnamed kind fault) = HasBadPath (fault_of fault)
+flaw_at flaw.NoDemands = SaysNothing
 
 -- the value, or else a flaw
 abbrev pub value_or : {A : Type 0} → FlawAt → Option A → Result A FlawAt
@@ -115,7 +117,7 @@ range_of word.Suffix label = Suffix label
 
 -- `TO`, `TO with label "LABEL"`, `TO with prefix "LABEL"` or `TO with suffix "LABEL"`
 abbrev pub target_of : List ℕ → Option (List ℕ) → Result TargetAt FlawAt
-target_of to None = Ok (record { paths = to; range = AllLabels })
+target_of to None = if is_some (text_at (codes " with ") to) then Err HasBadLabel else Ok (record { paths = to; range = AllLabels })
 target_of to (Some quoted) = do
   words ← value_or SaysTooMuch (range_words to)
   label ← label_of quoted

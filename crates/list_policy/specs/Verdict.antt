@@ -1,11 +1,11 @@
 -- What a check of a start list against the text of a policy reports: breaches or faults, at their places in the text.
-use Rattle.std.specs.Prelude.{◌≡◌, ◌≢◌, ℕ, List, [], ◌∷◌, ◌++◌, map, Result, Ok, Err}
+use Rattle.std.specs.Prelude.{◌≡◌, ◌≢◌, ℕ, List, [], ◌∷◌, ◌++◌, filter, length, map, Result, Ok, Err}
 use Rattle.own_model.specs.Listed.{Listed}
-use Rattle.list_reach.specs.Paths.{pieces}
 use Rattle.list_policy.specs.Components.{FaultAt}
 use Rattle.list_policy.specs.Demand.{AreBreaches}
 use Rattle.list_policy.specs.Line.{LineAt}
-use Rattle.list_policy.specs.Reading.{faults_from, lines_from}
+use Rattle.list_policy.specs.Pairs.{says_nothing}
+use Rattle.list_policy.specs.Reading.{faults_of, lines_of}
 use Rattle.list_policy.specs.declared.breach.Breach.{Breach}
 
 -- a line and a column of a text
@@ -27,7 +27,14 @@ AreBrokenAt list (line ∷ lines) places =
     (found : List Breach) × (others : List PlaceAt) × (places ≡ map (breach_place line) found ++ others) × AreBreaches list line found
     × AreBrokenAt list lines others
 
--- the places of all breaches of the lines of a text without faults, or those of the text's faults
-abbrev pub IsVerdict : Listed → List ℕ → Result (List PlaceAt) (List PlaceAt) → Type 0
-IsVerdict list text (Ok broken) = (faults_from list 1 (pieces 10 text) ≡ []) × AreBrokenAt list (lines_from list 1 (pieces 10 text)) broken
-IsVerdict list text (Err faults) = (faults ≢ []) × (faults ≡ map flaw_place (faults_from list 1 (pieces 10 text)))
+-- what is found of lines: the places of breaches, and how many lines speak of nothing
+pub record FoundAt : Type 0 where
+  pub broken : List PlaceAt
+  pub void : ℕ
+
+-- what is found of the lines of a text without faults, or the places of the text's faults
+abbrev pub IsVerdict : Listed → List ℕ → Result FoundAt (List PlaceAt) → Type 0
+IsVerdict list text (Ok found) =
+    (faults_of list text ≡ []) × AreBrokenAt list (lines_of list text) found.broken
+    × (found.void ≡ length (filter (says_nothing list) (lines_of list text)))
+IsVerdict list text (Err faults) = (faults ≢ []) × (faults ≡ map flaw_place (faults_of list text))

@@ -13,7 +13,7 @@ use std::alloc::{AllocError, Global};
 
 /// The kind of components that a path of a line is to denote.
 #[derive(Clone, Copy)]
-pub(crate) enum NamedKind {
+pub enum NamedKind {
     /// Scripts.
     Scripts,
     /// Servers that provide their service.
@@ -111,15 +111,16 @@ fn named_at<'a>(
         ≡ read_at list.now kind path.now) }
 {
     match kind {
-        NamedKind::Scripts => flawed(numbers(alloc, list, path, ComponentKind::Script)),
-        NamedKind::Servers => flawed(numbers(alloc, list, path, ComponentKind::Server)),
-        NamedKind::Any => flawed(any_of(alloc, list, trimmed(path))),
+        NamedKind::Scripts => flawed(kind, numbers(alloc, list, path, ComponentKind::Script)),
+        NamedKind::Servers => flawed(kind, numbers(alloc, list, path, ComponentKind::Server)),
+        NamedKind::Any => flawed(kind, any_of(alloc, list, trimmed(path))),
     }
 }
 
 // The numbers of a path, or its flaw, unless the host is out of memory.
 #[tactic(auto, using(crate::proofs::ReadingLemmas::path_flaw, crate::proofs::ReadingLemmas::path_found))]
 fn flawed<'a>(
+    kind: NamedKind,
     read: Result<Vec<usize>, Unnamed<'a>>,
 ) -> Result<Result<Vec<usize>, PolicyFlaw<'a>>, AllocError>
     ensures { (named : Result (List ℕ) PathFault) → IfOk read.entry (λ found. named ≡ Ok found.items)
@@ -130,10 +131,10 @@ fn flawed<'a>(
         Ok(found) => Ok(Ok(found)),
         Err(Unnamed::NoMemory) => Err(AllocError),
         Err(Unnamed::Nobody(path, near)) => {
-            Ok(Err(PolicyFlaw::Unnamed(Unnamed::Nobody(path, near))))
+            Ok(Err(PolicyFlaw::Unnamed(kind, Unnamed::Nobody(path, near))))
         }
-        Err(Unnamed::NoScript(path)) => Ok(Err(PolicyFlaw::Unnamed(Unnamed::NoScript(path)))),
-        Err(Unnamed::NoServer(path)) => Ok(Err(PolicyFlaw::Unnamed(Unnamed::NoServer(path)))),
+        Err(Unnamed::NoScript(path)) => Ok(Err(PolicyFlaw::Unnamed(kind, Unnamed::NoScript(path)))),
+        Err(Unnamed::NoServer(path)) => Ok(Err(PolicyFlaw::Unnamed(kind, Unnamed::NoServer(path)))),
     }
 }
 

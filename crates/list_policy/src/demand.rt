@@ -129,8 +129,8 @@ fn are_apart(one: Option<usize>, other: Option<usize>) -> bool
     }
 }
 
-// Whether the component of a number is that of another number, or is within it.
-fn belongs(list: &StartList, number: usize, party: usize) -> bool
+/// Returns whether the component of a number is that of another number, or is within it.
+pub(crate) fn belongs(list: &StartList, number: usize, party: usize) -> bool
     ensures { result ≡ belongs list.now number party }
 {
     match (list.entries().get(party), list.entries().get(number)) {

@@ -1,7 +1,8 @@
 //! Why a text is no policy for a start list.
 
+use crate::components::NamedKind;
 use list_reach::Unnamed;
-use std::fmt;
+use std::{fmt, str};
 
 /// A flaw of a line: why the line is no demand.
 #[derive(Drop)]
@@ -19,7 +20,9 @@ pub enum PolicyFlaw<'a> {
     /// Fewer than two components are to be isolated, or one of them is within another.
     NotApart,
     /// A path denotes no component of the kind.
-    Unnamed(Unnamed<'a>),
+    Unnamed(NamedKind, Unnamed<'a>),
+    /// No line of the policy is a demand.
+    NoDemands,
 }
 
 impl fmt::Display for PolicyFlaw<'_> {
@@ -41,17 +44,40 @@ impl fmt::Display for PolicyFlaw<'_> {
             PolicyFlaw::NotApart => f.write_str(
                 "expected two or more components, none of them within another",
             ),
-            PolicyFlaw::Unnamed(fault) => write!(f, "{fault}"),
+            PolicyFlaw::Unnamed(kind, Unnamed::Nobody(path, _)) if path.is_empty() => {
+                write!(f, "expected the path of {}, found nothing", words_of(*kind))
+            }
+            PolicyFlaw::Unnamed(kind, Unnamed::Nobody(path, _)) if is_pattern(path) => {
+                let path = str::from_utf8(path).unwrap_or("");
+                write!(f, "expected {} in `{path}`, found none", words_of(*kind))
+            }
+            PolicyFlaw::Unnamed(_, fault) => write!(f, "{fault}"),
+            PolicyFlaw::NoDemands => f.write_str("expected at least one demand, found none"),
         }
     }
+}
+
+// Returns the words for a component of a kind.
+fn words_of(kind: NamedKind) -> &'static str {
+    match kind {
+        NamedKind::Scripts => "a script",
+        NamedKind::Servers => "a server that provides its service",
+        NamedKind::Any => "a component",
+    }
+}
+
+// Returns whether the last name of a path is `*` or `**`.
+fn is_pattern(path: &[u8]) -> bool {
+    let name = path.rsplit(|byte| *byte == b'/').next();
+    name == Some(b"*".as_slice()) || name == Some(b"**".as_slice())
 }
 
 /// A fault of a policy: its place, and what is wrong there.
 #[derive(Drop)]
 pub struct PolicyFault<'a> {
-    /// The number of the line, from 1 on.
+    /// The number of the line, from 1 on, or 0 if no line is a demand.
     pub line: usize,
-    /// The column in bytes, from 1 on: of a path that denotes no component, else of the line's first token.
+    /// The column in bytes, from 1 on: of a path that denotes no component, of a label, else of the line's first token.
     pub column: usize,
     /// What is wrong.
     pub flaw: PolicyFlaw<'a>,

@@ -10,13 +10,16 @@ mod components;
 mod cuts;
 mod demand;
 mod fault;
+mod pairs;
 mod policy_text;
 mod statement;
 mod status;
 
 pub use breach::{Breach, ReachBreach};
 pub use breach_text::BreachText;
+pub use components::NamedKind;
 pub use demand::{BudgetLimit, Demand, LabelRange, PolicyLine};
 pub use fault::{PolicyFault, PolicyFlaw};
+pub use pairs::PairCount;
 pub use policy_text::Policy;
 pub use status::exit_status;

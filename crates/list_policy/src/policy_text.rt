@@ -2,16 +2,17 @@
 ghost use Rattle.std.specs.Prelude.{◌≡◌, ◌++◌, map, IfOk, OnOk};
 ghost use Rattle.std.specs.Option.{option_copied, option_map};
 ghost use Rattle.std.specs.Result.{result_map_both};
+ghost use Rattle.list_reach.specs.Paths.{pieces};
 ghost use Rattle.list_policy.specs.Components.{fault_at};
 ghost use Rattle.list_policy.specs.Line.{line_at};
-ghost use Rattle.list_policy.specs.Reading.{Reads, apart_or, faults_in_line, from_kind, head_of, isolates, line_from, line_of, lines_in_line, one_flaw, path_place, quoted_of, said, target_faults, targets_in};
+ghost use Rattle.list_policy.specs.Reading.{Reads, apart_or, faults_from, faults_in_line, from_kind, head_of, isolates, place_of_label, line_from, line_of, lines_in_line, lines_of, one_flaw, path_place, quoted_of, said, target_faults, targets_in, unless_silent};
 ghost use Rattle.list_policy.specs.Statement.{flaw_at, path_at, statement_at};
 
 use crate::components::{NamedKind, PolicyPlace, components};
-use crate::cuts::{blanks, cut, plus};
+use crate::cuts::{blanks, cut, plus, text_at};
 use crate::demand::{Demand, PolicyLine, are_separate};
 use crate::fault::{PolicyFault, PolicyFlaw};
-use crate::statement::{PolicyPath, Statement, statement_of};
+use crate::statement::{PolicyPath, Statement, WITH, statement_of};
 use list_parser::StartList;
 use list_reach::{pieces, trimmed};
 use std::alloc::{AllocError, Global};
@@ -24,9 +25,21 @@ pub struct Policy<'a> {
 }
 
 impl<'a> Policy<'a> {
-    /// Reads the policy that a text is for a start list. Fails if the host is out of memory.
+    /// Reads the policy that a text is for a start list. It has a fault if no line is a demand. Fails if the host is out of memory.
     pub fn read(alloc: Global, list: &StartList, text: &'a [u8]) -> Result<Policy<'a>, AllocError>
         ensures { IfOk result (Reads list.now text.now) }
+    {
+        let mut policy = Policy::of_lines(alloc, list, text)?;
+        policy.refuse_silence()?;
+        Ok(policy)
+    }
+
+    // Reads the lines of a text.
+    fn of_lines(alloc: Global, list: &StartList, text: &'a [u8]) -> Result<Policy<'a>, AllocError>
+        ensures lines { IfOk result (λ policy. map line_at policy.lines.items
+            ≡ lines_of list.now text.now) }
+        ensures faults { IfOk result (λ policy. map fault_at policy.faults.items
+            ≡ faults_from list.now 1 (pieces 10 text.now)) }
     {
         let texts = pieces(alloc, text, b'\n')?;
         let mut policy = Policy {
@@ -37,6 +50,20 @@ impl<'a> Policy<'a> {
             policy.add(alloc, list, place + 1, texts[place])?;
         }
         Ok(policy)
+    }
+
+    // Adds a fault if no line is a demand or has a fault.
+    #[tactic(auto, using(crate::proofs::ReadingLemmas::spoken, crate::proofs::ReadingLemmas::silent))]
+    fn refuse_silence(&mut self) -> Result<(), AllocError>
+        ensures lines { OnOk result (self.new.lines.items ≡ self.old.lines.items) }
+        ensures faults { OnOk result (map fault_at self.new.faults.items
+            ≡ unless_silent (map line_at self.old.lines.items) (map fault_at self.old.faults.items)) }
+    {
+        if self.lines.is_empty() && self.faults.is_empty() {
+            let whole = PolicyPlace { line: 0, column: 0 };
+            self.faults.push(whole.fault(PolicyFlaw::NoDemands))?;
+        }
+        Ok(())
     }
 
     /// Returns the lines that are demands, in the order of the text.
@@ -74,7 +101,14 @@ impl<'a> Policy<'a> {
             line: number,
             column: plus(blanks(text), 1),
         };
-        match read_line(alloc, list, place, head, quoted)? {
+        match read_line(
+            alloc,
+            list,
+            place,
+            label_place(number, text, quoted),
+            head,
+            quoted,
+        )? {
             Ok(line) => self.lines.push(line)?,
             Err(mut faults) => self.faults.append(&mut faults)?,
         }
@@ -85,20 +119,36 @@ impl<'a> Policy<'a> {
 // A line, or what is wrong with it.
 type LineRead<'a> = Result<PolicyLine, Vec<PolicyFault<'a>>>;
 
-// The line at a place, of a head and the text after its quote.
+// The place of the label of a line, or of the text in its place.
+fn label_place(number: usize, line: &[u8], quoted: Option<&[u8]>) -> PolicyPlace
+    ensures { result ≡ place_of_label number line.now (option_copied quoted.entry) }
+{
+    let before = match quoted {
+        Some(_) => cut(b'"', line).0.len(),
+        None => plus(text_at(WITH, line).unwrap_or(0), 1),
+    };
+    PolicyPlace {
+        line: number,
+        column: plus(before, 1),
+    }
+}
+
+// The line at a place, of a head and the text after its quote. Its label has a place of its own.
 fn read_line<'a>(
     alloc: Global,
     list: &StartList,
     place: PolicyPlace,
+    label: PolicyPlace,
     head: &'a [u8],
     quoted: Option<&'a [u8]>,
 ) -> Result<LineRead<'a>, AllocError>
     ensures { IfOk result (λ read.
         result_map_both line_at (λ faults. map fault_at faults.items) read
-        ≡ line_from list.now place head.now (option_copied quoted.entry)) }
+        ≡ line_from list.now place label head.now (option_copied quoted.entry)) }
 {
     match statement_of(head, quoted) {
         Ok(statement) => line_of(alloc, list, place, statement),
+        Err(PolicyFlaw::BadLabel) => faulty(alloc, label, PolicyFlaw::BadLabel),
         Err(flaw) => faulty(alloc, place, flaw),
     }
 }

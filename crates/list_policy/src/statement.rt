@@ -15,6 +15,9 @@ use trade_base::{read_amount, read_number};
 // The text between components and their budget.
 const AT_MOST: &[u8] = b" at most ";
 
+// The text between components and the word for a label.
+pub(crate) const WITH: &[u8] = b" with ";
+
 /// Paths of components, with the number of bytes before them in a line.
 #[derive(Clone, Copy)]
 pub(crate) struct PolicyPath<'a> {
@@ -173,7 +176,7 @@ struct StatementTarget<'a> {
     range: LabelRange,
 }
 
-// The text after an arrow: paths, and then, if there is a quote, the labels that the line is about.
+// The text after an arrow: paths, and then, if there is a quote, the labels that the line is about. A label without quotes is none.
 fn target_of<'a>(
     to: &'a [u8],
     quoted: Option<&'a [u8]>,
@@ -181,6 +184,9 @@ fn target_of<'a>(
     ensures { result_map_both target_at flaw_at result ≡ target_of to.now (option_copied quoted.entry) }
 {
     let Some(quoted) = quoted else {
+        if text_at(WITH, to).is_some() {
+            return Err(PolicyFlaw::BadLabel);
+        }
         return Ok(StatementTarget {
             paths: to,
             range: LabelRange::All,

@@ -2,7 +2,7 @@ use Rattle.std.proofs.Common.{◌≡◌, ◌+◌, ◌++◌, drop, map}
 use Rattle.list_policy.specs.Components.{fault_at}
 use Rattle.list_policy.specs.Line.{line_at}
 use Rattle.list_policy.specs.Reading.{faults_from, lines_from}
-use Rattle.list_policy.proofs.policy_text.Policy.read.Given as goal
+use Rattle.list_policy.proofs.policy_text.Policy.of_lines.Given as goal
 
 -- what was read so far and what the texts that are left say
 abbrev pub invariant-loop-place : goal.invariant-loop-place
