@@ -3,4 +3,4 @@ mod MarkLemmas
 mod RecordedLemmas
 mod BareLemmas
 mod BareCallLemmas
-mod UnreadLemmas
+mod ErrorLemmas

@@ -29,6 +29,7 @@ heard_once line h =
     rw (
       or-false h.expects,
       or-false h.binds,
+      or-false h.lost,
       and-true (holds h.lines line h),
       and-true (holds h.lines (expecting line h.reply) h),
       and-true (holds h.lines (expecting line (verdict h.reply)) h),
@@ -41,6 +42,7 @@ heard_again line first hs h =
     rw (
       any_more (λ (g : RecordedCall). g.expects) hs h,
       any_more (λ (g : RecordedCall). g.binds) hs h,
+      any_more (λ (g : RecordedCall). g.lost) hs h,
       all_more (holds first.lines line) hs h,
       all_more (holds first.lines (expecting line first.reply)) hs h,
       all_more (holds first.lines (expecting line (verdict first.reply))) hs h,

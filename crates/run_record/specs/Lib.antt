@@ -1,7 +1,7 @@
 pub mod RecordedCalls
 pub mod Recorded
 pub mod Bare
-pub mod Unread
+pub mod LineErrors
 pub mod LineRecords
 pub mod Marked
 pub mod Views

@@ -1,11 +1,12 @@
 -- A scenario with the replies of its calls after them, line by line.
-use Rattle.std.specs.Prelude.{ℕ, ◌+◌, ◌-◌, ◌==◌, ◌&&◌, not, Bool, true, false, List, [], ◌∷◌, ◌++◌, length, take, drop, codes, nat_eq, slice_index, is_none, if◌then◌else◌, Option, Some, None}
+use Rattle.std.specs.Prelude.{ℕ, ◌+◌, ◌-◌, ◌==◌, ◌&&◌, ◌||◌, not, Bool, true, false, List, [], ◌∷◌, ◌++◌, length, take, drop, codes, nat_eq, slice_index, is_none, if◌then◌else◌, Option, Some, None}
 use Rattle.std.specs.List.{flat_map, list_all, list_any, slice_split}
 use Rattle.std.specs.Option.{unwrap_or}
 use Rattle.std.specs.Str.{bytes_eq}
 use Rattle.line_steps.specs.ResolvedLines.{ResolvedLine, resolved_line}
 use Rattle.line_steps.specs.ResolvedLines.ResolvedLine.{Call}
 use Rattle.line_steps.specs.RunPosition.{RunPosition}
+use Rattle.own_model.specs.Listed.{Listed}
 use Rattle.own_model.specs.World.{World}
 use Rattle.line_friendly.specs.Expected.{meets}
 use Rattle.line_friendly.specs.Friendly.{arrow_of, end_of}
@@ -65,13 +66,14 @@ holds lines line hearing = bytes_eq hearing.lines lines && is_met hearing line
 
 -- ---- the record of all steps of one line
 
--- the first reply and its log lines; whether a reply is expected, and binds a name, in any of them; and whether the line
--- unchanged, with that reply, or with `granted` or `refused`, holds in all of them
+-- the first reply and its log lines; whether a reply is expected, binds a name, and isn't understood, in any of them; and whether the
+-- line unchanged, with that reply, or with `granted` or `refused`, holds in all of them
 pub record LineRecord : Type 0 where
   pub reply : List ℕ
   pub lines : List ℕ
   pub expects : Bool
   pub binds : Bool
+  pub lost : Bool
   pub own : Bool
   pub exact : Bool
   pub told : Bool
@@ -82,13 +84,14 @@ note_of line first hearings = record {
   lines = first.lines;
   expects = list_any (λ (h : RecordedCall). h.expects) hearings;
   binds = list_any (λ (h : RecordedCall). h.binds) hearings;
+  lost = list_any (λ (h : RecordedCall). h.lost) hearings;
   own = list_all (holds first.lines line) hearings;
   exact = list_all (holds first.lines (expecting line first.reply)) hearings;
   told = list_all (holds first.lines (expecting line (verdict first.reply))) hearings;
 }
 
--- the line that is written in place of this one, if there is one: none if a reply is expected already, unless `all`; if a reply
--- binds a name the line unchanged; else with its reply, or with `granted` or `refused`
+-- the line that is written in place of this one, if there is one: none if a reply is expected already, unless `all`, or if a call isn't
+-- understood; if a reply binds a name the line unchanged; else with its reply, or with `granted` or `refused`
 abbrev pub anew_unbound : List ℕ → LineRecord → Option (List ℕ)
 anew_unbound line note =
     if note.exact then Some (expecting line note.reply)
@@ -96,7 +99,7 @@ anew_unbound line note =
 
 unfoldable pub anew : Bool → List ℕ → LineRecord → Option (List ℕ)
 anew all line note =
-    if note.expects && not all then None
+    if (note.expects && not all) || note.lost then None
     else (if note.binds then (if note.own then Some line else None) else anew_unbound line note)
 
 -- after its log lines; or it is unchanged
@@ -177,10 +180,10 @@ abbrev pub without_last : List ℕ → List ℕ
 without_last text = take (length text - 1) text
 
 -- all results of a text that is run from a position on
-abbrev pub met : Bool → World → RunPosition → List ℕ → List Event
-met all world start played = events all (first_recording world start) (pieces_of played)
+abbrev pub met : Bool → Listed → World → RunPosition → List ℕ → List Event
+met all list world start played = events all (first_recording list world start) (pieces_of played)
 
--- a scenario as it is recorded, run from a world on; its last line has a newline only if it had one
-abbrev pub recorded : Bool → World → RunPosition → List ℕ → List ℕ → List ℕ
-recorded all world start played text =
-    without_last (written_lines all (marks_of 1 (met all world start played) (pieces_of text)))
+-- a scenario as it is recorded, run on the machine of a list from a world on; its last line has a newline only if it had one
+abbrev pub recorded : Bool → Listed → World → RunPosition → List ℕ → List ℕ → List ℕ
+recorded all list world start played text =
+    without_last (written_lines all (marks_of 1 (met all list world start played) (pieces_of text)))

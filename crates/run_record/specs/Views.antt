@@ -5,6 +5,7 @@ use Rattle.line_names.specs.Filling.{FilledLine}
 use Rattle.line_steps.specs.ResolvedLines.{resolved_line}
 use Rattle.line_steps.specs.ResolvedLines.ResolvedLine.{Call}
 use Rattle.line_steps.specs.RunPosition.{RunPosition}
+use Rattle.own_model.specs.Listed.{Listed}
 use Rattle.own_model.specs.World.{World}
 use Rattle.run_record.specs.RecordedCalls.{RecordedCall, RecordingState}
 use Rattle.run_record.specs.Recorded.{LineMark, LineRecord, expecting, verdict}
@@ -20,6 +21,7 @@ recorded_call_view heard = record {
   known = heard.known.now;
   binds = heard.binds;
   expects = is_some (option_copied heard.expected);
+  lost = heard.lost;
   call = heard.call.now;
   reply = heard.reply.now;
   lines = heard.lines.now;
@@ -37,6 +39,7 @@ note_view note = record {
   lines = note.lines.items;
   expects = note.expects;
   binds = note.binds;
+  lost = note.lost;
   own = note.own;
   exact = note.exact;
   told = note.told;
@@ -52,9 +55,9 @@ mark_view mark = record {
 abbrev pub marks_view : List Marked → List LineMark
 marks_view marks = map mark_view marks
 
--- the position of a run, in a world
-abbrev pub recording_in : RunPosition → Bool → World → RecordingState
-recording_in position awaits world = record { position = position; world = world; awaits = awaits }
+-- the position of a run, on the machine of a list in a world
+abbrev pub recording_in : Listed → RunPosition → Bool → World → RecordingState
+recording_in list position awaits world = record { list = list; position = position; world = world; awaits = awaits }
 
 -- the line that is written by a form, if it isn't the one that it was
 abbrev pub line_by : List ℕ → LineRecord → RecordedForm → Option (List ℕ)

@@ -11,8 +11,10 @@ mod pieces;
 mod recorded_call;
 mod recorded_text;
 mod recording;
+mod recording_error;
 mod recording_run;
 mod writing;
 
 pub use pieces::first_piece;
 pub use recording::{Recording, Scenario, record};
+pub use recording_error::RecordingError;

@@ -20,6 +20,8 @@ pub(crate) struct LineRecord {
     expects: bool,
     /// Whether a reply binds a name in any of them.
     binds: bool,
+    /// Whether a call isn't understood in any of them.
+    lost: bool,
     /// Whether the line holds in all steps unchanged; with the reply; and with `granted` or `refused`.
     own: bool,
     exact: bool,
@@ -52,6 +54,7 @@ impl LineRecord {
             lines: Vec::from_slice(alloc, hearing.lines)?,
             expects: false,
             binds: false,
+            lost: false,
             own: true,
             exact: true,
             told: true,
@@ -77,6 +80,7 @@ impl LineRecord {
             && hearing.holds_with(alloc, lines, line, verdict(reply), buffers)?;
         self.expects = self.expects || hearing.expected.is_some();
         self.binds = self.binds || hearing.binds;
+        self.lost = self.lost || hearing.lost;
         self.own = own_holds;
         self.exact = exact_holds;
         self.told = told_holds;
@@ -124,7 +128,7 @@ impl LineRecord {
         ensures { (line : List ℕ) →
             line_by line (note_view self.now) result ≡ anew all line (note_view self.now) }
     {
-        if self.expects && !all {
+        if (self.expects && !all) || self.lost {
             return RecordedForm::Stays;
         }
         if self.binds {

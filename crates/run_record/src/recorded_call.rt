@@ -23,6 +23,8 @@ pub(crate) struct RecordedCall<'k, 'a> {
     pub line: &'a [u8],
     /// The reply that the line expects.
     pub expected: Option<&'a [u8]>,
+    /// Whether the call isn't understood, and the line isn't meant.
+    pub lost: bool,
     /// The engine's line.
     pub call: &'a [u8],
     pub reply: &'a [u8],

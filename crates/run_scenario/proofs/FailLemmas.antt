@@ -1,5 +1,5 @@
 -- Which faults come, and whether a write has failed then.
-use Rattle.std.proofs.Common.{◌≡◌, Bool, true, false, ◌||◌, List, ℕ, Some, None, Result, Ok, Err, IfErr, IsErrAnd, OnErr, refl, sym, ◌∙◌, ap}
+use Rattle.std.proofs.Common.{◌≡◌, Bool, true, false, ◌||◌, Some, None, Result, Ok, Err, IfErr, IsErrAnd, OnErr, refl, sym, ◌∙◌, ap}
 use Rattle.std.proofs.Math.Bool.{or-true}
 use Rattle.run_lines.specs.Next.{AllWork}
 use Rattle.run_scenario.specs.Faults.{fault_before}

@@ -1,8 +1,8 @@
 -- A line that is played: what it says is answered and told, or nothing changes, and then it is judged.
 use Rattle.std.proofs.Common.{◌≡◌, ℕ, ◌&&◌, ◌||◌, Bool, true, false, List, [], ◌∷◌, ◌++◌, append-nil, is_some, Option, Some, None, Result, Ok, Err, IfOk, OnOk, refl, sym, ◌∙◌, ap, subst}
 use Rattle.std.proofs.lemmas.Bool.{or_left}
-use Rattle.std.specs.Io.KnownBytes.{Appends}
 use Rattle.own_model.specs.LinesOfName.{said_by}
+use Rattle.own_model.specs.Listed.{Listed}
 use Rattle.own_model.specs.Transcript.{heard}
 use Rattle.own_model.specs.World.{World, world_running}
 use Rattle.run_lines.specs.Answer.{IsAnswer}
@@ -137,13 +137,13 @@ or_wider true b c wider takes = ap (λ x. x || c) (wider refl)
 or_wider false true c wider takes = refl
 or_wider false false c wider takes = takes
 
-module _ {only : Option (List ℕ)} {tells : World → List (List ℕ) → ℕ → List ℕ → List ℕ} {calls : Bool} {seen now_seen : World → List (List ℕ) → Type 0} {old new : World} {position next : RunPosition} {awaited now_awaited : Awaited}
+module _ {only : Option (List ℕ)} {tells : World → List (List ℕ) → ℕ → List ℕ → List ℕ} {calls : Bool} {seen now_seen : World → List (List ℕ) → Type 0} {old new : World} {position next : RunPosition} {awaited now_awaited : Awaited} {list : Listed}
     {w w' : Option (List ℕ)} {g g' : List ℕ} (told_failed own_failed meant : Bool) (resolved : ResolvedLine) (o : Option ObservedCall) (heard : IsAnsweredCall only old position.number (calls_in resolved) o) where
   -- a line was told and judged
   pub step_judged : {T : Type 0} {done : T} (r : Result Bool LineRunFault) → ReportsCalls only tells seen now_seen position.number (calls_in resolved) old new (Ok done) w g w' g' → told_failed ≡ false →
-      IfOk r (λ complained. complained ≡ is_complained meant resolved (text_in (answer_of o)) awaited) → OnOk r (now_awaited ≡ awaited_after position.number resolved awaited) →
+      IfOk r (λ complained. complained ≡ is_complained meant resolved (text_in list o) awaited) → OnOk r (now_awaited ≡ awaited_after position.number resolved awaited) →
       OnOk r (Arrives position resolved (answer_of o) next) → Fails r own_failed (takes_memory false resolved || crosses position) →
-      RunsLine only tells calls seen now_seen meant resolved (told_failed || own_failed) r (point old position awaited w g) (point new next now_awaited w' g')
+      RunsLine list only tells calls seen now_seen meant resolved (told_failed || own_failed) r (point old position awaited w g) (point new next now_awaited w' g')
   step_judged r hears works judged expects stands fails = record {
     hears = hears_on r hears;
     stands = stands_on r stands;
@@ -156,13 +156,13 @@ module _ {only : Option (List ℕ)} {tells : World → List (List ℕ) → ℕ �
       stands_on (Ok complained) stands = stands.is ∙ ap arrived (stands_answered only old (passed position) resolved _ (answers_in only old position.number (calls_in resolved) o heard))
       stands_on (Err fault) stands = tt
 
-      judged_on : (r : Result Bool LineRunFault) → IfOk r (λ complained. complained ≡ is_complained meant resolved (text_in (answer_of o)) awaited) → IfOk r (λ complained. complained ≡ has_error only old meant resolved awaited)
-      judged_on (Ok complained) judged = judged ∙ ap (λ answer. is_complained meant resolved answer awaited) (answered_text only old (calls_in resolved) (answer_of o) (answers_in only old position.number (calls_in resolved) o heard))
+      judged_on : (r : Result Bool LineRunFault) → IfOk r (λ complained. complained ≡ is_complained meant resolved (text_in list o) awaited) → IfOk r (λ complained. complained ≡ has_error list only old meant resolved awaited)
+      judged_on (Ok complained) judged = judged ∙ ap (λ answer. is_complained meant resolved answer awaited) (answered_text only old list position.number (calls_in resolved) o heard)
       judged_on (Err fault) judged = tt
 
   -- or it couldn't be told
   pub step_silent : {T : Type 0} (fault : LineRunFault) → ReportsCalls {T = T} only tells seen now_seen position.number (calls_in resolved) old new (Err fault) w g w' g' → own_failed ≡ false → Fails {T = T} (Err fault) told_failed (is_some o && calls) →
-      RunsLine only tells calls seen now_seen meant resolved (told_failed || own_failed) (Err fault) (point old position awaited w g) (point new next now_awaited w' g')
+      RunsLine list only tells calls seen now_seen meant resolved (told_failed || own_failed) (Err fault) (point old position awaited w g) (point new next now_awaited w' g')
   step_silent {T} fault hears works fails = record {
     hears = hears_fault fault hears;
     stands = tt;
@@ -172,12 +172,12 @@ module _ {only : Option (List ℕ)} {tells : World → List (List ℕ) → ℕ �
   }
 
 -- what a line is may be told in other words
-pub plays_as : {only : Option (List ℕ)} {tells : World → List (List ℕ) → ℕ → List ℕ → List ℕ} {calls : Bool} {seen now_seen : World → List (List ℕ) → Type 0} {meant : Bool} {resolved here : ResolvedLine} {failed : Bool} {r : Result Bool LineRunFault} {old new : Point} →
-    resolved ≡ here → RunsLine only tells calls seen now_seen meant resolved failed r old new → RunsLine only tells calls seen now_seen meant here failed r old new
-plays_as {only} {tells} {calls} {seen} {now_seen} {meant} {failed = failed} {r = r} {old = old} {new = new} is plays = subst (λ d. RunsLine only tells calls seen now_seen meant d failed r old new) is plays
+pub plays_as : {list : Listed} {only : Option (List ℕ)} {tells : World → List (List ℕ) → ℕ → List ℕ → List ℕ} {calls : Bool} {seen now_seen : World → List (List ℕ) → Type 0} {meant : Bool} {resolved here : ResolvedLine} {failed : Bool} {r : Result Bool LineRunFault} {old new : Point} →
+    resolved ≡ here → RunsLine list only tells calls seen now_seen meant resolved failed r old new → RunsLine list only tells calls seen now_seen meant here failed r old new
+plays_as {list} {only} {tells} {calls} {seen} {now_seen} {meant} {failed = failed} {r = r} {old = old} {new = new} is plays = subst (λ d. RunsLine list only tells calls seen now_seen meant d failed r old new) is plays
 
 -- what is reported of a line, by its error
 pub reports_line : (scope : ReportScope) (only : Option (List ℕ)) (old : World) (position : RunPosition) (line : List ℕ) (awaited : Awaited) (e e' : Option (List ℕ)) (r : Result Bool LineRunFault) →
-    IfOk r (λ complained. complained ≡ has_error only old (is_meant_line line) (resolved_at only position line) awaited) → Reports scope.subject position.number r e e' → OnOk r (ReportsLine scope only old position line awaited e e')
+    IfOk r (λ complained. complained ≡ has_error scope.list only old (is_meant_line line) (resolved_at only position line) awaited) → Reports scope.subject position.number r e e' → OnOk r (ReportsLine scope only old position line awaited e e')
 reports_line scope only old position line awaited e e' (Ok complained) judged reports = subst (λ error. AppendsReport scope.subject position.number error e e') judged reports
 reports_line scope only old position line awaited e e' (Err fault) judged reports = tt

@@ -1,7 +1,8 @@
 -- What a line is when its turn comes, by how it was filled.
 use Rattle.std.proofs.Common.{◌≡◌, ℕ, ◌+◌, ◌-◌, ◌≤◌, ◌==◌, ◌||◌, Bool, true, false, cond, List, [], ◌∷◌, length, nat_le, slice_index, is_none, take, Option, Some, None, Result, Ok, Err, OnOk, refl, sym, ◌∙◌, ap, subst}
 use Rattle.own_model.specs.LinesOfName.{said_by}
-use Rattle.own_model.specs.Transcript.{heard, longest_line}
+use Rattle.own_model.specs.Listed.{Listed}
+use Rattle.own_model.specs.Transcript.{longest_line}
 use Rattle.own_model.specs.World.{World}
 use Rattle.line_friendly.specs.Friendly.{FriendlyLine, end_of, said_of, trimmed_line}
 use Rattle.line_friendly.specs.Friendly.FriendlyLine.{Nothing as NoContent, Log as LogContent, Call as CallContent}
@@ -22,10 +23,11 @@ use Rattle.line_steps.specs.ResolvedLines.{ResolvedLine, is_skipped, resolved_by
 use Rattle.line_steps.specs.ResolvedLines.ResolvedLine.{TooLong, Skipped, BadName, Follow, Misplaced, Nothing, Log, Call, BadLine}
 use Rattle.line_steps.specs.ResolvedViews.{resolved_view}
 use Rattle.run_scenario.specs.CallAnswers.{AnswersIn, IsAnsweredCall, TakesStep}
-use Rattle.run_lines.specs.Answer.{IsAnswer}
 use Rattle.run_scenario.specs.Judging.{AnswerText, answer_to, text_in}
 use Rattle.run_scenario.specs.LineSteps.{AreBare, Arrives, bare_content, bare_line, calls_in, is_meant_line, learnt_by, learnt_from, left_behind, next_position, plain_line, resolved_at, position_after, position_with, steps_from_line, steps_of}
 use Rattle.line_steps.specs.RunPosition.{RunPosition, arrived, arrived_at, crosses, is_due, number_after, passed}
+use Rattle.run_scenario.specs.UnknownNames.{names_unknown}
+use Rattle.run_scenario.specs.declared.call_observer.ObservedCall.{ObservedCall}
 use Rattle.run_scenario.specs.declared.line_step.LineStep.{LineStep}
 use Rattle.run_scenario.proofs.PlayedLemmas.{resolved_own}
 
@@ -60,13 +62,13 @@ learnt_none known f reply none =
 
 module _ (only : Option (List ℕ)) (world : World) where
   -- so its text is known
-  pub answered_text : (calls : List (List ℕ)) (answer : Option LineAnswer) → AnswersIn only world calls answer → text_in answer ≡ answer_to world (said_by only calls)
-  answered_text calls None none = sym (ap (answer_to world) none)
-  answered_text calls (Some answer) answers =
-      (λ i. Some (text (answers.2.reply i) (answers.2.lines i))) ∙ sym (ap (answer_to world) answers.1)
+  pub answered_text : (list : Listed) (number : ℕ) (calls : List (List ℕ)) (o : Option ObservedCall) → IsAnsweredCall only world number calls o → text_in list o ≡ answer_to list world (said_by only calls)
+  answered_text list number calls None none = sym (ap (answer_to list world) none)
+  answered_text list number calls (Some it) is =
+      (λ i. Some (text (is.answers.reply i) (is.answers.lines i))) ∙ sym (ap (answer_to list world) is.said)
     where
       text : List ℕ → List ℕ → AnswerText
-      text reply lines = record { reply = reply; lines = lines }
+      text reply lines = record { reply = reply; lines = lines; is_unknown = names_unknown list it.line.now }
 
   -- a call that is answered binds what its answer binds
   learns_answer : (known : NameTable) (f : FilledLine) (calls : List (List ℕ)) (answer : Option LineAnswer) → AnswersIn only world calls answer → learnt_by known f answer ≡ learnt_from world known f (said_by only calls)

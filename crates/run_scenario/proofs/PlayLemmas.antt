@@ -45,15 +45,15 @@ ready_next (Ok complained) a = a
 ready_next (Err fault) a = tt
 
 -- how a line's error is found and counted, unless there is a fault
-record StepsTallyAt (only : Option (List ℕ)) (mid : World) (position : RunPosition) (line : List ℕ) (now next : Tally) (error : Bool) : Type 0 where
-  judged : error ≡ has_error only mid (is_meant_line line) (resolved_at only position line) now.awaited
+record StepsTallyAt (list : Listed) (only : Option (List ℕ)) (mid : World) (position : RunPosition) (line : List ℕ) (now next : Tally) (error : Bool) : Type 0 where
+  judged : error ≡ has_error list only mid (is_meant_line line) (resolved_at only position line) now.awaited
   expects : next.awaited ≡ awaited_after position.number (resolved_at only position line) now.awaited
   counts : CountsOne error now.errors next.errors
 
-abbrev StepsTally : Option (List ℕ) → World → RunPosition → List ℕ → Tally → Tally → Result Bool LineRunFault → Type 0
-StepsTally only mid position line now next judged = IfOk judged (StepsTallyAt only mid position line now next)
+abbrev StepsTally : Listed → Option (List ℕ) → World → RunPosition → List ℕ → Tally → Tally → Result Bool LineRunFault → Type 0
+StepsTally list only mid position line now next judged = IfOk judged (StepsTallyAt list only mid position line now next)
 
-module _ (only : Option (List ℕ)) (start mid : World) (first position : RunPosition) (xs : List (List ℕ)) (line : List ℕ)
+module _ (list : Listed) (only : Option (List ℕ)) (start mid : World) (first position : RunPosition) (xs : List (List ℕ)) (line : List ℕ)
     (left : mid ≡ after_all only start (calls_of_steps (steps_of only start first xs))) (stands : position ≡ position_behind only start first xs) where
   abbrev earlier : List (List ℕ)
   earlier = calls_answered only (steps_of only start first xs)
@@ -66,17 +66,17 @@ module _ (only : Option (List ℕ)) (start mid : World) (first position : RunPos
       subst seen (ap (λ calls. earlier ++ calls) (sym (answered-one only (step_of only position line))) ∙ answered_more only start mid first position xs (line ∷ []) left stands []) sees
 
   -- and its error is counted after theirs
-  tallied : (begun now next : Tally) (judged : Result Bool LineRunFault) → Tallies only start begun now (steps_of only start first xs) → StepsTally only mid position line now next judged →
-      OnOk judged (Tallies only start begun next (steps_of only start first (xs ++ line ∷ [])))
+  tallied : (begun now next : Tally) (judged : Result Bool LineRunFault) → Tallies list only start begun now (steps_of only start first xs) → StepsTally list only mid position line now next judged →
+      OnOk judged (Tallies list only start begun next (steps_of only start first (xs ++ line ∷ [])))
   tallied begun now next (Ok error) led steps =
-      subst (Tallies only start begun next) (more_steps only start mid first position xs (line ∷ []) left stands)
-      (tallies_more only start mid begun now next (steps_of only start first xs) (step_of only position line) error left led steps.judged steps.expects steps.counts)
+      subst (Tallies list only start begun next) (more_steps only start mid first position xs (line ∷ []) left stands)
+      (tallies_more list only start mid begun now next (steps_of only start first xs) (step_of only position line) error left led steps.judged steps.expects steps.counts)
   tallied begun now next (Err fault) led steps = tt
 
   goes_on : {A : Type 0} (calls : Bool) (reports seen : List (List ℕ) → Type 0) (last : World) (next : RunPosition) (begun then : Tally) (judged : Result Bool LineRunFault) (write_failed : Bool) → A → last ≡ left_behind only mid position line →
       OnOk judged (seen (earlier ++ said_by only (call_of only position line))) → OnOk judged (next ≡ next_position only mid position line) →
-      OnOk judged (Tallies only start begun then (steps_of only start first (xs ++ line ∷ []))) → OnOk judged (reports (xs ++ line ∷ [])) → Fails judged write_failed (takes_memory calls (resolved_at only position line) || crosses position) →
-      Continues (λ lines. A × LeadsSteps only start last first next begun then reports seen lines) (λ fault lines. A × StopsSteps calls only start last first fault lines) (xs ++ line ∷ []) (counted judged)
+      OnOk judged (Tallies list only start begun then (steps_of only start first (xs ++ line ∷ []))) → OnOk judged (reports (xs ++ line ∷ [])) → Fails judged write_failed (takes_memory calls (resolved_at only position line) || crosses position) →
+      Continues (λ lines. A × LeadsSteps list only start last first next begun then reports seen lines) (λ fault lines. A × StopsSteps calls only start last first fault lines) (xs ++ line ∷ []) (counted judged)
   goes_on calls reports seen last next begun then (Ok complained) write_failed a world sees after tallies reported fails = (
     a,
     record {
@@ -102,8 +102,8 @@ module _ (only : Option (List ℕ)) (start mid : World) (first position : RunPos
   pub bench_plays : {A : Type 0} (tells : List (List ℕ) → ℕ → List ℕ → List ℕ) (calls : Bool) (reports seen : List (List ℕ) → Type 0) (last : World) (next : RunPosition) (begun then : Tally) (judged : Result Bool LineRunFault) (write_failed : Bool) (w w' : Option (List ℕ)) (g g' : List ℕ) → A →
       last ≡ left_behind only mid position line → OutputsUnless judged w g w' g' (text_of_calls tells earlier position.number (said_by only (call_of only position line))) →
       OnOk judged (seen (earlier ++ said_by only (call_of only position line))) → OnOk judged (next ≡ next_position only mid position line) →
-      OnOk judged (Tallies only start begun then (steps_of only start first (xs ++ line ∷ []))) → OnOk judged (reports (xs ++ line ∷ [])) → Fails judged write_failed (takes_memory calls (resolved_at only position line) || crosses position) →
-      HandlesLine (λ lines. text_of_steps tells only [] (steps_of only start first lines)) (λ lines. A × LeadsSteps only start last first next begun then reports seen lines) (λ fault lines. A × StopsSteps calls only start last first fault lines) xs line (counted judged) w g w' g'
+      OnOk judged (Tallies list only start begun then (steps_of only start first (xs ++ line ∷ []))) → OnOk judged (reports (xs ++ line ∷ [])) → Fails judged write_failed (takes_memory calls (resolved_at only position line) || crosses position) →
+      HandlesLine (λ lines. text_of_steps tells only [] (steps_of only start first lines)) (λ lines. A × LeadsSteps list only start last first next begun then reports seen lines) (λ fault lines. A × StopsSteps calls only start last first fault lines) xs line (counted judged) w g w' g'
   bench_plays tells calls reports seen last next begun then judged write_failed w w' g g' a world told sees after tallies reported fails = record {
     piece = text_of_steps tells only earlier (step_of only position line ∷ []);
     more = sym (told_more only tells start mid first position [] xs (line ∷ []) left stands);
@@ -135,23 +135,23 @@ module _ {R A : Type 0} (only_of : R → Option (List ℕ)) (list_of : R → Lis
   pub runner_line : {at run : R} {subject mid_subject : SubjectAt} {telling now_telling : World → List (List ℕ) → ℕ → List ℕ → List ℕ} (start : World) {first : RunPosition} (xs : List (List ℕ)) (line : List ℕ)
       (calls : Bool) (judged : Result Bool LineRunFault) {failed : Bool} {old new : Point} {begun : Tally} (errors now_errors : ℕ) (e e' e'' : Option (List ℕ)) → IfOk judged (λ error. CountsOne error errors now_errors) →
       A → run ≡ at → mid_subject ≡ subject → now_telling ≡ telling →
-      LeadsSteps (only_of at) start old.world first old.position begun (tally errors old.awaited) (WritesReports (scope_of subject (list_of at)) (start_at (only_of at) start first begun.awaited) e e') (seen_old at start) xs →
-      RunsLine (only_of run) now_telling calls (seen_old run) (seen_new run) (is_meant_line line) (resolved_at (only_of run) old.position line) failed judged old new →
+      LeadsSteps (list_of at) (only_of at) start old.world first old.position begun (tally errors old.awaited) (WritesReports (scope_of subject (list_of at)) (start_at (list_of at) (only_of at) start first begun.awaited) e e') (seen_old at start) xs →
+      RunsLine (list_of run) (only_of run) now_telling calls (seen_old run) (seen_new run) (is_meant_line line) (resolved_at (only_of run) old.position line) failed judged old new →
       OnOk judged (ReportsLine (scope_of mid_subject (list_of run)) (only_of run) old.world old.position line old.awaited e' e'') →
       HandlesLine (λ lines. text_of_steps (telling start) (only_of at) [] (steps_of (only_of at) start first lines))
-      (λ lines. A × LeadsSteps (only_of at) start new.world first new.position begun (tally now_errors new.awaited) (WritesReports (scope_of subject (list_of at)) (start_at (only_of at) start first begun.awaited) e e'') (seen_new at start) lines)
+      (λ lines. A × LeadsSteps (list_of at) (only_of at) start new.world first new.position begun (tally now_errors new.awaited) (WritesReports (scope_of subject (list_of at)) (start_at (list_of at) (only_of at) start first begun.awaited) e e'') (seen_new at start) lines)
       (λ fault lines. A × StopsSteps calls (only_of at) start new.world first fault lines) xs line (counted judged) old.written old.gathered new.written new.gathered
   runner_line {at} {run} {subject} {mid_subject} {telling} {now_telling} start {first} xs line calls judged {failed} {old} {new} {begun} errors now_errors e e' e'' counts kept run_is subject_is tells_is led plays reported =
-      bench_plays (only_of at) start old.world first old.position xs line led.world_is led.stands (telling start) calls (WritesReports scope (start_at (only_of at) start first begun.awaited) e e'') (seen_new at start) new.world new.position begun (tally now_errors new.awaited) judged failed old.written new.written old.gathered new.gathered kept
+      bench_plays (list_of at) (only_of at) start old.world first old.position xs line led.world_is led.stands (telling start) calls (WritesReports scope (start_at (list_of at) (only_of at) start first begun.awaited) e e'') (seen_new at start) new.world new.position begun (tally now_errors new.awaited) judged failed old.written new.written old.gathered new.gathered kept
       here.hears.world (here.hears.told start _ watches) (sees_on judged _ _ _ _ (here.hears.sees start _ watches)) here.stands
-      (tallied (only_of at) start old.world first old.position xs line led.world_is led.stands begun (tally errors old.awaited) (tally now_errors new.awaited) judged led.tallies (steps judged here.judged here.expects counts))
+      (tallied (list_of at) (only_of at) start old.world first old.position xs line led.world_is led.stands begun (tally errors old.awaited) (tally now_errors new.awaited) judged led.tallies (steps judged here.judged here.expects counts))
       (reports judged reported) here.failing
     where
       scope : ReportScope
       scope = scope_of subject (list_of at)
 
       reports : (judged : Result Bool LineRunFault) → OnOk judged (ReportsLine (scope_of mid_subject (list_of run)) (only_of run) old.world old.position line old.awaited e' e'') →
-          OnOk judged (WritesReports scope (start_at (only_of at) start first begun.awaited) e e'' (xs ++ line ∷ []))
+          OnOk judged (WritesReports scope (start_at (list_of at) (only_of at) start first begun.awaited) e e'' (xs ++ line ∷ []))
       reports (Ok error) reported =
           let own : ReportsLine scope (only_of at) old.world old.position line old.awaited e' e'' =
           subst (λ s. ReportsLine (scope_of s (list_of at)) (only_of at) old.world old.position line old.awaited e' e'') subject_is
@@ -159,36 +159,36 @@ module _ {R A : Type 0} (only_of : R → Option (List ℕ)) (list_of : R → Lis
           reports_more scope (only_of at) start old.world first old.position begun.awaited old.awaited xs line led.world_is led.stands led.tallies.awaits e e' e'' own.0 led.reported own.1 own.2
       reports (Err fault) reported = tt
 
-      steps : (judged : Result Bool LineRunFault) → IfOk judged (λ error. error ≡ has_error (only_of at) old.world (is_meant_line line) (resolved_at (only_of at) old.position line) old.awaited) →
+      steps : (judged : Result Bool LineRunFault) → IfOk judged (λ error. error ≡ has_error (list_of at) (only_of at) old.world (is_meant_line line) (resolved_at (only_of at) old.position line) old.awaited) →
           OnOk judged (new.awaited ≡ awaited_after old.position.number (resolved_at (only_of at) old.position line) old.awaited) → IfOk judged (λ error. CountsOne error errors now_errors) →
-          StepsTally (only_of at) old.world old.position line (tally errors old.awaited) (tally now_errors new.awaited) judged
+          StepsTally (list_of at) (only_of at) old.world old.position line (tally errors old.awaited) (tally now_errors new.awaited) judged
       steps (Ok error) judged expects counts = record { judged = judged; expects = expects; counts = counts }
       steps (Err fault) judged expects counts = tt
 
-      here : RunsLine (only_of at) telling calls (seen_old at) (seen_new at) (is_meant_line line) (resolved_at (only_of at) old.position line) failed judged old new
+      here : RunsLine (list_of at) (only_of at) telling calls (seen_old at) (seen_new at) (is_meant_line line) (resolved_at (only_of at) old.position line) failed judged old new
       here =
-          subst (λ t. RunsLine (only_of at) t calls (seen_old at) (seen_new at) (is_meant_line line) (resolved_at (only_of at) old.position line) failed judged old new) tells_is
-          (subst (λ r. RunsLine (only_of r) now_telling calls (seen_old r) (seen_new r) (is_meant_line line) (resolved_at (only_of r) old.position line) failed judged old new) run_is plays)
+          subst (λ t. RunsLine (list_of at) (only_of at) t calls (seen_old at) (seen_new at) (is_meant_line line) (resolved_at (only_of at) old.position line) failed judged old new) tells_is
+          (subst (λ r. RunsLine (list_of r) (only_of r) now_telling calls (seen_old r) (seen_new r) (is_meant_line line) (resolved_at (only_of r) old.position line) failed judged old new) run_is plays)
 
       watches : Watches (seen_old at) start (calls_answered (only_of at) (steps_of (only_of at) start first xs)) old.world
       watches = record { leads = led.world_is; sees = led.sees }
 
 -- at first no line is
-pub leads_none : (only : Option (List ℕ)) (world : World) (first : RunPosition) (begun : Tally) (reports seen : List (List ℕ) → Type 0) → reports [] → seen [] → LeadsSteps only world world first first begun begun reports seen []
-leads_none only world first begun reports seen reported sees = record { world_is = sym (left_none only world); stands = refl; tallies = tallies_none only world begun; reported = reported; sees = subst seen (sym (said_none only)) sees }
+pub leads_none : (list : Listed) (only : Option (List ℕ)) (world : World) (first : RunPosition) (begun : Tally) (reports seen : List (List ℕ) → Type 0) → reports [] → seen [] → LeadsSteps list only world world first first begun begun reports seen []
+leads_none list only world first begun reports seen reported sees = record { world_is = sym (left_none only world); stands = refl; tallies = tallies_none list only world begun; reported = reported; sees = subst seen (sym (said_none only)) sees }
 
 -- ---- the end
 
-module _ (A : Type 0) (calls : Bool) (only : Option (List ℕ)) (old new : World) (first next : RunPosition) (begun then : Tally) (reports seen : List (List ℕ) → Type 0) where
+module _ (A : Type 0) (calls : Bool) (list : Listed) (only : Option (List ℕ)) (old new : World) (first next : RunPosition) (begun then : Tally) (reports seen : List (List ℕ) → Type 0) where
   abbrev leads : List (List ℕ) → Type 0
-  leads lines = A × LeadsSteps only old new first next begun then reports seen lines
+  leads lines = A × LeadsSteps list only old new first next begun then reports seen lines
 
   abbrev stops : LineRunFault → List (List ℕ) → Type 0
   stops fault lines = A × StopsSteps calls only old new first fault lines
 
   -- what is known however it ends
   ends_at : (lines : List (List ℕ)) (fault : Option LineRunFault) → EndsAs leads stops fault lines →
-      A × (new ≡ after_all only old (calls_of_steps (steps_of only old first lines))) × TakesMemoryFor calls fault (steps_of only old first lines) × IfNone fault (Tallies only old begun then (steps_of only old first lines))
+      A × (new ≡ after_all only old (calls_of_steps (steps_of only old first lines))) × TakesMemoryFor calls fault (steps_of only old first lines) × IfNone fault (Tallies list only old begun then (steps_of only old first lines))
       × IfNone fault (seen (calls_answered only (steps_of only old first lines))) × IfNone fault (reports lines × (then.awaited ≡ awaited_behind begun.awaited (steps_of only old first lines)))
   ends_at lines None ended = (ended.0, ended.1.world_is, tt, ended.1.tallies, ended.1.sees, (ended.1.reported, ended.1.tallies.awaits))
   ends_at lines (Some ReadFault) ended = (ended.0, ended.1.world_is, tt, tt, tt, tt)
@@ -205,7 +205,7 @@ module _ (A : Type 0) (calls : Bool) (only : Option (List ℕ)) (old new : World
     world_left = (ends_at plays.given fault plays.ends_as).1
 
     -- the turns of the lines were played
-    pub steps_run : RunsAll tells calls seen (Tallies only old begun then) (λ lines. reports lines × (then.awaited ≡ awaited_behind begun.awaited (steps_of only old first lines))) only first fault count old new front input rest failed w w'
+    pub steps_run : RunsAll tells calls seen (Tallies list only old begun then) (λ lines. reports lines × (then.awaited ≡ awaited_behind begun.awaited (steps_of only old first lines))) only first fault count old new front input rest failed w w'
     steps_run = record {
       given = plays.given;
       readable = plays.readable;
@@ -285,14 +285,14 @@ plays_closed (Some fault) ended a b closes more last plays =
     })
 
 -- an expected log line that no call follows is counted then
-pub closed_counts : (only : Option (List ℕ)) (start : World) (begun : Tally) (errors now_errors : ℕ) (awaited : Awaited) (ended : Option LineRunFault) → IfNone ended (CountsOne (is_some awaited.first) errors now_errors) →
-    IfNone ended ((steps : List LineStep) → Tallies only start begun (tally errors awaited) steps → CountsErrors only start begun now_errors steps)
-closed_counts only start begun errors now_errors awaited None counts = λ steps led. errors_counted only start begun (tally errors awaited) steps now_errors led counts
-closed_counts only start begun errors now_errors awaited (Some fault) counts = tt
+pub closed_counts : (list : Listed) (only : Option (List ℕ)) (start : World) (begun : Tally) (errors now_errors : ℕ) (awaited : Awaited) (ended : Option LineRunFault) → IfNone ended (CountsOne (is_some awaited.first) errors now_errors) →
+    IfNone ended ((steps : List LineStep) → Tallies list only start begun (tally errors awaited) steps → CountsErrors list only start begun now_errors steps)
+closed_counts list only start begun errors now_errors awaited None counts = λ steps led. errors_counted list only start begun (tally errors awaited) steps now_errors led counts
+closed_counts list only start begun errors now_errors awaited (Some fault) counts = tt
 
 -- and reported
 pub closed_reports : (scope : ReportScope) (only : Option (List ℕ)) (start : World) (first : RunPosition) (begun awaited : Awaited) (w w' w'' : Option (List ℕ)) (ended : Option LineRunFault) → IfNone ended (Appends w' w'' (left_over_report scope.subject awaited)) →
-    IfNone ended ((lines : List (List ℕ)) → WritesReports scope (start_at only start first begun) w w' lines × (awaited ≡ awaited_behind begun (steps_of only start first lines)) → WritesAllReports scope (start_at only start first begun) w w'' lines)
+    IfNone ended ((lines : List (List ℕ)) → WritesReports scope (start_at scope.list only start first begun) w w' lines × (awaited ≡ awaited_behind begun (steps_of only start first lines)) → WritesAllReports scope (start_at scope.list only start first begun) w w'' lines)
 closed_reports scope only start first begun awaited w w' w'' None reported = λ lines led. reports_closed scope only start first begun awaited w w' w'' lines led.1 led.0 reported
 closed_reports scope only start first begun awaited w w' w'' (Some fault) reported = tt
 

@@ -1,6 +1,7 @@
 -- What is reported of a line.
-use Rattle.std.proofs.Common.{◌≡◌, ℕ, Bool, true, false, List, [], Option, Some, None, Result, Ok, Err, IfOk, IsErrAnd, refl, sym, ◌∙◌, ap}
+use Rattle.std.proofs.Common.{◌≡◌, ℕ, Bool, true, false, List, [], Option, Result, Ok, Err, IfOk, IsErrAnd, refl, sym, ◌∙◌, ap}
 use Rattle.std.specs.Io.KnownBytes.{Appends}
+use Rattle.own_model.specs.Listed.{Listed}
 use Rattle.own_model.specs.World.{World}
 use Rattle.line_steps.specs.ResolvedLines.{ResolvedLine}
 use Rattle.line_steps.specs.ResolvedLines.ResolvedLine.{TooLong}
@@ -28,7 +29,7 @@ module _ (subject : SubjectAt) (number : ℕ) where
   report_failed Q (Err fault) old new is = tt
 
 -- a line that is too long has an error
-pub judged_long : (only : Option (List ℕ)) (old : World) (meant : Bool) (awaited : Awaited) (r : Result Bool LineRunFault) (resolved : ResolvedLine) → resolved ≡ TooLong → IfOk r (λ complained. complained ≡ true) →
-    IfOk r (λ complained. complained ≡ has_error only old meant resolved awaited)
-judged_long only old meant awaited (Ok complained) resolved is judged = judged ∙ sym (ap (λ it. has_error only old meant it awaited) is)
-judged_long only old meant awaited (Err fault) resolved is judged = tt
+pub judged_long : (list : Listed) (only : Option (List ℕ)) (old : World) (meant : Bool) (awaited : Awaited) (r : Result Bool LineRunFault) (resolved : ResolvedLine) → resolved ≡ TooLong → IfOk r (λ complained. complained ≡ true) →
+    IfOk r (λ complained. complained ≡ has_error list only old meant resolved awaited)
+judged_long list only old meant awaited (Ok complained) resolved is judged = judged ∙ sym (ap (λ it. has_error list only old meant it awaited) is)
+judged_long list only old meant awaited (Err fault) resolved is judged = tt

@@ -2,7 +2,6 @@
 use Rattle.std.proofs.Common.{◌≡◌, ℕ, List, [], ◌∷◌, ◌++◌, Option, None, Some, refl, sym, ◌∙◌, ap, subst, append_assoc, append-nil}
 use Rattle.std.specs.Io.KnownBytes.{Appends}
 use Rattle.own_model.specs.World.{World}
-use Rattle.line_steps.specs.ResolvedLines.{ResolvedLine}
 use Rattle.line_steps.specs.RunPosition.{RunPosition}
 use Rattle.run_lines.specs.Answered.{after_all}
 use Rattle.run_devices.proofs.GatheredLemmas.{Appends-more}
@@ -12,7 +11,7 @@ use Rattle.run_scenario.specs.LineSteps.{call_of, left_behind, next_position, re
 use Rattle.run_scenario.specs.Reports.{left_over_report}
 use Rattle.run_scenario.specs.RunCalls.{calls_of_steps}
 use Rattle.run_scenario.specs.RunReports.{AreReported, IsReported, ReportScope, WritesAllReports, WritesReports}
-use Rattle.run_scenario.specs.Writes.{RunStart, start_at}
+use Rattle.run_scenario.specs.Writes.{start_at}
 
 module _ (scope : ReportScope) (only : Option (List ℕ)) where
   -- one line more, after those that led there
@@ -41,8 +40,8 @@ module _ (scope : ReportScope) (only : Option (List ℕ)) where
 
   module _ (start mid : World) (first position : RunPosition) (begun awaited : Awaited) (xs : List (List ℕ)) (line : List ℕ) (left : mid ≡ after_all only start (calls_of_steps (steps_of only start first xs)))
       (stands : position ≡ position_behind only start first xs) (awaits : awaited ≡ awaited_behind begun (steps_of only start first xs)) where
-    pub reports_more : (w w' w'' : Option (List ℕ)) (more : List ℕ) → WritesReports scope (start_at only start first begun) w w' xs → IsReported scope only mid position line awaited more → Appends w' w'' more →
-        WritesReports scope (start_at only start first begun) w w'' (xs ++ line ∷ [])
+    pub reports_more : (w w' w'' : Option (List ℕ)) (more : List ℕ) → WritesReports scope (start_at scope.list only start first begun) w w' xs → IsReported scope only mid position line awaited more → Appends w' w'' more →
+        WritesReports scope (start_at scope.list only start first begun) w w'' (xs ++ line ∷ [])
     reports_more w w' w'' more (text, reported, grows) is then = (
       text ++ more,
       are_reported_more start first begun xs line text more reported
@@ -53,7 +52,7 @@ module _ (scope : ReportScope) (only : Option (List ℕ)) where
     )
 
   -- at first there are none
-  pub reports_none : (start : World) (first : RunPosition) (begun : Awaited) (w : Option (List ℕ)) → WritesReports scope (start_at only start first begun) w w []
+  pub reports_none : (start : World) (first : RunPosition) (begun : Awaited) (w : Option (List ℕ)) → WritesReports scope (start_at scope.list only start first begun) w w []
   reports_none start first begun w = ([], refl, none w)
     where
       none : (o : Option (List ℕ)) → Appends o o []
@@ -62,7 +61,7 @@ module _ (scope : ReportScope) (only : Option (List ℕ)) where
 
   -- and then of what is left over
   pub reports_closed : (start : World) (first : RunPosition) (begun awaited : Awaited) (w w' w'' : Option (List ℕ)) (lines : List (List ℕ)) → awaited ≡ awaited_behind begun (steps_of only start first lines) →
-      WritesReports scope (start_at only start first begun) w w' lines → Appends w' w'' (left_over_report scope.subject awaited) → WritesAllReports scope (start_at only start first begun) w w'' lines
+      WritesReports scope (start_at scope.list only start first begun) w w' lines → Appends w' w'' (left_over_report scope.subject awaited) → WritesAllReports scope (start_at scope.list only start first begun) w w'' lines
   reports_closed start first begun awaited w w' w'' lines awaits (text, reported, grows) then =
       record {
         text = text;

@@ -1,5 +1,5 @@
 -- Where a run is after the step of a line.
-use Rattle.std.proofs.Common.{◌≡◌, ℕ, List, Option, Some, None, Result, Ok, Err, OnOk, ap, ◌∙◌}
+use Rattle.std.proofs.Common.{◌≡◌, ℕ, List, Option, Result, Ok, Err, OnOk, ap, ◌∙◌}
 use Rattle.own_model.specs.World.{World}
 use Rattle.line_steps.specs.ResolvedViews.{resolved_view}
 use Rattle.line_steps.specs.RunPosition.{RunPosition, arrived, passed}

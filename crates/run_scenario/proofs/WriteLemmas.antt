@@ -165,21 +165,21 @@ reported_still None (Some fault) w w' behind A reported after = tt
 reported_still (Some fault) f' w w' behind A reported after = rw after.0 tt
 
 -- how many errors there were
-errors_are : (only : Option (List ℕ)) (start : World) (first : RunPosition) (awaited : Awaited) (lines : List (List ℕ)) (errors : ℕ) → length lines ≤ most_lines →
-    (f : Option LineRunFault) → IfNone f (CountsErrors only start (tally 0 awaited) errors (steps_of only start first lines)) →
-    IfNone f (errors ≡ errors_of only start awaited (steps_of only start first lines))
-errors_are only start first awaited lines errors few None counts =
-    errors_exact only start awaited (steps_of only start first lines) errors (omega (arith, few, steps_length only start first lines)) counts
-errors_are only start first awaited lines errors few (Some fault) counts = tt
+errors_are : (list : Listed) (only : Option (List ℕ)) (start : World) (first : RunPosition) (awaited : Awaited) (lines : List (List ℕ)) (errors : ℕ) → length lines ≤ most_lines →
+    (f : Option LineRunFault) → IfNone f (CountsErrors list only start (tally 0 awaited) errors (steps_of only start first lines)) →
+    IfNone f (errors ≡ errors_of list only start awaited (steps_of only start first lines))
+errors_are list only start first awaited lines errors few None counts =
+    errors_exact list only start awaited (steps_of only start first lines) errors (omega (arith, few, steps_length only start first lines)) counts
+errors_are list only start first awaited lines errors few (Some fault) counts = tt
 
 -- what a play wrote and what was written behind it
-pub played_from : {told behind : List LineStep → List ℕ} {calls : Bool} {tells : List (List ℕ) → ℕ → List ℕ → List ℕ} {seen reports : List (List ℕ) → Type 0} {only : Option (List ℕ)} {first : RunPosition} {start last : World}
+pub played_from : {list : Listed} {told behind : List LineStep → List ℕ} {calls : Bool} {tells : List (List ℕ) → ℕ → List ℕ → List ℕ} {seen reports : List (List ℕ) → Type 0} {only : Option (List ℕ)} {first : RunPosition} {start last : World}
     {awaited : Awaited}
     {front : List ℕ} {input rest w w' w'' : Option (List ℕ)} {failed : Bool} (played ended : ScenarioEnd)
-    (plays : RunsAll tells calls seen (CountsErrors only start (tally 0 awaited) played.complaints) reports only first played.fault played.lines start last front input rest failed w w') →
+    (plays : RunsAll tells calls seen (CountsErrors list only start (tally 0 awaited) played.complaints) reports only first played.fault played.lines start last front input rest failed w w') →
     front ++ text_of_steps tells only [] (steps_of only start first plays.given) ≡ told (steps_of only start first plays.given) →
-    Closes played ended w' w'' (behind (steps_of only start first plays.given)) → IsRunFrom (start_at only start first awaited) told behind calls reports ended input rest failed w w''
-played_from {told = told} {behind = behind} {calls = calls} {reports = reports} {only = only} {first = first} {start = start} {awaited = awaited} {input = input} {rest = rest} {w = w} {w' = w'} {w'' = w''} {failed = failed} played ended plays same closes =
+    Closes played ended w' w'' (behind (steps_of only start first plays.given)) → IsRunFrom (start_at list only start first awaited) told behind calls reports ended input rest failed w w''
+played_from {list = list} {told = told} {behind = behind} {calls = calls} {reports = reports} {only = only} {first = first} {start = start} {awaited = awaited} {input = input} {rest = rest} {w = w} {w' = w'} {w'' = w''} {failed = failed} played ended plays same closes =
     let steps = steps_of only start first plays.given in
     record {
       given = plays.given;
@@ -188,8 +188,8 @@ played_from {told = told} {behind = behind} {calls = calls} {reports = reports} 
       takes = takes_both calls played.fault ended.fault steps w' w'' (behind steps) plays.takes closes.writes;
       counted = counted_still played.fault ended.fault played.lines ended.lines w' w'' (behind steps) (length plays.given) plays.counted closes.lines closes.writes;
       complained =
-          counted_still played.fault ended.fault played.complaints ended.complaints w' w'' (behind steps) (errors_of only start awaited steps)
-          (errors_are only start first awaited plays.given played.complaints plays.few played.fault plays.complained) closes.complaints closes.writes;
+          counted_still played.fault ended.fault played.complaints ended.complaints w' w'' (behind steps) (errors_of list only start awaited steps)
+          (errors_are list only start first awaited plays.given played.complaints plays.few played.fault plays.complained) closes.complaints closes.writes;
       reported = reported_still played.fault ended.fault w' w'' (behind steps) (reports plays.given) plays.reported closes.writes;
       writes =
           writes_both played.fault ended.fault input rest plays.given failed w w' w'' (told steps) (behind steps) plays.ends
@@ -200,13 +200,13 @@ played_from {told = told} {behind = behind} {calls = calls} {reports = reports} 
 pub played_on : (listed : Listed) {calls : Bool} (only : Option (List ℕ)) (first : RunPosition) (told behind : World → List LineStep → List ℕ) (ending : ScenarioEnd) {start : World} {begun : RunPosition}
     {awaited : Awaited} {subject noted : SubjectAt} {list : Listed} (e e' : Option (List ℕ)) (input rest : Option (List ℕ)) (failed : Bool) (w w' : Option (List ℕ)) →
     start ≡ world_of listed → begun ≡ first → awaited ≡ nothing_awaited → noted ≡ subject →
-    IsRunFrom (start_at only start begun awaited) (told start) (behind start) calls (WritesAllReports (scope_of noted list) (start_at only start begun awaited) e e') ending input rest failed w w' →
+    IsRunFrom (start_at listed only start begun awaited) (told start) (behind start) calls (WritesAllReports (scope_of noted list) (start_at listed only start begun awaited) e e') ending input rest failed w w' →
     IsRunFrom (start_on only first listed) (told (world_of listed)) (behind (world_of listed)) calls (WritesAllReports (scope_of subject list) (start_on only first listed) e e') ending input rest failed w w'
 played_on listed {calls = calls} only first told behind ending {start = start} {begun = begun} {awaited = awaited} {subject = subject} {noted = noted} {list = list} e e' input rest failed w w' starts begins none about played =
     subst (λ s. IsRunFrom (start_on only first listed) (told (world_of listed)) (behind (world_of listed)) calls (WritesAllReports (scope_of s list) (start_on only first listed) e e') ending input rest failed w w') about
-    (subst (λ world. IsRunFrom (start_at only world first nothing_awaited) (told world) (behind world) calls (WritesAllReports (scope_of noted list) (start_at only world first nothing_awaited) e e') ending input rest failed w w') starts
-    (subst (λ position. IsRunFrom (start_at only start position nothing_awaited) (told start) (behind start) calls (WritesAllReports (scope_of noted list) (start_at only start position nothing_awaited) e e') ending input rest failed w w') begins
-    (subst (λ expected. IsRunFrom (start_at only start begun expected) (told start) (behind start) calls (WritesAllReports (scope_of noted list) (start_at only start begun expected) e e') ending input rest failed w w') none played)))
+    (subst (λ world. IsRunFrom (start_at listed only world first nothing_awaited) (told world) (behind world) calls (WritesAllReports (scope_of noted list) (start_at listed only world first nothing_awaited) e e') ending input rest failed w w') starts
+    (subst (λ position. IsRunFrom (start_at listed only start position nothing_awaited) (told start) (behind start) calls (WritesAllReports (scope_of noted list) (start_at listed only start position nothing_awaited) e e') ending input rest failed w w') begins
+    (subst (λ expected. IsRunFrom (start_at listed only start begun expected) (told start) (behind start) calls (WritesAllReports (scope_of noted list) (start_at listed only start begun expected) e e') ending input rest failed w w') none played)))
 
 -- what the errors hold is what they hold at the end
 pub reported_at : {start first : RunStart} {told behind : List LineStep → List ℕ} {calls : Bool} {scope : ReportScope} {e e1 e2 : Option (List ℕ)} {ending : ScenarioEnd} {input rest : Option (List ℕ)} {failed : Bool} {w w' : Option (List ℕ)} →

@@ -11,7 +11,7 @@ use Rattle.run_devices.specs.RunOutput.{OutputsUnless}
 use Rattle.run_lines.specs.declared.line_answer.LineAnswer.{LineAnswer}
 use Rattle.run_lines.specs.declared.line_run_fault.LineRunFault.{LineRunFault}
 use Rattle.line_steps.specs.ResolvedLines.{ResolvedLine}
-use Rattle.line_steps.specs.ResolvedViews.{resolved_view}
+use Rattle.line_steps.specs.ResolvedViews.{HasParsedCall, resolved_view}
 use Rattle.run_scenario.specs.RunCalls.{text_of_calls}
 use Rattle.run_scenario.specs.LineSteps.{calls_in}
 use Rattle.run_scenario.specs.Observation.{Watches}
@@ -42,6 +42,7 @@ answer_of o = option_map (λ it. it.answer) o
 -- a line of this number had its step: what it is after substitution, the world after its call, and the answer, if there is one
 pub record TakesStep (only : Option (List ℕ)) (number : ℕ) (resolved : ResolvedLine) (old new : World) (step : LineStep) : Type 0 where
   pub resolved_is : resolved_view step.resolved ≡ resolved
+  pub parsed : HasParsedCall step.resolved
   pub world : new ≡ after_all only old (calls_in resolved)
   pub heard : IsAnsweredCall only old number (calls_in resolved) step.answered
   pub read : IfSome step.answered (λ it. IsReadAs it.line.now it.call)

@@ -9,6 +9,7 @@ pub mod RunCalls
 pub mod ScenarioRuns
 pub mod Said
 pub mod Texts
+pub mod UnknownNames
 pub mod LineSteps
 pub mod Observation
 pub mod Writes

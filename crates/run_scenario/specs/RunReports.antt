@@ -21,12 +21,12 @@ scope_of subject list = record { subject = subject; list = list }
 -- this is written for a line at a position: one error if the line has one, and else nothing
 abbrev pub IsReported : ReportScope → Option (List ℕ) → World → RunPosition → List ℕ → Awaited → List ℕ → Type 0
 IsReported scope only world position line awaited text =
-    IsReport scope.subject position.number (has_error only world (is_meant_line line) (resolved_at only position line) awaited) text
+    IsReport scope.subject position.number (has_error scope.list only world (is_meant_line line) (resolved_at only position line) awaited) text
 
 -- and it is appended to what is written before
 abbrev pub ReportsLine : ReportScope → Option (List ℕ) → World → RunPosition → List ℕ → Awaited → Option (List ℕ) → Option (List ℕ) → Type 0
 ReportsLine scope only world position line awaited old new =
-    AppendsReport scope.subject position.number (has_error only world (is_meant_line line) (resolved_at only position line) awaited) old new
+    AppendsReport scope.subject position.number (has_error scope.list only world (is_meant_line line) (resolved_at only position line) awaited) old new
 
 -- this is written for lines, one after another
 abbrev pub AreReported : ReportScope → Option (List ℕ) → World → RunPosition → Awaited → List (List ℕ) → List ℕ → Type 0

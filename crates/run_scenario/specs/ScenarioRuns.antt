@@ -3,6 +3,7 @@ use Rattle.std.specs.Prelude.{◌≡◌, ℕ, ◌+◌, ◌^◌, ◌<◌, ◌≤�
 use Rattle.std.specs.Int.{from_bool}
 use Rattle.line_steps.specs.ResolvedLines.{ResolvedLine}
 use Rattle.line_steps.specs.RunPosition.{RunPosition, arrived, crosses, passed}
+use Rattle.own_model.specs.Listed.{Listed}
 use Rattle.own_model.specs.World.{World}
 use Rattle.run_lines.specs.Answered.{after_all}
 use Rattle.run_lines.specs.Faults.{Fails}
@@ -35,18 +36,18 @@ abbrev pub tally : ℕ → Awaited → Tally
 tally errors awaited = record { errors = errors; awaited = awaited }
 
 -- lines in their steps lead from one tally to another; the number of errors stops at `u64::MAX`
-pub record Tallies (only : Option (List ℕ)) (start : World) (old new : Tally) (steps : List LineStep) : Type 0 where
+pub record Tallies (list : Listed) (only : Option (List ℕ)) (start : World) (old new : Tally) (steps : List LineStep) : Type 0 where
   pub awaits : new.awaited ≡ awaited_behind old.awaited steps
-  pub counts : old.errors + errors_in only start old.awaited steps < 2 ^ 64 →
-      new.errors ≡ old.errors + errors_in only start old.awaited steps
+  pub counts : old.errors + errors_in list only start old.awaited steps < 2 ^ 64 →
+      new.errors ≡ old.errors + errors_in list only start old.awaited steps
 
 -- lines lead from one world to another, from a first position to this one, their calls were observed, and their errors counted and
 -- reported
-pub record LeadsSteps (only : Option (List ℕ)) (start world : World) (first position : RunPosition) (tally now_tally : Tally)
+pub record LeadsSteps (list : Listed) (only : Option (List ℕ)) (start world : World) (first position : RunPosition) (tally now_tally : Tally)
     (reports : List (List ℕ) → Type 0) (seen : List (List ℕ) → Type 0) (lines : List (List ℕ)) : Type 0 where
   pub world_is : world ≡ after_all only start (calls_of_steps (steps_of only start first lines))
   pub stands : position ≡ position_behind only start first lines
-  pub tallies : Tallies only start tally now_tally (steps_of only start first lines)
+  pub tallies : Tallies list only start tally now_tally (steps_of only start first lines)
   pub reported : reports lines
   pub sees : seen (calls_answered only (steps_of only start first lines))
 
@@ -95,13 +96,13 @@ point world position awaited written gathered =
 
 -- a line is run by whether it is meant, and by what it is: its call is answered and reported, the position moves on, and the line is checked, unless there is
 -- a fault, which it may have
-pub record RunsLine (only : Option (List ℕ)) (tells : World → List (List ℕ) → ℕ → List ℕ → List ℕ) (calls : Bool)
+pub record RunsLine (list : Listed) (only : Option (List ℕ)) (tells : World → List (List ℕ) → ℕ → List ℕ → List ℕ) (calls : Bool)
     (seen now_seen : World → List (List ℕ) → Type 0) (meant : Bool) (resolved : ResolvedLine) (failed : Bool) (result : Result Bool LineRunFault)
     (old new : Point) : Type 0 where
   pub hears : ReportsCalls only tells seen now_seen old.position.number (calls_in resolved) old.world new.world result old.written old.gathered
       new.written new.gathered
   pub stands : OnOk result (new.position ≡ arrived (position_after only old.world (passed old.position) resolved))
-  pub judged : IfOk result (λ complained. complained ≡ has_error only old.world meant resolved old.awaited)
+  pub judged : IfOk result (λ complained. complained ≡ has_error list only old.world meant resolved old.awaited)
   pub expects : OnOk result (new.awaited ≡ awaited_after old.position.number resolved old.awaited)
   pub failing : Fails result failed (takes_memory calls resolved || crosses old.position)
 
@@ -116,9 +117,9 @@ abbrev pub TakesMemoryFor : Bool → Option LineRunFault → List LineStep → T
 TakesMemoryFor calls fault steps = IfSome fault (λ f. TakesMemory calls f steps)
 
 -- the errors of a scenario's lines in their steps are counted, after so many others and with this expectation at first
-abbrev pub CountsErrors : Option (List ℕ) → World → Tally → ℕ → List LineStep → Type 0
-CountsErrors only start tally errors steps =
-    tally.errors + errors_of only start tally.awaited steps < 2 ^ 64 → errors ≡ tally.errors + errors_of only start tally.awaited steps
+abbrev pub CountsErrors : Listed → Option (List ℕ) → World → Tally → ℕ → List LineStep → Type 0
+CountsErrors list only start tally errors steps =
+    tally.errors + errors_of list only start tally.awaited steps < 2 ^ 64 → errors ≡ tally.errors + errors_of list only start tally.awaited steps
 
 -- a scenario is run from its first position to its end or to a fault, after a text
 pub record RunsAll (tells : List (List ℕ) → ℕ → List ℕ → List ℕ) (calls : Bool) (seen : List (List ℕ) → Type 0)

@@ -1,14 +1,12 @@
 -- The text that a command writes for a scenario: the text for the lines that were run, and the text after it.
-use Rattle.std.specs.Prelude.{◌≡◌, ◌⊎◌, ℕ, Bool, true, false, List, [], ◌++◌, length, codes, decimal, Option, Some, None, IfSome, IfNone, Result, Ok, Err}
+use Rattle.std.specs.Prelude.{◌≡◌, ◌⊎◌, ℕ, Bool, List, [], ◌++◌, length, Option, Some, None, IfSome, IfNone, Result, Ok, Err}
 use Rattle.std.specs.Io.KnownBytes.{Appends}
-use Rattle.std.specs.Option.{option_copied}
 use Rattle.own_model.specs.Listed.{Listed}
 use Rattle.own_model.specs.Text.{lines_of}
 use Rattle.own_model.specs.Transcript.{transcript_after}
 use Rattle.own_model.specs.World.{World}
-use Rattle.run_lines.specs.Answered.{after_all}
 use Rattle.run_devices.specs.Lines.{AreReadable}
-use Rattle.run_lines.specs.Machine.{accounts_for, world_of}
+use Rattle.run_lines.specs.Machine.{world_of}
 use Rattle.run_devices.specs.RunOutput.{AppendsPart}
 use Rattle.run_scenario.specs.Judging.{Awaited, errors_of, nothing_awaited}
 use Rattle.run_scenario.specs.RunCalls.{calls_answered}
@@ -35,15 +33,17 @@ WritesBoth (Some WriteFault) input lines old new told behind =
 WritesBoth (Some TooManyLines) input lines old new told behind = Appends old new told
 WritesBoth (Some NoMemory) input lines old new told behind = AppendsPart old new told
 
--- where a run begins: whose calls are answered, the machine, the position, and the log lines that are expected
+-- where a run begins: the list, whose calls are answered, the machine, the position, and the log lines that are expected
 pub record RunStart : Type 0 where
+  pub list : Listed
   pub only : Option (List ℕ)
   pub world : World
   pub position : RunPosition
   pub awaited : Awaited
 
-abbrev pub start_at : Option (List ℕ) → World → RunPosition → Awaited → RunStart
-start_at only world position awaited = record { only = only; world = world; position = position; awaited = awaited }
+abbrev pub start_at : Listed → Option (List ℕ) → World → RunPosition → Awaited → RunStart
+start_at list only world position awaited =
+    record { list = list; only = only; world = world; position = position; awaited = awaited }
 
 -- the steps of a scenario's lines from there on
 abbrev pub steps_from : RunStart → List (List ℕ) → List LineStep
@@ -60,7 +60,7 @@ pub record IsRunFrom (start : RunStart) (told behind : List LineStep → List �
   pub takes : TakesMemoryFor calls ending.fault (steps_from start given)
   pub counted : IfNone ending.fault (ending.lines ≡ length given)
   pub complained : IfNone ending.fault
-      (ending.complaints ≡ errors_of start.only start.world start.awaited (steps_from start given))
+      (ending.complaints ≡ errors_of start.list start.only start.world start.awaited (steps_from start given))
   pub reported : IfNone ending.fault (reports given)
   pub writes : WritesBoth ending.fault input given written now_written (told (steps_from start given)) (behind (steps_from start given))
 
@@ -86,7 +86,7 @@ steps_on only first listed lines = steps_of only (world_of listed) first lines
 
 -- a run begins there, and no log line is expected
 abbrev pub start_on : Option (List ℕ) → RunPosition → Listed → RunStart
-start_on only first listed = start_at only (world_of listed) first nothing_awaited
+start_on only first listed = start_at listed only (world_of listed) first nothing_awaited
 
 -- nothing is written
 abbrev pub nothing_told : List LineStep → List ℕ

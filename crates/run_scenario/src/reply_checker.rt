@@ -1,19 +1,24 @@
 //! Compares answers with expectations.
-ghost use Rattle.std.specs.Prelude.{◌≡◌, ◌||◌, Some, false, true, not, is_some, IfErr, IfOk, OnOk};
+ghost use Rattle.std.specs.Prelude.{◌≡◌, ◌&&◌, Some, false, true, not, is_some, IfErr, IfOk, IfSome, OnOk};
 ghost use Rattle.std.specs.Option.{option_copied};
 ghost use Rattle.line_friendly.specs.Expected.{can_pass};
+ghost use Rattle.line_grammar.specs.Read.{IsReadAs};
 ghost use Rattle.run_lines.specs.Faults.{Fails};
 ghost use Rattle.view_diagnostics.specs.Diagnostics.{subject_at};
 ghost use Rattle.run_scenario.specs.Complaints.{WritesUnless};
 ghost use Rattle.run_scenario.specs.Judging.{answer_text, awaited_more, differs, is_other, nothing_awaited, text_in};
 ghost use Rattle.run_scenario.specs.LineSteps.{is_meant_line};
 ghost use Rattle.run_scenario.specs.Reports.{Reports, left_over_report};
+ghost use Rattle.run_scenario.specs.UnknownNames.{names_unknown};
 ghost use Rattle.run_lines.specs.declared.line_run_fault.LineRunFault.TheVariants.{NoMemory as NoRoom};
 
+use crate::call_observer::ObservedCall;
 use crate::complaint::{report, report_reply};
 use crate::expected_log::ExpectedLog;
 use crate::misreading::Misreading;
 use crate::source_line::{JudgedLine, LinePlace, SourceLine, is_meant_line};
+use crate::text::word_at;
+use crate::unknown_names::names_unknown;
 use line_friendly::{FriendlyFault, can_pass, end_of, meets};
 use line_names::{DirectiveFault, NameFault, NameTable, token_at};
 use list_parser::StartList;
@@ -54,23 +59,24 @@ impl<'a> ReplyChecker<'a> {
         Ok(false)
     }
 
-    /// Checks the answer of a line's call on the machine of a list, and writes an error if the line has one. A line whose reply says
-    /// that it wasn't understood has one, unless the line expects this whole reply or is meant. With an expected reply, the reply and
-    /// the log lines are compared. Without one, no log lines may be expected. A skipped call has no error. The line is given as filled
-    /// with `known`. The error returned is a failed write.
+    /// Checks the answer of a line's call on the machine of a list, and writes an error if the line has one. A line has one that isn't
+    /// understood, as its reply says or by a name in its call, unless the line expects this whole reply or is meant. With an expected
+    /// reply, the reply and the log lines are compared. Without one, no log lines may be expected. A skipped call has no error. The
+    /// line is given as filled with `known`. The error returned is a failed write.
     #[inline(always)]
     pub fn judge<E: Sink>(
         &mut self,
         list: &StartList,
         asked: JudgedLine<'_>,
         known: &NameTable,
-        answer: Option<LineAnswer<'_>>,
+        heard: &Option<ObservedCall<'_>>,
         sink: &mut E,
     ) -> Result<bool, LineRunFault>
-        requires { E.has_failed sink.old ≡ false }
+        requires read { IfSome heard.now (λ it. IsReadAs it.line.now it.call) }
+        requires works { E.has_failed sink.old ≡ false }
         ensures judged { IfOk result (λ complained. complained
             ≡ is_other (is_meant_line asked.entry.given.line.now) (option_copied asked.entry.reply)
-            (text_in answer.entry) self.old.expected) }
+            (text_in list.now heard.now) self.old.expected) }
         ensures reports { Reports (subject_at self.old.scenario) asked.entry.given.number result
             (E.contents sink.old) (E.contents sink.new) }
         ensures forgets { self.new.expected ≡ nothing_awaited }
@@ -78,8 +84,8 @@ impl<'a> ReplyChecker<'a> {
         ensures works { OnOk result (E.has_failed sink.new ≡ false) }
         ensures failing { Fails result (E.has_failed sink.new) false }
     {
-        let judged = match answer {
-            Some(answer) => self.check(list, asked, known, answer, sink),
+        let judged = match heard {
+            Some(heard) => self.check(list, asked, known, heard, sink),
             None => Ok(false),
         };
         self.forget_expected();
@@ -93,23 +99,24 @@ impl<'a> ReplyChecker<'a> {
         list: &StartList,
         asked: JudgedLine<'_>,
         known: &NameTable,
-        answer: LineAnswer<'_>,
+        heard: &ObservedCall<'_>,
         sink: &mut E,
     ) -> Result<bool, LineRunFault>
-        requires { E.has_failed sink.old ≡ false }
+        requires read { IsReadAs heard.now.line.now heard.now.call }
+        requires works { E.has_failed sink.old ≡ false }
         ensures judged { IfOk result (λ complained. complained
-            ≡ (not (can_pass (option_copied asked.entry.reply) answer.entry.reply.now || is_meant_line asked.entry.given.line.now)
-            || differs (option_copied asked.entry.reply) (answer_text answer.entry) self.now.expected)) }
+            ≡ is_other (is_meant_line asked.entry.given.line.now) (option_copied asked.entry.reply)
+            (Some (answer_text list.now heard.now)) self.now.expected) }
         ensures reports { Reports (subject_at self.now.scenario) asked.entry.given.number result
             (E.contents sink.old) (E.contents sink.new) }
         ensures works { OnOk result (E.has_failed sink.new ≡ false) }
         ensures failing { Fails result (E.has_failed sink.new) false }
     {
-        if !(can_pass(asked.reply, answer.reply) || is_meant_line(asked.given.line)) {
-            return self.report_misread(list, asked, known, answer, sink);
+        if !(is_understood(list, asked.reply, heard) || is_meant_line(asked.given.line)) {
+            return self.report_misread(list, asked, known, heard, sink);
         }
         match asked.reply {
-            Some(reply) => self.check_reply(asked, known, reply, answer, sink),
+            Some(reply) => self.check_reply(asked, known, reply, heard.answer, sink),
             None => self.check_silent(asked.given.number, sink),
         }
     }
@@ -145,7 +152,7 @@ impl<'a> ReplyChecker<'a> {
     ) -> Result<bool, LineRunFault>
         requires { E.has_failed sink.old ≡ false }
         ensures judged { IfOk result (λ complained. complained
-            ≡ differs (Some reply.now) (answer_text answer.entry) self.now.expected) }
+            ≡ differs (Some reply.now) answer.entry.reply.now answer.entry.lines.now self.now.expected) }
         ensures reports { Reports (subject_at self.now.scenario) asked.entry.given.number result
             (E.contents sink.old) (E.contents sink.new) }
         ensures works { OnOk result (E.has_failed sink.new ≡ false) }
@@ -180,7 +187,7 @@ impl<'a> ReplyChecker<'a> {
         list: &StartList,
         asked: JudgedLine<'_>,
         known: &NameTable,
-        answer: LineAnswer<'_>,
+        heard: &ObservedCall<'_>,
         sink: &mut E,
     ) -> Result<bool, LineRunFault>
         requires { E.has_failed sink.old ≡ false }
@@ -191,7 +198,7 @@ impl<'a> ReplyChecker<'a> {
         ensures failing { Fails result (E.has_failed sink.new) false }
     {
         let number = asked.given.number;
-        match Misreading::of(asked, answer.reply) {
+        match Misreading::of(list, asked, heard.call, heard.answer.reply) {
             Some(found) => {
                 let column = asked.column(known, found.column);
                 let near = found.near(self.alloc, list);
@@ -201,7 +208,7 @@ impl<'a> ReplyChecker<'a> {
             None => {
                 let reply = asked.reply.unwrap_or(b"");
                 let column = asked.column(known, column_of(asked.line, reply));
-                self.complain_of_reply(LinePlace { number, column }, answer, reply, sink)
+                self.complain_of_reply(LinePlace { number, column }, heard.answer, reply, sink)
             }
         }
     }
@@ -228,7 +235,7 @@ impl<'a> ReplyChecker<'a> {
         ensures works { OnOk result (E.has_failed sink.new ≡ false) }
         ensures failing { Fails result (E.has_failed sink.new) true }
     {
-        let token = String::from_utf8_lossy(self.alloc, token_at(given.line, fault.column))?;
+        let token = String::from_utf8_lossy(self.alloc, word_at(given.line, fault.column))?;
         let message = fault.reason.about(token.as_str()).to_string(self.alloc)?;
         self.complain(given.at(fault.column), &[message.as_bytes()], sink)
     }
@@ -375,6 +382,16 @@ impl<'a> ReplyChecker<'a> {
         report_reply(self.scenario, sink, place, answer, expected)?;
         Ok(true)
     }
+}
+
+// Returns whether a call is understood, as its reply and its names say, on the machine of a list.
+#[inline(always)]
+fn is_understood(list: &StartList, expected: Option<&[u8]>, heard: &ObservedCall<'_>) -> bool
+    requires { IsReadAs heard.now.line.now heard.now.call }
+    ensures { result ≡ (can_pass (option_copied expected.entry) heard.now.answer.reply.now
+        && not (names_unknown list.now heard.now.line.now)) }
+{
+    can_pass(expected, heard.answer.reply) && !names_unknown(list, heard.line, heard.call)
 }
 
 // Returns the column at which the reply at the end of a line begins.

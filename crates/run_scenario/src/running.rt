@@ -34,11 +34,11 @@ pub fn play<R: Router + Drop, W: CallObserver, S: Source, K: Sink, E: Sink>(
         (K.has_failed writer.old || E.has_failed runner.old.complaints.now) ≡ None →
         RunsAll (W.tells runner.old.observer.now core.old) W.takes
         (W.sees runner.new.observer.now runner.old.run.now.list.now core.old)
-        (CountsErrors (option_copied runner.old.run.now.only) core.old
+        (CountsErrors runner.old.run.now.list.now (option_copied runner.old.run.now.only) core.old
         (tally runner.old.complained runner.old.state.now.checker.expected) result.complaints)
         (WritesAllReports
         (scope_of (subject_at runner.old.state.now.checker.scenario) runner.old.run.now.list.now)
-        (start_at (option_copied runner.old.run.now.only) core.old runner.old.state.now.position
+        (start_at runner.old.run.now.list.now (option_copied runner.old.run.now.only) core.old runner.old.state.now.position
         runner.old.state.now.checker.expected)
         (E.contents runner.old.complaints.now) (E.contents runner.new.complaints.now))
         (option_copied runner.old.run.now.only) runner.old.state.now.position result.fault result.lines core.old

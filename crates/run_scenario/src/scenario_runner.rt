@@ -75,7 +75,7 @@ impl<W: CallObserver, E: Sink> ScenarioRunner<'_, '_, '_, '_, '_, '_, '_, W, E> 
             (subject_at self.new.state.now.checker.scenario)
             (W.tells self.old.observer.now) (W.tells self.new.observer.now)
             (W.holds self.old.observer.now) (W.holds self.new.observer.now) }
-        ensures plays { RunsLine (option_copied self.old.run.now.only) (W.tells self.old.observer.now)
+        ensures plays { RunsLine self.old.run.now.list.now (option_copied self.old.run.now.only) (W.tells self.old.observer.now)
             W.takes (W.sees self.old.observer.now self.old.run.now.list.now)
             (W.sees self.new.observer.now self.old.run.now.list.now)
             (is_meant_line line.now) (resolved_at (option_copied self.old.run.now.only) self.old.state.now.position
@@ -124,7 +124,7 @@ impl<W: CallObserver, E: Sink> ScenarioRunner<'_, '_, '_, '_, '_, '_, '_, W, E> 
             (subject_at self.new.state.now.checker.scenario)
             (W.tells self.old.observer.now) (W.tells self.new.observer.now)
             (W.holds self.old.observer.now) (W.holds self.new.observer.now) }
-        ensures plays { RunsLine (option_copied self.old.run.now.only) (W.tells self.old.observer.now)
+        ensures plays { RunsLine self.old.run.now.list.now (option_copied self.old.run.now.only) (W.tells self.old.observer.now)
             W.takes (W.sees self.old.observer.now self.old.run.now.list.now)
             (W.sees self.new.observer.now self.old.run.now.list.now)
             (is_meant_line line.now) (resolved_at (option_copied self.old.run.now.only) self.old.state.now.position
@@ -151,9 +151,7 @@ impl<W: CallObserver, E: Sink> ScenarioRunner<'_, '_, '_, '_, '_, '_, '_, W, E> 
             self.buffers,
         );
         match report_call(self.observer, core, list, &heard, gathered, writer) {
-            Ok(()) => self
-                .state
-                .take_plain(list, line, call, &heard, self.complaints),
+            Ok(()) => self.state.take_plain(list, line, &heard, self.complaints),
             Err(fault) => Err(fault),
         }
     }
@@ -176,7 +174,7 @@ impl<W: CallObserver, E: Sink> ScenarioRunner<'_, '_, '_, '_, '_, '_, '_, W, E> 
             (subject_at self.new.state.now.checker.scenario)
             (W.tells self.old.observer.now) (W.tells self.new.observer.now)
             (W.holds self.old.observer.now) (W.holds self.new.observer.now) }
-        ensures plays { RunsLine (option_copied self.old.run.now.only) (W.tells self.old.observer.now)
+        ensures plays { RunsLine self.old.run.now.list.now (option_copied self.old.run.now.only) (W.tells self.old.observer.now)
             W.takes (W.sees self.old.observer.now self.old.run.now.list.now)
             (W.sees self.new.observer.now self.old.run.now.list.now)
             (is_meant_line line.now) (resolved_at (option_copied self.old.run.now.only) self.old.state.now.position
@@ -211,12 +209,12 @@ impl<W: CallObserver, E: Sink> LineHandler for ScenarioRunner<'_, '_, '_, '_, '_
         Remains first.complaints.ghost_name runner.complaints.ghost_name first.run.now runner.run.now
         (subject_at first.state.now.checker.scenario) (subject_at runner.state.now.checker.scenario)
         (W.tells first.observer.now) (W.tells runner.observer.now) (W.holds first.observer.now) (W.holds runner.observer.now)
-        × LeadsSteps (option_copied first.run.now.only) start world first.state.now.position
+        × LeadsSteps first.run.now.list.now (option_copied first.run.now.only) start world first.state.now.position
         runner.state.now.position
         (tally first.complained first.state.now.checker.expected)
         (tally runner.complained runner.state.now.checker.expected)
         (WritesReports (scope_of (subject_at first.state.now.checker.scenario) first.run.now.list.now)
-        (start_at (option_copied first.run.now.only) start first.state.now.position
+        (start_at first.run.now.list.now (option_copied first.run.now.only) start first.state.now.position
         first.state.now.checker.expected)
         (E.contents first.complaints.now) (E.contents runner.complaints.now))
         (W.sees runner.observer.now first.run.now.list.now start) lines };

@@ -1,7 +1,8 @@
 //! The state of a run between two lines.
-ghost use Rattle.std.specs.Prelude.{◌≡◌, ◌||◌, IfErr, IfOk, OnErr, OnOk, false, true};
+ghost use Rattle.std.specs.Prelude.{◌≡◌, ◌||◌, IfErr, IfOk, IfSome, OnErr, OnOk, false, true};
 ghost use Rattle.std.specs.Option.{option_copied};
 ghost use Rattle.run_lines.specs.Faults.{Fails};
+ghost use Rattle.line_grammar.specs.Read.{IsReadAs};
 ghost use Rattle.line_names.specs.Views.{directive_view, filled_view};
 ghost use Rattle.line_steps.specs.ResolvedViews.{call_view, resolved_view};
 ghost use Rattle.run_scenario.specs.Faults.{takes_memory};
@@ -20,7 +21,7 @@ use crate::source_line::{JudgedLine, SourceLine};
 use line_names::{Directive, FilledLine};
 use line_steps::{ResolvedLine, RunPosition, ScenarioCall};
 use list_parser::StartList;
-use run_lines::{LineAnswer, LineRunFault, NamedCall, Sink};
+use run_lines::{LineAnswer, LineRunFault, Sink};
 use std::alloc::Global;
 use view_diagnostics::Subject;
 
@@ -56,9 +57,10 @@ impl<'a> ScenarioState<'a> {
         step: &LineStep<'x>,
         complaints: &mut E,
     ) -> Result<bool, LineRunFault>
+        requires read { IfSome step.now.answered (λ it. IsReadAs it.line.now it.call) }
         requires works { E.has_failed complaints.old ≡ false }
         ensures judged { IfOk result (λ complained. complained ≡ is_complained
-            (is_meant_line line.now) (resolved_view step.now.resolved) (text_in (answer_of step.now.answered))
+            (is_meant_line line.now) (resolved_view step.now.resolved) (text_in list.now step.now.answered)
             self.old.checker.expected) }
         ensures expects { OnOk result (self.new.checker.expected ≡ awaited_after
             self.old.position.number (resolved_view step.now.resolved) self.old.checker.expected) }
@@ -84,9 +86,10 @@ impl<'a> ScenarioState<'a> {
         step: &LineStep<'x>,
         complaints: &mut E,
     ) -> Result<bool, LineRunFault>
+        requires read { IfSome step.now.answered (λ it. IsReadAs it.line.now it.call) }
         requires works { E.has_failed complaints.old ≡ false }
         ensures judged { IfOk result (λ complained. complained ≡ is_complained
-            (is_meant_line line.now) (resolved_view step.now.resolved) (text_in (answer_of step.now.answered))
+            (is_meant_line line.now) (resolved_view step.now.resolved) (text_in list.now step.now.answered)
             self.old.checker.expected) }
         ensures expects { OnOk result (self.new.checker.expected ≡ awaited_after
             self.old.position.number (resolved_view step.now.resolved) self.old.checker.expected) }
@@ -117,8 +120,7 @@ impl<'a> ScenarioState<'a> {
             ResolvedLine::Nothing => Ok(false),
             ResolvedLine::Log(text) => self.checker.expect_line(number, *text),
             ResolvedLine::Call(call) => {
-                let answer = answer_in(&step.answered);
-                self.judge_call(list, given, call, answer, complaints)
+                self.judge_call(list, given, call, &step.answered, complaints)
             }
             ResolvedLine::BadLine(fault) => {
                 self.checker.report_bad_line(given, *fault, complaints)
@@ -129,17 +131,17 @@ impl<'a> ScenarioState<'a> {
     /// Accepts a plain call on the machine of a list: checks its answer, and enters and leaves the rounds after it. Returns
     /// whether the line has an error. The error is a failed write or that the host is out of memory.
     #[inline(always)]
-    pub fn take_plain<'x, E: Sink>(
+    pub fn take_plain<E: Sink>(
         &mut self,
         list: &StartList,
-        line: &'x [u8],
-        call: NamedCall<'x>,
+        line: &[u8],
         heard: &Option<ObservedCall<'_>>,
         complaints: &mut E,
     ) -> Result<bool, LineRunFault>
+        requires read { IfSome heard.now (λ it. IsReadAs it.line.now it.call) }
         requires works { E.has_failed complaints.old ≡ false }
         ensures judged { IfOk result (λ complained. complained ≡ is_complained
-            (is_meant_line line.now) (plain_line line.now) (text_in (answer_of heard.now)) self.old.checker.expected) }
+            (is_meant_line line.now) (plain_line line.now) (text_in list.now heard.now) self.old.checker.expected) }
         ensures expects { OnOk result (self.new.checker.expected ≡ awaited_after
             self.old.position.number (plain_line line.now) self.old.checker.expected) }
         ensures stands { OnOk result (Arrives self.old.position
@@ -154,14 +156,10 @@ impl<'a> ScenarioState<'a> {
         let asked = JudgedLine {
             given: SourceLine { number, line },
             line,
-            call: Some(call),
             reply: None,
         };
         let known = self.position.known();
-        match self
-            .checker
-            .judge(list, asked, known, answer_in(heard), complaints)
-        {
+        match self.checker.judge(list, asked, known, heard, complaints) {
             Ok(complained) => self.arrive(complained),
             Err(fault) => Err(fault),
         }
@@ -198,15 +196,16 @@ impl<'a> ScenarioState<'a> {
         list: &StartList,
         given: SourceLine<'_>,
         call: &ScenarioCall<'_>,
-        answer: Option<LineAnswer<'_>>,
+        heard: &Option<ObservedCall<'_>>,
         complaints: &mut E,
     ) -> Result<bool, LineRunFault>
+        requires read { IfSome heard.now (λ it. IsReadAs it.line.now it.call) }
         requires works { E.has_failed complaints.old ≡ false }
         ensures judged { IfOk result (λ complained. complained
-            ≡ is_complained (is_meant_line given.entry.line.now) (call_view call.now) (text_in answer.entry) self.old.checker.expected) }
+            ≡ is_complained (is_meant_line given.entry.line.now) (call_view call.now) (text_in list.now heard.now) self.old.checker.expected) }
         ensures forgets { self.new.checker.expected ≡ nothing_awaited }
         ensures stands { OnOk result
-            (self.new.position ≡ position_with self.old.position (call_view call.now) answer.entry) }
+            (self.new.position ≡ position_with self.old.position (call_view call.now) (answer_of heard.now)) }
         ensures failing { Fails result (E.has_failed complaints.new)
             (takes_memory false (call_view call.now)) }
         ensures reports { Reports (subject_at self.old.checker.scenario) given.entry.number result
@@ -216,12 +215,11 @@ impl<'a> ScenarioState<'a> {
         let asked = JudgedLine {
             given,
             line: call.filled.line,
-            call: call.call,
             reply: call.reply,
         };
         let known = self.position.known();
-        match self.checker.judge(list, asked, known, answer, complaints) {
-            Ok(complained) => match learn(&mut self.position, &call.filled, answer) {
+        match self.checker.judge(list, asked, known, heard, complaints) {
+            Ok(complained) => match learn(&mut self.position, &call.filled, answer_in(heard)) {
                 Ok(()) => Ok(complained),
                 Err(fault) => Err(fault),
             },

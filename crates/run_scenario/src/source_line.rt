@@ -4,7 +4,6 @@ ghost use Rattle.run_scenario.specs.LineSteps.{is_meant_line};
 
 use line_friendly::{is_meant, is_passed};
 use line_names::{NameTable, source_column};
-use run_lines::NamedCall;
 
 /// A line of a scenario before substitution.
 #[derive(Clone, Copy)]
@@ -45,15 +44,13 @@ impl SourceLine<'_> {
     }
 }
 
-/// A line that is checked: before and after substitution, with its call and with its expected reply, if it has them.
+/// A line that is checked: before and after substitution, with its expected reply, if it has one.
 #[derive(Clone, Copy)]
 pub struct JudgedLine<'a> {
     /// The line before substitution.
     pub given: SourceLine<'a>,
     /// The line after substitution.
     pub line: &'a [u8],
-    /// The call that the engine parses of the line; nothing if it is no call.
-    pub call: Option<NamedCall<'a>>,
     /// The expected reply.
     pub reply: Option<&'a [u8]>,
 }

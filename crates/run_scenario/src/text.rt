@@ -11,8 +11,15 @@ ghost use Rattle.run_scenario.specs.Said.{caller_by, said_in};
 
 use core_calls::Call;
 use itoa::{Buffer, Integer};
+use line_friendly::next_word;
 use list_parser::StartList;
 use run_lines::{DeviceFault, NamedCall, Sink, WriteBuffer};
+
+/// Returns the text of a line from a column, from 1 on, up to the next blank.
+pub fn word_at(line: &[u8], column: usize) -> &[u8] {
+    let (word, _) = next_word(&line[column.saturating_sub(1).min(line.len())..]);
+    word
+}
 
 /// Gathers a number in decimal digits. The error is a failed write.
 pub fn put_number<I: Integer, K: Sink>(

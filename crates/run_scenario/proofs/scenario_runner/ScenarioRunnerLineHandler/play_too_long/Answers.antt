@@ -25,7 +25,7 @@ returns-clause-played g c = λ first start earlier line long led.
     (plays_as (sym (resolved_long only now.state.now.position line long)) (step_judged _ _ (is_meant_line line) TooLong None (said_none only) c.take_in-judged.result (hears_none told (sym (left_none only c.args._core.now)) (said_none only)) c.requires.works.writes
     c.take_in-judged.ensures.judged c.take_in-judged.ensures.expects c.take_in-judged.ensures.stands c.take_in-judged.ensures.failing))
     (reports_line (scope_of (subject_at now.state.now.checker.scenario) now.run.now.list.now) only c.args._core.now now.state.now.position line now.state.now.checker.expected (g.E.Sink.contents now.complaints.now) (g.E.Sink.contents c.take_in-judged.new.complaints) c.take_in-judged.result
-    (judged_long only c.args._core.now (is_meant_line line) now.state.now.checker.expected c.take_in-judged.result _ (resolved_long only now.state.now.position line long) c.take_in-judged.ensures.judged) c.take_in-judged.ensures.reports))
+    (judged_long now.run.now.list.now only c.args._core.now (is_meant_line line) now.state.now.checker.expected c.take_in-judged.result _ (resolved_long only now.state.now.position line long) c.take_in-judged.ensures.judged) c.take_in-judged.ensures.reports))
 
 pub returns-clause-ready : goal.returns-clause-ready
 returns-clause-ready g c = λ more ready. rw c.count.ensures.result (ready_next c.take_in-judged.result ready)

@@ -1,2 +1,0 @@
-pub mod AdviceLemmas
-pub mod TextLemmas

@@ -1,4 +1,0 @@
-pub mod Advice
-pub mod Messages
-pub mod Services
-pub mod Views
