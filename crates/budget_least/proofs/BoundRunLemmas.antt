@@ -8,7 +8,7 @@ use Rattle.line_names.specs.Filling.{FilledLine}
 use Rattle.line_names.specs.Learning.{learnt}
 use Rattle.list_parser.specs.Budgets.{changed_at}
 use Rattle.budget_search.specs.AmpleCalls.{Client}
-use Rattle.budget_least.specs.BoundRuns.{answered_by, budget_or, made_in, with_client, without_client, BoundRun}
+use Rattle.budget_least.specs.BoundRuns.{answered_by, budget_or, kept_by, made_in, with_client, without_client, BoundRun}
 use Rattle.budget_least.specs.declared.binding_run.BindingBudgets.{BindingBudgets}
 
 -- an element that is written, and written again
@@ -53,6 +53,15 @@ answered_is component filled old taken bound new client text take told learn put
       position = record old.position { known = learnt old.position.known filled client.text };
       clients = rewritten None (Some client) old.clients component i;
     })
+
+-- it makes no difference that a client was taken out before it is kept
+pub kept_taken : (binds : Bool) (component : ℕ) (filled : FilledLine) (client : Client) (run : BoundRun) →
+    kept_by binds component filled client (without_client component run) ≡ kept_by binds component filled client run
+kept_taken true component filled client run = λ i. record run {
+  position = record run.position { known = learnt run.position.known filled client.text };
+  clients = rewritten None (Some client) run.clients component i;
+}
+kept_taken false component filled client run = λ i. record run { clients = rewritten None (Some client) run.clients component i }
 
 -- the budget of a run is no more than the most
 pub within_most : (most : Amounts) (written : Option Amounts) → ((budget_or most written).ram ≤ most.ram) × ((budget_or most written).caps ≤ most.caps)

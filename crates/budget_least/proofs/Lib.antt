@@ -13,3 +13,4 @@ pub mod SessionLemmas
 pub mod AccountLemmas
 pub mod DraftLemmas
 pub mod LineDonationLemmas
+pub mod JudgedLemmas

@@ -100,6 +100,11 @@ answered_by component filled client run = record run {
   clients = with_client component client run.clients;
 }
 
+-- the same, if the reply binds names
+abbrev pub kept_by : Bool → ℕ → FilledLine → Client → BoundRun → BoundRun
+kept_by true component filled client run = answered_by component filled client run
+kept_by false component filled client run = record run { clients = with_client component client run.clients }
+
 -- the call of the line at a place among a component's is made by its client
 abbrev pub IsAnswered : ℕ → ℕ → Call → FilledLine → BoundRun → BoundRun → Type 0
 IsAnswered component place call filled old new =

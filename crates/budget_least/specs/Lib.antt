@@ -7,6 +7,7 @@ pub mod ComponentAccounts
 pub mod LineDonations
 pub mod Report
 pub mod ReportOf
+pub mod LineErrors
 pub mod WrittenList
 pub mod MemberValues
 pub mod ValueWriters

@@ -9,7 +9,6 @@ use Rattle.budget_search.specs.declared.account_budgets.AccountBudgets.{AccountB
 use Rattle.budget_least.specs.declared.machine_size.MachineSize.{MachineSize}
 use Rattle.budget_least.specs.declared.report.BudgetReport.{BudgetReport}
 use Rattle.budget_least.specs.declared.unmeasured_line.UnmeasuredLine.{UnmeasuredLine}
-use Rattle.budget_least.specs.declared.unmeasured_line.UnmeasuredMessage.{UnmeasuredMessage}
 
 -- the start list
 abbrev pub list_of : BudgetReport → Listed
@@ -31,7 +30,3 @@ HasSmallestMachine (Some sum) machine = HasSmallest sum machine
 -- the lines that aren't measured
 abbrev pub unmeasured_of : BudgetReport → List UnmeasuredLine
 unmeasured_of report = report.scene.unmeasured.items
-
--- the line that a message is about
-abbrev pub line_of : UnmeasuredMessage → UnmeasuredLine
-line_of message = message.line.now

@@ -3,8 +3,6 @@ use Rattle.std.specs.Prelude.{ℕ, ◌&&◌, Bool, true, false, List, ◌++◌, 
 use Rattle.std.specs.Option.{option_map_or}
 use Rattle.line_names.specs.declared.fault.NameReason.{NameReason}
 use Rattle.line_names.specs.declared.fault.NameReason.TheVariants.{UnknownName}
-use Rattle.line_steps.specs.Messages.{unread_message}
-use Rattle.line_steps.specs.ResolvedViews.{reason_column}
 use Rattle.line_steps.specs.declared.unread_line.UnreadReason.{UnreadReason}
 use Rattle.line_steps.specs.declared.unread_line.UnreadReason.TheVariants.{Name}
 use Rattle.budget_search.specs.declared.account_budgets.AccountBudgets.{AccountBudgets}
@@ -17,11 +15,6 @@ abbrev pub is_named_with : AccountBudgets → UnmeasuredLine → Bool
 is_named_with account line =
     not line.is_again && not (is_some account.session) && option_map_or (λ component. nat_eq component account.component) line.component false
 
--- the column of the token that can't be parsed, from 1 on; of a line whose names have other values, that of its first byte
-abbrev pub fault_column : UnmeasuredReason → ℕ
-fault_column (Unread why) = reason_column why
-fault_column Unsettled = 1
-
 -- a name in a line has no value
 abbrev pub is_unknown_name : NameReason → Bool
 is_unknown_name UnknownName = true
@@ -31,17 +24,10 @@ abbrev pub is_unbound : UnreadReason → Bool
 is_unbound (Name fault) = is_unknown_name fault.reason
 is_unbound why = false
 
--- the reason in the words of an account's block, and of a diagnostic: about this text of the line
+-- the reason in the words of an account's block, about this text of the line
 abbrev pub words_of : UnmeasuredReason → List ℕ → List ℕ
 words_of Unsettled token = codes "a name in it has another value with the minimum"
 words_of (Unread why) token = if is_unbound why then token ++ codes " is unbound" else codes "it can't be parsed"
 
 abbrev pub reason_text : UnmeasuredLine → List ℕ
 reason_text line = words_of line.why (string_bytes line.token)
-
-abbrev pub message_of : UnmeasuredReason → List ℕ → List ℕ
-message_of Unsettled token = codes "a name in this line has another value with the minimum budgets"
-message_of (Unread why) token = unread_message why token
-
-abbrev pub message_text : UnmeasuredLine → List ℕ
-message_text line = message_of line.why (string_bytes line.token)

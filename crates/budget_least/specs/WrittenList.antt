@@ -1,12 +1,16 @@
 -- A start list with the budgets of a report.
-use Rattle.std.specs.Prelude.{◌≡◌, ℕ, ◌-◌, ◌&&◌, ◌||◌, ◌==◌, Bool, true, false, List, length, codes, max, is_some, Option, Some, None, Ok}
+use Rattle.std.specs.Prelude.{◌≡◌, ℕ, ◌-◌, ◌&&◌, ◌||◌, ◌==◌, Bool, true, false, List, length, codes, max, is_some, Option, Some, None, Ok, Err}
 use Rattle.std.specs.List.{list_all, slice_get}
 use Rattle.std.specs.Option.{option_map_or}
 use Rattle.std.specs.Str.{bytes_eq}
 use Rattle.own_model.specs.Amounts.{Amounts}
 use Rattle.own_model.specs.Listed.{Listed, start_list_of}
 use Rattle.own_model.specs.StartList.{Boots}
+use Rattle.list_parser.specs.Quota.{quota_fault}
 use Rattle.list_parser.specs.StartText.{list_in}
+use Rattle.list_parser.specs.declared.fault.BootFault.{BootFault}
+use Rattle.list_parser.specs.declared.fault.BootFault.TheVariants.{BadConfig}
+use Rattle.list_parser.specs.declared.fault.ConfigField.TheVariants.{Start}
 use Rattle.budget_search.specs.BudgetIntervals.{chosen_of}
 use Rattle.budget_search.specs.declared.account_budgets.AccountBudgets.{AccountBudgets}
 use Rattle.budget_search.specs.declared.budget_intervals.BudgetChoice.{BudgetChoice}
@@ -65,3 +69,14 @@ pub record IsWritten (report : BudgetReport) (text written : List ℕ) : Type 0 
   pub smallest_is : HasSmallestMachine (sum_of report) smallest
   pub size : has_size list (size_of report.list.now smallest) ≡ true
   pub boots : is_some smallest ≡ true → Boots (start_list_of list)
+
+-- a text has no list of a report's budgets, with this fault: with them it is no start list; or it is the text of another list; or
+-- it doesn't boot, though a machine is large enough
+pub data LacksList (report : BudgetReport) (text : List ℕ) (fault : BootFault) : Type 0 where
+  unread : (written : List ℕ) → IsResized text written → list_in written ≡ Err fault → LacksList report text fault
+  other : (written : List ℕ) (list : Listed) (smallest : Option MachineSize) → IsResized text written → list_in written ≡ Ok list →
+      HasSmallestMachine (sum_of report) smallest →
+      list_all (has_budget list report.choice) report.accounts.items && has_size list (size_of report.list.now smallest) ≡ false →
+      fault ≡ BadConfig Start → LacksList report text fault
+  unbooted : (written : List ℕ) (list : Listed) → IsResized text written → list_in written ≡ Ok list → quota_fault list ≡ Some fault →
+      LacksList report text fault

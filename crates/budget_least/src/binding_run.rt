@@ -99,8 +99,8 @@ impl BindingBudgets<'_> {
         }
     }
 
-    // Makes the call of the line at a place among a component's.
-    fn make(
+    /// Makes the call of the line at a place among a component's.
+    pub(crate) fn make(
         self,
         alloc: Global,
         client: &mut AmpleClient<RouteTable>,
@@ -208,7 +208,7 @@ impl<'a, 'b, 'm> BindingRun<'a, 'b, 'm> {
     ghost use Rattle.line_names.specs.Learning.{learnt};
     ghost use Rattle.line_names.specs.Views.{directive_view, filled_view};
     ghost use Rattle.line_steps.specs.RunPosition.{arrived, passed, position_following};
-    ghost use Rattle.budget_least.specs.BoundRuns.{known_client, with_client, without_client, HasBooted, IsAnswered, IsAnsweredIf, IsClient};
+    ghost use Rattle.budget_least.specs.BoundRuns.{kept_by, known_client, with_client, without_client, HasBooted, IsAnswered, IsAnsweredIf, IsClient};
 
     /// Returns a run in which no component has made a call. The error is that the host is out of memory.
     pub(crate) fn new(
@@ -325,15 +325,15 @@ impl<'a, 'b, 'm> BindingRun<'a, 'b, 'm> {
         self.binds
     }
 
-    // Returns the budgets of the run.
-    fn budgets(&self) -> BindingBudgets<'b>
+    /// Returns the budgets of the run.
+    pub(crate) fn budgets(&self) -> BindingBudgets<'b>
         ensures { result ≡ self.now.budgets }
     {
         self.budgets
     }
 
-    // Binds the names of a filled line that its reply binds.
-    fn learn(&mut self, filled: &FilledLine<'_>, reply: &[u8]) -> Result<(), AllocError>
+    /// Binds the names of a filled line that its reply binds.
+    pub(crate) fn learn(&mut self, filled: &FilledLine<'_>, reply: &[u8]) -> Result<(), AllocError>
         ensures { OnOk result (self.new ≡ record self.old {
           position = record self.old.position {
             known = learnt self.old.position.known (filled_view filled.now) reply.now;
@@ -343,8 +343,8 @@ impl<'a, 'b, 'm> BindingRun<'a, 'b, 'm> {
         self.position.learn(filled, reply)
     }
 
-    // Takes the client of a component out of the run. A component that has made no call begins on its machine.
-    fn take_client(
+    /// Takes the client of a component out of the run. A component that has made no call begins on its machine.
+    pub(crate) fn take_client(
         &mut self,
         alloc: Global,
         component: usize,
@@ -369,13 +369,34 @@ impl<'a, 'b, 'm> BindingRun<'a, 'b, 'm> {
         self.clients[component].take()
     }
 
-    // Puts the client of a component into the run.
-    fn put_client(&mut self, component: usize, client: AmpleClient<RouteTable>)
+    /// Puts the client of a component into the run.
+    pub(crate) fn put_client(&mut self, component: usize, client: AmpleClient<RouteTable>)
         requires { component < length self.old.list.entries }
         ensures { self.new
             ≡ record self.old { clients = with_client component client self.old.clients } }
     {
         self.clients[component] = Some(client);
+    }
+
+    /// Puts the client of a component into the run, after the call of a line whose names its reply binds, if it does. The error is
+    /// that the host is out of memory.
+    pub(crate) fn keep(
+        &mut self,
+        component: usize,
+        client: AmpleClient<RouteTable>,
+        filled: &FilledLine<'_>,
+        binds: bool,
+    ) -> Result<(), AllocError>
+        requires { component < length self.old.list.entries }
+        ensures { OnOk result (self.new ≡ kept_by binds component (filled_view filled.now) client self.old) }
+    {
+        if !binds {
+            self.put_client(component, client);
+            return Ok(());
+        }
+        self.learn(filled, client.text())?;
+        self.put_client(component, client);
+        Ok(())
     }
 
     // Returns the client of a component that has made no call.

@@ -6,6 +6,7 @@
 
 mod binding_run;
 mod changed_line;
+mod judged_run;
 mod line_donations;
 mod lines_by_component;
 mod machine_size;
@@ -22,6 +23,7 @@ pub use budget_search::{
     AccountBudgets, BudgetChoice, BudgetGap, BudgetInterval, GivenBudget, Likeness, RefusedLine,
     SessionKey, Shortage, SkippedLine,
 };
+pub use judged_run::JudgeFault;
 pub use machine_size::MachineSize;
 pub use report::{BudgetQuery, BudgetReport};
-pub use unmeasured_line::{UnmeasuredLine, UnmeasuredMessage, UnmeasuredReason, UnmeasuredWords};
+pub use unmeasured_line::{UnmeasuredLine, UnmeasuredReason, UnmeasuredWords};

@@ -421,8 +421,8 @@ pub(crate) fn has_names(text: &[u8]) -> bool
     find_byte(b'$', text).is_some()
 }
 
-// Returns whether the refusal of a line is expected.
-fn expects_refusal(reply: Option<&[u8]>) -> bool
+/// Returns whether the refusal of a line is expected.
+pub(crate) fn expects_refusal(reply: Option<&[u8]>) -> bool
     ensures { result ≡ expects_refusal (option_copied reply.entry) }
 {
     match reply {
@@ -431,8 +431,8 @@ fn expects_refusal(reply: Option<&[u8]>) -> bool
     }
 }
 
-// Returns whether the refusal that a line expects may be a shortage of quota.
-fn may_be_short(reply: Option<&[u8]>) -> bool
+/// Returns whether the refusal that a line expects may be a shortage of quota.
+pub(crate) fn may_be_short(reply: Option<&[u8]>) -> bool
     ensures { result ≡ expects_shortage (option_copied reply.entry) }
 {
     let Some(expected) = reply else {
@@ -448,8 +448,8 @@ fn shows(shortage: Shortage, expected: &[u8]) -> bool
     meets(shortage.reply().as_bytes(), expected)
 }
 
-// Returns whether a call isn't denied by the routes of a list.
-fn is_routed(list: &StartList, component: usize, call: Call<'_>) -> bool
+/// Returns whether a call isn't denied by the routes of a list.
+pub(crate) fn is_routed(list: &StartList, component: usize, call: Call<'_>) -> bool
     requires { component < length list.now.entries }
     ensures { result ≡ is_routed list.now component (model_call call.entry) }
 {

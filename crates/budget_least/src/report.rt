@@ -12,7 +12,7 @@ ghost use Rattle.budget_least.specs.ComponentLines.{numbers_in, AreAllWritten, H
 ghost use Rattle.budget_least.specs.ReportOf.{first_budgets, AreFilledBy, AreUnsettledIf, HaveKept, IsDraft, IsDraftAt, IsReportIf, IsReportOf};
 ghost use Rattle.budget_least.specs.declared.binding_run.BindingBudgets.{BindingBudgets};
 ghost use Rattle.budget_least.specs.InitNeeds.{capped, is_entry_of, need_of, needed_below, sum_with, AreChanged, AreNeeded, AreNeededFrom};
-ghost use Rattle.budget_least.specs.WrittenList.{has_budget, IsResized, IsWritten};
+ghost use Rattle.budget_least.specs.WrittenList.{has_budget, IsResized, IsWritten, LacksList};
 ghost use Rattle.budget_least.specs.WrittenScenario.{scenario_of};
 
 use crate::binding_run::BindingBudgets;
@@ -373,7 +373,9 @@ impl<'a> BudgetReport<'a> {
     /// long. Then refuses with `BadConfig start` if the text isn't the report's. If a machine is large enough, the list with the
     /// budgets boots; otherwise refuses with the fault of the boot.
     pub fn start_list(&self, alloc: Global, text: &[u8]) -> Result<Vec<u8>, BootFault>
-        ensures { IfOk result (λ written. IsWritten self.now text.now written.items) }
+        ensures written { IfOk result (λ written. IsWritten self.now text.now written.items) }
+        ensures fault { IfErr result
+            (λ fault. fault ≢ NoMemory → LacksList self.now text.now fault) }
     {
         let machine = self.machine();
         let size = size_of(self.list, machine);
@@ -417,11 +419,10 @@ impl<'a> BudgetReport<'a> {
 
     /// Returns the text of the report's scenario, with the donations that were measured. A line of a round donates the same in each
     /// iteration. The error is that the host is out of memory.
-    pub fn scenario(&self, alloc: Global, text: &[u8]) -> Result<Vec<u8>, BootFault>
-        ensures { IfOk result (λ told. told.items ≡ scenario_of self.now text.now) }
+    pub fn scenario(&self, alloc: Global, text: &[u8]) -> Result<Vec<u8>, AllocError>
+        ensures { IfOk result (λ written. written.items ≡ scenario_of self.now text.now) }
     {
-        let told = scenario_with(alloc, text, self.scene.steps.as_slice())?;
-        Ok(told)
+        scenario_with(alloc, text, self.scene.steps.as_slice())
     }
 }
 

@@ -1,7 +1,6 @@
 //! Lines that aren't measured.
 ghost use Rattle.std.specs.Prelude.{◌≡◌, Some};
-ghost use Rattle.budget_least.specs.Report.{line_of};
-ghost use Rattle.budget_least.specs.Unmeasured.{is_unbound, message_text, reason_text};
+ghost use Rattle.budget_least.specs.Unmeasured.{is_unbound, reason_text};
 
 use budget_search::AccountBudgets;
 use line_names::NameReason;
@@ -35,7 +34,7 @@ pub struct UnmeasuredLine {
 
 impl UnmeasuredLine {
     ghost use Rattle.std.specs.Prelude.{◌≡◌};
-    ghost use Rattle.budget_least.specs.Unmeasured.{fault_column, is_named_with};
+    ghost use Rattle.budget_least.specs.Unmeasured.{is_named_with};
 
     /// Returns whether the line is named with an account: a component's own, once.
     pub fn is_named_with(&self, account: &AccountBudgets) -> bool
@@ -49,47 +48,11 @@ impl UnmeasuredLine {
         }
     }
 
-    /// Returns the column of the fault in the line, from 1 on.
-    pub fn column(&self) -> usize
-        ensures { result ≡ fault_column self.now.why }
-    {
-        match self.why {
-            UnmeasuredReason::Unread(why) => why.column(),
-            UnmeasuredReason::Unsettled => 1,
-        }
-    }
-
-    /// Returns the message of the diagnostic about the line.
-    pub fn message(&self) -> UnmeasuredMessage<'_>
-        ensures { line_of result ≡ self.now }
-    {
-        UnmeasuredMessage { line: self }
-    }
-
     /// Returns the reason in words, for the text of an account.
     pub fn reason(&self) -> UnmeasuredWords<'_>
         ensures { result.line.now ≡ self.now }
     {
         UnmeasuredWords { line: self }
-    }
-}
-
-/// The message of the diagnostic about a line that isn't measured.
-#[derive(Clone, Copy)]
-pub struct UnmeasuredMessage<'a> {
-    line: &'a UnmeasuredLine,
-}
-
-impl fmt::Display for UnmeasuredMessage<'_> {
-    ghost output = { λ message. Some (message_text message.line.now) };
-
-    fn fmt<W: fmt::Write>(&self, f: &mut fmt::Formatter<W>) -> fmt::Result {
-        match self.line.why {
-            UnmeasuredReason::Unread(why) => write!(f, "{}", why.about(self.line.token.as_str())),
-            UnmeasuredReason::Unsettled => {
-                f.write_str("a name in this line has another value with the minimum budgets")
-            }
-        }
     }
 }
 

@@ -1,7 +1,9 @@
 //! The text of a start list with the budgets of a report.
-ghost use Rattle.std.specs.Prelude.{◌≡◌, true, OnOk};
+ghost use Rattle.std.specs.Prelude.{◌≡◌, ◌≢◌, true, IfErr, OnOk, Some};
 ghost use Rattle.own_model.specs.Listed.{start_list_of};
 ghost use Rattle.own_model.specs.StartList.{Boots};
+ghost use Rattle.list_parser.specs.Quota.{quota_fault};
+ghost use Rattle.list_parser.specs.declared.fault.BootFault.TheVariants.{NoMemory};
 ghost use Rattle.budget_least.specs.WrittenList.{has_budget, has_size, size_of};
 
 use crate::machine_size::MachineSize;
@@ -172,7 +174,8 @@ pub(crate) fn size_of(list: &StartList, smallest: Option<MachineSize>) -> Machin
 
 /// Boots the machine of a list, if it is to boot. The error is that of the boot.
 pub(crate) fn test_boot(alloc: Global, list: &StartList, is_to_boot: bool) -> Result<(), BootFault>
-    ensures { OnOk result (is_to_boot ≡ true → Boots (start_list_of list.now)) }
+    ensures boots { OnOk result (is_to_boot ≡ true → Boots (start_list_of list.now)) }
+    ensures fault { IfErr result (λ fault. fault ≢ NoMemory → quota_fault list.now ≡ Some fault) }
 {
     if !is_to_boot {
         return Ok(());

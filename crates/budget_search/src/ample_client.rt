@@ -158,6 +158,13 @@ impl<R: Router + Drop> AmpleClient<R> {
         self.reply.text()
     }
 
+    /// Returns the reply to the last call.
+    pub fn answer(&self) -> Answer<'_>
+        ensures { result.text.now ≡ self.now.text }
+    {
+        self.reply.answer()
+    }
+
     /// Returns whether the last call is done.
     pub fn is_done(&self) -> bool
         ensures { result ≡ bytes_eq self.now.text (codes "ok") }
