@@ -1,12 +1,16 @@
 pub mod Breaches
 pub mod Changes
 pub mod Differences
+pub mod EntryRecords
+pub mod LabelRecords
 pub mod LineResults
 pub mod Moves
 pub mod Needs
 pub mod NewAccess
 pub mod NewBreaches
 pub mod PlacedBreaches
+pub mod ReachRecords
 pub mod Reaches
+pub mod Records
 pub mod Replies
 pub mod Routes

@@ -1,7 +1,9 @@
 -- What came of the lines of a scenario, by the answered calls of its run.
-use Rattle.std.specs.Prelude.{ℕ, List, [], ◌∷◌, map, Option, Some, None}
+use Rattle.std.specs.Prelude.{ℕ, ◌||◌, Bool, true, is_none, List, [], ◌∷◌, map, Option, Some, None}
 use Rattle.std.specs.Borrow.{Bor}
 use Rattle.run_exchanges.specs.Exchange.{Exchange}
+use Rattle.line_friendly.specs.Expected.{can_pass}
+use Rattle.line_friendly.specs.Friendly.{content_of, is_meant, is_passed}
 use Rattle.line_names.specs.Learning.{learnt}
 use Rattle.line_steps.specs.ResolvedLines.{ResolvedLine, resolved_line}
 use Rattle.line_steps.specs.ResolvedLines.ResolvedLine.{Follow, Call, TooLong as LongLine, BadName, Misplaced as MisplacedLine, BadLine}
@@ -12,12 +14,13 @@ use Rattle.list_diff.specs.declared.line_outcomes.LineResult.{LineResult}
 use Rattle.list_diff.specs.declared.line_outcomes.ResolutionFault.{ResolutionFault}
 use Rattle.list_diff.specs.declared.line_outcomes.ResolutionFault.TheVariants.{TooLong, Name, Misplaced, Line}
 
--- a line with its number, its answered call if it makes one, and its fault if it has one
+-- a line with its number, its answered call if it makes one, its fault if it has one, and whether it was understood
 pub record LineCall : Type 0 where
   pub number : ℕ
   pub line : List ℕ
   pub made : Option Exchange
   pub fault : Option ResolutionFault
+  pub understood : Bool
 
 -- the answered call of a line
 abbrev pub made_in : LineOutcome → Option Exchange
@@ -33,7 +36,13 @@ fault_in Silent = None
 
 abbrev pub call_in : LineResult → LineCall
 call_in result =
-    record { number = result.number; line = result.line.now; made = made_in result.outcome; fault = fault_in result.outcome }
+    record {
+      number = result.number;
+      line = result.line.now;
+      made = made_in result.outcome;
+      fault = fault_in result.outcome;
+      understood = result.is_understood;
+    }
 
 -- a run that is followed line by line: its position, and the answered calls that are ahead
 pub record FollowedRun : Type 0 where
@@ -53,6 +62,12 @@ fault_by (BadName fault) = Some (Name fault)
 fault_by (MisplacedLine column why) = Some (Misplaced why)
 fault_by (BadLine fault) = Some (Line fault)
 fault_by resolved = None
+
+-- a resolved line is understood: it has no fault, and its reply doesn't say otherwise, unless the line expects that or is meant
+abbrev pub understood_by : List ℕ → ResolvedLine → List Exchange → Bool
+understood_by line (Call filled call reply) (exchange ∷ ahead) = can_pass reply exchange.reply || (is_passed line || is_meant (content_of line))
+understood_by line (Call filled call reply) [] = true
+understood_by line resolved ahead = is_none (fault_by resolved)
 
 -- the run after a resolved line: a directive is followed, and the reply to a call binds the names of its line
 abbrev pub followed_by : FollowedRun → ResolvedLine → List Exchange → FollowedRun
@@ -81,6 +96,7 @@ line_calls run (line ∷ lines) =
       line = line;
       made = made_by (resolved_on run line) run.ahead;
       fault = fault_by (resolved_on run line);
+      understood = understood_by line (resolved_on run line) run.ahead;
     }
     ∷ line_calls (run_after run line) lines
 

@@ -1,11 +1,13 @@
 -- The lines of two runs that are answered differently.
-use Rattle.std.specs.Prelude.{◌≡◌, ⊤, ℕ, Bool, true, false, List, [], ◌∷◌, ◌++◌, map, if◌then◌else◌, Option, Some, None}
+use Rattle.std.specs.Prelude.{◌≡◌, ⊤, ℕ, ◌&&◌, Bool, true, false, not, List, [], ◌∷◌, ◌++◌, map, if◌then◌else◌, Option, Some, None}
 use Rattle.std.specs.Str.{bytes_eq}
 use Rattle.list_diff.specs.declared.line_outcomes.LineOutcome.{LineOutcome}
 use Rattle.list_diff.specs.declared.line_outcomes.LineOutcome.TheVariants.{Answered, Faulty, Silent}
 use Rattle.list_diff.specs.declared.line_outcomes.LineResult.{LineResult}
 use Rattle.list_diff.specs.declared.reply_changes.AlignmentStep.{AlignmentStep}
 use Rattle.list_diff.specs.declared.reply_changes.AlignmentStep.TheVariants.{Kept, Removed, Added}
+use Rattle.list_diff.specs.declared.reply_changes.ComparedLines.{ComparedLines}
+use Rattle.list_diff.specs.declared.reply_changes.ComparedLines.TheVariants.{Changed, Misread}
 use Rattle.list_diff.specs.declared.reply_changes.ReplyChange.{ReplyChange}
 
 -- the reply to a line, if the line was answered
@@ -26,15 +28,25 @@ same_reply (Some was) (Some now) = bytes_eq was now
 same_reply None (Some now) = false
 same_reply (Some was) None = false
 
--- a line that is answered differently on both sides is a change
-abbrev pub change_of : Option LineResult → Option LineResult → List ReplyChange
-change_of was now = if same_reply (reply_to was) (reply_to now) then [] else record { was = was; now = now } ∷ []
+-- a line isn't understood, or the text doesn't have it
+abbrev pub lacks_meaning : Option LineResult → Bool
+lacks_meaning None = true
+lacks_meaning (Some line) = not line.is_understood
 
--- the changes of lines that are aligned by their place, in order
-abbrev pub changes_by_place : List LineResult → List LineResult → List ReplyChange
-changes_by_place [] after = []
-changes_by_place (was ∷ before) [] = []
-changes_by_place (was ∷ before) (now ∷ after) = change_of (Some was) (Some now) ++ changes_by_place before after
+-- a line is sought that is answered differently on both sides, or that is understood on none
+abbrev pub is_sought : ComparedLines → Option LineResult → Option LineResult → Bool
+is_sought Changed was now = not (same_reply (reply_to was) (reply_to now))
+is_sought Misread was now = lacks_meaning was && lacks_meaning now
+
+abbrev pub compared_line : ComparedLines → Option LineResult → Option LineResult → List ReplyChange
+compared_line wanted was now = if is_sought wanted was now then record { was = was; now = now } ∷ [] else []
+
+-- the lines that are sought among lines that are aligned by their place, in order
+abbrev pub compared_by_place : ComparedLines → List LineResult → List LineResult → List ReplyChange
+compared_by_place wanted [] after = []
+compared_by_place wanted (was ∷ before) [] = []
+compared_by_place wanted (was ∷ before) (now ∷ after) =
+    compared_line wanted (Some was) (Some now) ++ compared_by_place wanted before after
 
 -- ---- two texts
 
@@ -50,18 +62,21 @@ Aligns (Removed ∷ steps) (was ∷ before) after = Aligns steps before after
 Aligns (Added ∷ steps) before (now ∷ after) = Aligns steps before after
 Aligns _ _ _ = ⊥
 
--- the changes of lines, step by step
-abbrev pub changes_along : List AlignmentStep → List LineResult → List LineResult → List ReplyChange
-changes_along (Kept ∷ steps) (was ∷ before) (now ∷ after) = change_of (Some was) (Some now) ++ changes_along steps before after
-changes_along (Removed ∷ steps) (was ∷ before) after = change_of (Some was) None ++ changes_along steps before after
-changes_along (Added ∷ steps) before (now ∷ after) = change_of None (Some now) ++ changes_along steps before after
-changes_along _ _ _ = []
+-- the lines that are sought, step by step
+abbrev pub compared_along : ComparedLines → List AlignmentStep → List LineResult → List LineResult → List ReplyChange
+compared_along wanted (Kept ∷ steps) (was ∷ before) (now ∷ after) =
+    compared_line wanted (Some was) (Some now) ++ compared_along wanted steps before after
+compared_along wanted (Removed ∷ steps) (was ∷ before) after =
+    compared_line wanted (Some was) None ++ compared_along wanted steps before after
+compared_along wanted (Added ∷ steps) before (now ∷ after) =
+    compared_line wanted None (Some now) ++ compared_along wanted steps before after
+compared_along wanted _ _ _ = []
 
--- each line of both texts is in one step, lines in one step have one text, and these are the steps that are answered differently
-pub record AreChanges (before after : List LineResult) (changes : List ReplyChange) : Type 0 where
+-- each line of both texts is in one step, lines in one step have one text, and these are the steps that are sought
+pub record AreCompared (wanted : ComparedLines) (before after : List LineResult) (found : List ReplyChange) : Type 0 where
   pub steps : List AlignmentStep
   pub aligns : Aligns steps before after
-  pub are : changes ≡ changes_along steps before after
+  pub are : found ≡ compared_along wanted steps before after
 
 -- ---- the next step
 

@@ -1,9 +1,9 @@
 //! What came of each line of a scenario on one machine.
 ghost use Rattle.std.specs.Prelude.{◌≡◌, IfOk, None, OnOk, map};
 ghost use Rattle.line_steps.specs.ResolvedViews.{call_view, resolved_view};
-ghost use Rattle.list_diff.specs.LineResults.{bytes_of, call_in, fault_by, fault_in, followed_by, line_calls, made_by, made_in, resolved_on, run_after};
+ghost use Rattle.list_diff.specs.LineResults.{bytes_of, call_in, fault_by, fault_in, followed_by, line_calls, made_by, made_in, resolved_on, run_after, understood_by};
 
-use line_friendly::FriendlyFault;
+use line_friendly::{FriendlyFault, can_pass, is_meant, is_passed};
 use line_names::{DirectiveFault, NameFault};
 use line_steps::{LineBuffers, ResolvedLine, RunPosition, ScenarioCall, resolve};
 use run_exchanges::Exchange;
@@ -43,6 +43,8 @@ pub struct LineResult<'a> {
     pub line: &'a [u8],
     /// What came of the line.
     pub outcome: LineOutcome<'a>,
+    /// Whether the line was understood: it has no fault, and no reply that says otherwise, unless the line expects that.
+    pub is_understood: bool,
 }
 
 /// Returns what came of each of these lines, which are those of a scenario's unfolded text. `start` is the position before the first
@@ -101,18 +103,45 @@ impl<'a> FollowedRun<'_, 'a> {
           line = line.now;
           made = made_by (resolved_on self.old line.now) self.old.ahead;
           fault = fault_by (resolved_on self.old line.now);
+          understood = understood_by line.now (resolved_on self.old line.now) self.old.ahead;
         }) }
         ensures run { OnOk result (self.new ≡ run_after self.old line.now) }
     {
         let number = self.position.pass();
         let resolved = resolve(None, self.position.known(), line, buffers);
+        let is_understood = self.understands(line, &resolved);
         let outcome = self.take(resolved)?;
         self.position.arrive()?;
         Ok(LineResult {
             number,
             line,
             outcome,
+            is_understood,
         })
+    }
+
+    // Returns whether a line is understood that is resolved so.
+    fn understands(&self, line: &[u8], resolved: &ResolvedLine<'_>) -> bool
+        ensures { result ≡ understood_by line.now (resolved_view resolved.now) self.now.ahead }
+    {
+        match resolved {
+            ResolvedLine::Call(call) => match self.ahead.first() {
+                Some(exchange) => {
+                    can_pass(call.reply, exchange.answer().text)
+                        || is_passed(line)
+                        || is_meant(line)
+                }
+                None => true,
+            },
+            ResolvedLine::TooLong
+            | ResolvedLine::BadName(_)
+            | ResolvedLine::Misplaced(_, _)
+            | ResolvedLine::BadLine(_) => false,
+            ResolvedLine::Directive(_)
+            | ResolvedLine::Skipped
+            | ResolvedLine::Nothing
+            | ResolvedLine::Log(_) => true,
+        }
     }
 
     // Returns what came of a resolved line, and follows its directive or binds its names.

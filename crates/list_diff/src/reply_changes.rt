@@ -1,7 +1,7 @@
 //! Replies of a scenario that differ on two machines.
 ghost use Rattle.std.specs.Prelude.{◌≡◌, ◌+◌, ◌++◌, ◌<◌, IfOk, OnOk, length};
 ghost use Rattle.std.specs.Option.{option_copied};
-ghost use Rattle.list_diff.specs.Replies.{AreChanges, IsStep, behind_if, change_of, changes_by_place, first_if, has_new, has_old, reply_to, same_reply, text_of};
+ghost use Rattle.list_diff.specs.Replies.{AreCompared, IsStep, behind_if, compared_by_place, compared_line, first_if, has_new, has_old, is_sought, lacks_meaning, reply_to, same_reply, text_of};
 
 use crate::line_outcomes::{LineOutcome, LineResult};
 use std::alloc::{AllocError, Global};
@@ -9,7 +9,16 @@ use std::alloc::{AllocError, Global};
 /// The maximum number of lines between which lines of both texts are aligned again.
 const NEAREST: usize = 32;
 
-/// A line of a scenario with what came of it on two machines, if these differ: the replies do, or only one machine answers it.
+/// The lines of a scenario that are sought.
+#[derive(Clone, Copy)]
+pub enum ComparedLines {
+    /// The lines whose replies differ, or that one machine alone answers.
+    Changed,
+    /// The lines that no machine understands.
+    Misread,
+}
+
+/// A line of a scenario with what came of it on two machines.
 #[derive(Clone, Copy)]
 pub struct ReplyChange<'a> {
     /// The line on the machine before, if the scenario has it there.
@@ -51,24 +60,31 @@ impl AlignmentStep {
     }
 }
 
-/// Returns the lines whose replies differ on two machines, or that one machine alone answers, in order. If both texts are the same,
-/// each line is aligned with itself. Else lines of the same text are aligned, and any other line is removed or added: after a line
-/// that differs, the texts are aligned again at the nearest lines that are the same. Fails if the host is out of memory.
-pub fn changed_replies<'a>(
+/// Returns the lines whose replies differ on two machines, or that one machine alone answers, in order; or those that no machine
+/// understands. If both texts are the same, each line is aligned with itself. Else lines of the same text are aligned, and any other
+/// line is removed or added: after a line that differs, the texts are aligned again at the nearest lines that are the same. Fails if
+/// the host is out of memory.
+pub fn compared_lines<'a>(
     alloc: Global,
+    wanted: ComparedLines,
     before: &[LineResult<'a>],
     after: &[LineResult<'a>],
 ) -> Result<Vec<ReplyChange<'a>>, AllocError>
-    ensures aligned { IfOk result (λ found. AreChanges before.now after.now found.items) }
+    ensures aligned { IfOk result (λ found. AreCompared wanted before.now after.now found.items) }
     ensures same { IfOk result (λ found. text_of before.now ≡ text_of after.now
-        → found.items ≡ changes_by_place before.now after.now) }
+        → found.items ≡ compared_by_place wanted before.now after.now) }
 {
     let mut found = Vec::new(alloc);
     let (mut rest, mut rest_after) = (before, after);
     while !rest.is_empty() || !rest_after.is_empty() {
         let step = next_step(rest, rest_after);
         let was = first_if(step.has_old(), rest);
-        add_change(&mut found, was, first_if(step.has_new(), rest_after))?;
+        add_line(
+            &mut found,
+            wanted,
+            was,
+            first_if(step.has_new(), rest_after),
+        )?;
         rest = behind_if(step.has_old(), rest);
         rest_after = behind_if(step.has_new(), rest_after);
     }
@@ -141,18 +157,44 @@ fn removed_within(
     None
 }
 
-// Adds a line if the machines answer it differently.
-fn add_change<'a>(
+// Adds a line if it is sought.
+fn add_line<'a>(
     found: &mut Vec<ReplyChange<'a>>,
+    wanted: ComparedLines,
     was: Option<LineResult<'a>>,
     now: Option<LineResult<'a>>,
 ) -> Result<(), AllocError>
-    ensures { OnOk result (found.new.items ≡ found.old.items ++ change_of was.entry now.entry) }
+    ensures { OnOk result (found.new.items
+        ≡ found.old.items ++ compared_line wanted was.entry now.entry) }
 {
-    if !is_same_reply(reply_of(was), reply_of(now)) {
+    if is_sought(wanted, was, now) {
         found.push(ReplyChange { was, now })?;
     }
     Ok(())
+}
+
+// Returns whether a line is sought.
+fn is_sought(
+    wanted: ComparedLines,
+    was: Option<LineResult<'_>>,
+    now: Option<LineResult<'_>>,
+) -> bool
+    ensures { result ≡ is_sought wanted was.entry now.entry }
+{
+    match wanted {
+        ComparedLines::Changed => !is_same_reply(reply_of(was), reply_of(now)),
+        ComparedLines::Misread => is_misread(was) && is_misread(now),
+    }
+}
+
+// Returns whether a machine doesn't understand a line, or doesn't have it.
+fn is_misread(line: Option<LineResult<'_>>) -> bool
+    ensures { result ≡ lacks_meaning line.entry }
+{
+    match line {
+        Some(line) => !line.is_understood,
+        None => true,
+    }
 }
 
 // Returns the reply to a line, if it was answered.

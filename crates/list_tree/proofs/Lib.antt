@@ -1,2 +1,1 @@
 pub mod NodeLemmas
-mod PartLemmas

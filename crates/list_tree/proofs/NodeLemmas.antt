@@ -5,7 +5,7 @@ use Rattle.std.proofs.lemmas.List.{map-append}
 use Rattle.std.proofs.lemmas.List.Elements.{All-push}
 use Rattle.own_model.specs.Listed.{Listed, ListedEntry}
 use Rattle.list_tree.specs.Nodes.{AddsNode, IsNode, numbered}
-use Rattle.list_tree.specs.declared.node.TreeNode.{TreeNode}
+use Rattle.list_tree.specs.declared.tree.TreeNode.{TreeNode}
 
 pub node_more : (list : Listed) (nodes : List TreeNode) (node : TreeNode) (entry : ℕ × ListedEntry) → All (IsNode list) nodes → IsNode list node
     → numbered node ≡ entry → AddsNode list nodes entry (nodes ++ node ∷ [])

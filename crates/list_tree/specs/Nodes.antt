@@ -1,36 +1,28 @@
 -- The components of a start list with their budgets, and the decisions on their requests: what a tree and a graph print, in order.
-use Rattle.std.specs.Prelude.{◌≡◌, ℕ, ◌+◌, ◌==◌, List, [], ◌∷◌, ◌++◌, length, map, if◌then◌else◌, Option, Some, None, All}
+use Rattle.std.specs.Prelude.{◌≡◌, ℕ, ◌+◌, ◌==◌, ◌&&◌, is_none, List, [], ◌∷◌, ◌++◌, length, map, if◌then◌else◌, Option, Some, None, All}
 use Rattle.std.specs.List.{enumerate_from, slice_get}
 use Rattle.std.specs.Option.{option_and_then}
-use Rattle.own_model.specs.Account.{Account, opened}
-use Rattle.own_model.specs.Amounts.{Amounts}
+use Rattle.own_model.specs.Account.{Account}
 use Rattle.own_model.specs.Listed.{Listed, ListedEntry, start_list_of}
 use Rattle.own_model.specs.StartList.{init_at, inits_kept}
 use Rattle.list_parser.specs.Depth.{is_init}
 use Rattle.list_reach.specs.Deciding.{DecisionAt}
 use Rattle.list_reach.specs.ScriptDecisions.{AreEntryDecisions}
 use Rattle.list_reach.specs.declared.script_decisions.ScriptDecisions.{ScriptDecisions}
-use Rattle.list_tree.specs.declared.node.ExtraBudget.{ExtraBudget}
-use Rattle.list_tree.specs.declared.node.ExtraBudget.TheVariants.{Reserve, Keeps}
-use Rattle.list_tree.specs.declared.node.TreeNode.{TreeNode}
+use Rattle.list_tree.specs.declared.tree.TreeNode.{TreeNode}
 use Rattle.list_tree.specs.declared.tree.ListTree.{ListTree}
 
 -- the entry of a node, with its number
 abbrev pub numbered : TreeNode → ℕ × ListedEntry
 numbered node = (node.number, node.entry.now)
 
--- what an entry has in addition to its account: its reserve, or what it keeps as an init
-abbrev pub extra_by : List Account → ℕ × ListedEntry → Option Amounts → Option ExtraBudget
-extra_by inits entry (Some reserve) = Some (Reserve (opened reserve.ram reserve.caps))
-extra_by inits entry None = if is_init entry.1 then Some (Keeps (init_at inits (entry.0 + 1))) else None
+-- what an init keeps
+abbrev pub keeps_of : List Account → ℕ × ListedEntry → Option Account
+keeps_of inits entry = if is_none entry.1.reserve && is_init entry.1 then Some (init_at inits (entry.0 + 1)) else None
 
-abbrev pub extra_of : List Account → ℕ × ListedEntry → Option ExtraBudget
-extra_of inits entry = extra_by inits entry entry.1.reserve
-
--- a node has the budget of its own entry, and the decisions on its own entry's requests, service by service
+-- a node has what its entry keeps as an init, and the decisions on its own entry's requests, service by service
 pub record IsNode (list : Listed) (node : TreeNode) : Type 0 where
-  pub own : node.own ≡ opened node.entry.now.ram node.entry.now.caps
-  pub extra : node.extra ≡ extra_of (inits_kept (start_list_of list)) (numbered node)
+  pub keeps : node.keeps ≡ keeps_of (inits_kept (start_list_of list)) (numbered node)
   pub requests : AreEntryDecisions list (numbered node) node.requests.items
 
 -- the node of an entry is added

@@ -2,9 +2,8 @@
 ghost use Rattle.std.specs.Prelude.{IfOk};
 ghost use Rattle.list_tree.specs.Nodes.{IsTreeOf};
 
-use crate::node::{TreeNode, label_of, server_of};
-use crate::rules_text::show_rules;
-use crate::tree::ListTree;
+use crate::rules_text::{RulesText, show_rule_lines};
+use crate::tree::{ListTree, TreeNode, label_of, server_of};
 use list_parser::{ListEntry, StartList};
 use list_parts::{KindsText, binary_word};
 use list_reach::{RouteDecision, ScriptDecisions};
@@ -32,7 +31,7 @@ impl<'a> ListGraph<'a> {
     // Writes the components, each within the boxes of the inits above it.
     fn show_nodes<W: fmt::Write>(&self, f: &mut fmt::Formatter<W>) -> fmt::Result {
         let mut boxes = 0;
-        for node in self.tree.nodes.as_slice() {
+        for node in &self.tree.nodes {
             let depth = node.depth();
             show_ends(f, depth, boxes)?;
             show_margin(f, depth)?;
@@ -55,16 +54,11 @@ impl<'a> ListGraph<'a> {
         init: usize,
         depth: usize,
     ) -> fmt::Result {
-        for node in self.tree.nodes.as_slice() {
-            for one in node.requests.as_slice() {
-                for decision in one.decisions.as_slice() {
-                    if node.entry.home() == init && decision.child().is_none() {
-                        show_margin(f, depth)?;
-                        show_denied_name(f, self.tree.list.init_entry(init))?;
-                        let rest = " [shape=plaintext, fontcolor=gray, label=\"denied\"];\n";
-                        return f.write_str(rest);
-                    }
-                }
+        for node in &self.tree.nodes {
+            if node.entry.home() == init && has_denied(node) {
+                show_margin(f, depth)?;
+                show_denied_name(f, self.tree.list.init_entry(init))?;
+                return f.write_str(" [shape=plaintext, fontcolor=gray, label=\"denied\"];\n");
             }
         }
         Ok(())
@@ -81,8 +75,8 @@ impl fmt::Display for ListGraph<'_> {
         )?;
         self.show_denied(f, 0, 0)?;
         self.show_nodes(f)?;
-        for node in self.tree.nodes.as_slice() {
-            for one in node.requests.as_slice() {
+        for node in &self.tree.nodes {
+            for one in &node.requests {
                 for decision in one.decisions.as_slice() {
                     show_edge(f, list, one, decision)?;
                 }
@@ -90,6 +84,18 @@ impl fmt::Display for ListGraph<'_> {
         }
         f.write_str("}\n")
     }
+}
+
+// Returns whether some request of a component is denied.
+fn has_denied(node: &TreeNode<'_>) -> bool {
+    for one in &node.requests {
+        for decision in one.decisions.as_slice() {
+            if decision.child().is_none() {
+                return true;
+            }
+        }
+    }
+    false
 }
 
 // Writes two spaces, and two for each init above.
@@ -170,7 +176,15 @@ fn show_edge<W: fmt::Write>(
         }
     }
     f.write_str(one.service)?;
-    show_rules(f, true, true, list, Some(client), decision.rules())?;
+    let places = decision.rules();
+    show_rule_lines(
+        f,
+        &RulesText {
+            list,
+            client,
+            places,
+        },
+    )?;
     if let Some(label) = label_of(one, decision) {
         write!(f, "\\nwith label \\\"{label}\\\"")?;
     }

@@ -6,9 +6,8 @@
 //! ```
 #![tactic(auto)]
 
-mod documents;
 mod graph;
-mod node;
+mod records;
 mod rules_text;
 mod tree;
 

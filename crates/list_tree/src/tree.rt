@@ -1,21 +1,18 @@
-//! The components of a start list, and the servers to which their session requests are routed, as text and as documents.
-ghost use Rattle.std.specs.Prelude.{◌≡◌, ◌<◌, Some, length, All, IfOk, OnOk};
+//! The components of a start list, and the servers to which their session requests are routed, as a value and as text.
+ghost use Rattle.std.specs.Prelude.{◌≡◌, ◌<◌, ◌≤◌, Some, length, All, IfOk, OnOk};
 ghost use Rattle.std.specs.List.{slice_get};
+ghost use Rattle.std.specs.Option.{option_copied};
 ghost use Rattle.own_model.specs.Listed.{start_list_of};
 ghost use Rattle.own_model.specs.StartList.{inits_kept};
-ghost use Rattle.view_json.specs.Documents.{list_text};
-ghost use Rattle.list_tree.specs.Documents.{tree_objects};
-ghost use Rattle.list_tree.specs.Nodes.{AddsNode, IsNode, IsTreeOf};
+ghost use Rattle.list_tree.specs.Nodes.{AddsNode, IsNode, IsTreeOf, keeps_of, label_of, server_of};
 
-use crate::documents::{add_kept, add_machine, add_nodes};
-use crate::node::{TreeNode, label_of, server_of};
-use crate::rules_text::show_rules;
+use crate::rules_text::RulesText;
+use list_labels::ClientLabel;
 use list_parser::{ListEntry, StartList};
 use list_parts::{InitQuotas, KindsText, StartQuota, binary_word, kept, left_of};
 use list_reach::{RouteDecision, ScriptDecisions};
 use std::alloc::{AllocError, Global};
 use std::fmt;
-use view_json::Listing;
 
 /// The tree of a start list: its machine, what inits keep, and each component with its budget below its init. For each script and
 /// service it has the server to which requests are routed, and the rules with their conditions on the label. It has a label, if
@@ -26,6 +23,19 @@ pub struct ListTree<'a> {
     // The RAM and the capabilities that the machine's init keeps.
     pub(crate) keeps: StartQuota,
     pub(crate) nodes: Vec<TreeNode<'a>>,
+}
+
+/// A component of a tree.
+#[derive(Drop)]
+pub(crate) struct TreeNode<'a> {
+    /// The number of the component, at most 31.
+    pub number: u8,
+    /// The component.
+    pub entry: &'a ListEntry,
+    /// The RAM and the capabilities that an init keeps.
+    pub keeps: Option<StartQuota>,
+    /// The decisions on the requests of a script, service by service; no others have any.
+    pub requests: Vec<ScriptDecisions<'a>>,
 }
 
 impl<'a> ListTree<'a> {
@@ -46,18 +56,6 @@ impl<'a> ListTree<'a> {
             nodes,
         })
     }
-
-    /// Returns the tree as a JSON list. It has a document for the machine, for what its init keeps, and for each component,
-    /// followed by those of its requests. Fails if the host is out of memory.
-    pub fn documents(&self, alloc: Global) -> Result<Vec<u8>, AllocError>
-        ensures { IfOk result (λ text. text.items ≡ list_text (tree_objects self.now)) }
-    {
-        let mut listing = Listing::new(alloc);
-        add_machine(&mut listing, self.list)?;
-        add_kept(&mut listing, self.keeps)?;
-        add_nodes(alloc, &mut listing, self.list, self.nodes.as_slice())?;
-        listing.into_text()
-    }
 }
 
 impl fmt::Display for ListTree<'_> {
@@ -68,9 +66,9 @@ impl fmt::Display for ListTree<'_> {
             f,
             "machine: {pages} pages, {caps} caps\ninit keeps: {keeps}\n"
         )?;
-        for node in self.nodes.as_slice() {
+        for node in &self.nodes {
             show_component(f, node)?;
-            for one in node.requests.as_slice() {
+            for one in &node.requests {
                 for decision in one.decisions.as_slice() {
                     f.write_repeated("  ", node.depth())?;
                     show_decision(f, list, one, decision)?;
@@ -81,7 +79,63 @@ impl fmt::Display for ListTree<'_> {
     }
 }
 
-// Adds the node of an entry.
+impl TreeNode<'_> {
+    /// Writes the budget of the component, with a text between the account and the rest.
+    pub(crate) fn show_budget<W: fmt::Write>(
+        &self,
+        f: &mut fmt::Formatter<W>,
+        between: &str,
+    ) -> fmt::Result {
+        let entry = self.entry;
+        let own = StartQuota {
+            ram: entry.ram(),
+            caps: entry.caps(),
+        };
+        write!(f, "{own}")?;
+        if let Some(reserve) = entry.reserve() {
+            let left = StartQuota {
+                ram: reserve.ram.0,
+                caps: reserve.caps.0,
+            };
+            write!(f, "{between}reserve {left}")?;
+        }
+        match self.keeps {
+            Some(left) => write!(f, "{between}keeps {left}"),
+            None => Ok(()),
+        }
+    }
+
+    /// Returns the number of inits above the component.
+    pub(crate) fn depth(&self) -> usize
+        ensures { result ≤ 131 }
+    {
+        let path = self.entry.path();
+        path.iter().filter(|sign| **sign == b'/').count()
+    }
+}
+
+/// Returns the server to which a decision routes requests, or none if they are denied.
+pub(crate) fn server_of<'a>(list: &'a StartList, decision: &RouteDecision) -> Option<&'a ListEntry>
+    ensures { option_copied result ≡ server_of list.now decision.now }
+{
+    list.entries().get(decision.child()?)
+}
+
+/// Returns a label of one of the requests of a decision, if others are decided otherwise.
+pub(crate) fn label_of<'a>(
+    one: &ScriptDecisions<'_>,
+    decision: &'a RouteDecision,
+) -> Option<&'a ClientLabel>
+    ensures { option_copied result ≡ label_of one.now decision.now }
+{
+    if one.decisions.as_slice().len() == 1 {
+        None
+    } else {
+        Some(decision.label())
+    }
+}
+
+// Adds the node of an entry, of a machine whose inits keep these.
 fn add_node<'a>(
     alloc: Global,
     nodes: &mut Vec<TreeNode<'a>>,
@@ -98,9 +152,25 @@ fn add_node<'a>(
     ensures { OnOk result
         (AddsNode list.now nodes.old.items (number, entry.now) nodes.new.items) }
 {
-    let node = TreeNode::of(alloc, list, inits, number, entry)?;
-    nodes.push(node)?;
+    nodes.push(TreeNode {
+        number: number as u8,
+        entry,
+        keeps: keeps_of(inits, number, entry),
+        requests: ScriptDecisions::of_entry(alloc, list, number, entry)?,
+    })?;
     Ok(())
+}
+
+// Returns what the entry of a number keeps as an init.
+fn keeps_of(inits: &InitQuotas, number: usize, entry: &ListEntry) -> Option<StartQuota>
+    requires { number < 32 }
+    ensures { result ≡ keeps_of inits.now.items (number, entry.now) }
+{
+    if entry.reserve().is_none() && entry.is_init() {
+        Some(left_of(inits, number + 1))
+    } else {
+        None
+    }
 }
 
 // Writes a component with its budget, what it provides, and the kinds that it declares.
@@ -125,14 +195,23 @@ fn show_decision<W: fmt::Write>(
     one: &ScriptDecisions<'_>,
     decision: &RouteDecision,
 ) -> fmt::Result {
+    let places = decision.rules();
     write!(f, "  {} -> ", one.service)?;
     match server_of(list, decision) {
-        Some(server) if decision.rules().len() > 1 => write!(f, "{}", server.to_path())?,
+        Some(server) if places.len() > 1 => write!(f, "{}", server.to_path())?,
         Some(server) => write!(f, "{}", server.to_name())?,
         None => f.write_str("denied")?,
     }
-    f.write_str(" by ")?;
-    show_rules(f, false, true, list, Some(one.entry), decision.rules())?;
+    let client = one.entry;
+    write!(
+        f,
+        " by {}",
+        RulesText {
+            list,
+            client,
+            places
+        }
+    )?;
     match label_of(one, decision) {
         Some(label) => write!(f, ", with label \"{label}\"\n"),
         None => f.write_str("\n"),

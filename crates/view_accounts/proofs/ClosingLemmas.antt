@@ -1,8 +1,7 @@
 -- The closed sessions, one more or all of a component.
-use Rattle.std.proofs.Common.{◌≡◌, ◌∙◌, ◌+◌, ◌<◌, ℕ, List, [], ◌∷◌, ◌++◌, length, take, drop, get_or, append_assoc, append-nil, Option, Some, None, Result, Ok, Err, OnOk, sym, ap, subst}
+use Rattle.std.proofs.Common.{◌≡◌, ◌∙◌, ◌+◌, ◌<◌, ℕ, List, [], ◌∷◌, ◌++◌, length, drop, get_or, append_assoc, append-nil, Option, Some, None, Result, Ok, Err, OnOk, sym, ap, subst}
 use Rattle.std.specs.List.Sorted.{IsNonDecreasingBy, IsPermutation}
 use Rattle.std.proofs.lemmas.List.{drop_more, map-append}
-use Rattle.view_json.proofs.ListingLemmas.{flat_next}
 use Rattle.budget_meter.specs.Needs.{amounts_of}
 use Rattle.view_accounts.specs.ClosedSessions.{Closed, ClosesAll, closed_as, closed_of, closing, closing_of, closings, ended_at, ended_from}
 use Rattle.view_accounts.specs.Kept.{noted_in}
@@ -39,16 +38,6 @@ closes_one (Err e) old new noted component selector opened kept there closed = t
 pub closes_none : (old : List Closed) (noted : ℕ → Option Noted) (component selector : ℕ) (opened : Option MeteredSession) → None ≡ opened
     → old ≡ old ++ closings noted component (ended_at selector opened)
 closes_none old noted component selector opened none = sym (append-nil old) ∙ ap (λ o. old ++ closings noted component (ended_at selector o)) none
-
--- one more of those of a component
-pub closing_next : (noted : ℕ → Option Noted) (component : ℕ) (ended : List Ended) (i : ℕ) (session : Ended) (first old new : List Closed)
-    → i < length ended → session ≡ get_or ended i session
-    → old ≡ first ++ closings noted component (take i ended) → new ≡ old ++ closing_of noted component session
-    → new ≡ first ++ closings noted component (take (i + 1) ended)
-closing_next noted component ended i session first old new within is was closed =
-    closed ∙ ap (λ o. o ++ closing_of noted component session) was
-    ∙ append_assoc first (closings noted component (take i ended)) (closing_of noted component session)
-    ∙ ap (λ l. first ++ l) (sym (flat_next (closing_of noted component) ended i session within is))
 
 -- all of them, in order
 pub closes_all : {T E : Type 0} (r : Result T E) (noted : ℕ → Option Noted) (component : ℕ) (given sorted : List Ended) (old new : List Closed)

@@ -15,4 +15,3 @@ pub mod SessionNeedLemmas
 pub mod SessionRunLemmas
 pub mod SessionStepLemmas
 pub mod SessionTableLemmas
-pub mod TableLemmas

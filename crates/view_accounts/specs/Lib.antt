@@ -1,5 +1,4 @@
-pub mod AccountDocuments
-pub mod AccountTable
+pub mod AccountRecords
 pub mod Accounting
 pub mod ClosedByLines
 pub mod ClosedSessions
@@ -14,5 +13,3 @@ pub mod SessionHistories
 pub mod SessionNeeds
 pub mod SessionTable
 pub mod ShownSessions
-pub mod Table
-pub mod TableRows

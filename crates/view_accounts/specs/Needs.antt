@@ -19,9 +19,6 @@ pub record Needed : Type 0 where
 abbrev pub nothing_needed : Needed
 nothing_needed = record { need = no_amounts; gone = false }
 
-abbrev pub gone_text : Bool → List ℕ
-gone_text gone = if gone then codes " gone" else []
-
 -- ---- of scripts
 
 -- the calls of the component at a place, out of those of all

@@ -120,11 +120,11 @@ fn run_accounting<R: Router + Drop, S: Source, K: Sink, E: Sink>(
     requires sees { SeesAccounts observer.old stage.run.list.now stage.core [] }
     ensures played { fault_before (S.has_failed reader.old)
         (K.has_failed writer.old || E.has_failed complaints.old) ≡ None →
-        IsRunFrom (start_at None stage.entry.core stage.entry.state.position
+        IsRunFrom (start_at stage.entry.run.list.now None stage.entry.core stage.entry.state.position
         stage.entry.state.checker.expected) (λ _. []) (λ _. []) true
         (WritesAllReports
         (scope_of (subject_at stage.entry.state.checker.scenario) stage.entry.run.list.now)
-        (start_at None stage.entry.core stage.entry.state.position
+        (start_at stage.entry.run.list.now None stage.entry.core stage.entry.state.position
         stage.entry.state.checker.expected)
         (E.contents complaints.old) (E.contents complaints.new))
         result.ending (S.remaining reader.old) (S.remaining reader.new)

@@ -1,246 +1,114 @@
 //! The table of an account list.
-ghost use Rattle.std.specs.Prelude.{◌≡◌, ◌∷◌, ◌++◌, ℕ, [], map, IfOk, OnOk};
-ghost use Rattle.std.specs.List.{enumerate_from, flat_map};
-ghost use Rattle.std.specs.Option.{option_map};
-ghost use Rattle.own_model.specs.Account.{Account};
-ghost use Rattle.own_model.specs.Amounts.{Amounts};
-ghost use Rattle.core_calls.specs.Quotas.{quotas_account, reserve_amounts};
-ghost use Rattle.view_accounts.specs.AccountTable.{account_cells, accounts_table, caps_figures, closed_rows, component_rows, limit_alone, limit_cells, ram_figures, reserve_rows, session_cells, session_name};
-ghost use Rattle.view_accounts.specs.Kept.{peaked};
-ghost use Rattle.view_accounts.specs.Rows.{account_view, accounts_view, component_view, session_view};
-ghost use Rattle.view_accounts.specs.Table.{rows_of};
-
-use crate::account_rows::{AccountRow, AccountRows, ComponentRows, SessionRow};
+use crate::account_rows::{AccountRow, AccountRows, SessionRow};
+use crate::needs::AccountNeed;
 use crate::peaks::Peak;
-use crate::table::render_table;
-use crate::table_rows::{Figures, add_header, add_row};
-use core_calls::{Quotas, Reserve};
-use itoa::Buffer;
+use core_calls::Quotas;
 use std::alloc::{AllocError, Global};
+use view_records::table_text;
+
+/// The names of the columns.
+const HEADER: [&str; 9] = [
+    "account", "ram", "peak", "need", "limit", "caps", "peak", "need", "limit",
+];
+
+// The figures of a row: RAM and capabilities, each if there are some.
+type Figures = [Option<(u128, u128)>; 4];
 
 impl AccountRows {
     /// Returns the table: a header, the machine's init, each component with its reserve and its sessions below it, and the sums of
     /// all limits. The error is that the host is out of memory.
-    pub fn table(&self, alloc: Global) -> Result<Vec<u8>, AllocError>
-        ensures { IfOk result (λ text. text.items ≡ accounts_table (accounts_view self.now)) }
-    {
-        let mut rows = Vec::new(alloc);
-        add_header(alloc, &mut rows)?;
-        add_account(alloc, &self.init, &mut rows)?;
-        let closed = self.closed.as_slice();
-        let components = self.components.as_slice();
-        add_components(alloc, components, closed, &mut rows)?;
-        add_limits(alloc, b"total", self.total.ram, self.total.caps, &mut rows)?;
-        let shown = rows.as_slice();
-        render_table(alloc, shown)
-    }
-}
-
-// Adds the row of an account.
-fn add_account(
-    alloc: Global,
-    row: &AccountRow,
-    rows: &mut Vec<Vec<Vec<u8>>>,
-) -> Result<(), AllocError>
-    ensures { OnOk result (rows_of rows.new.items
-        ≡ rows_of rows.old.items ++ account_cells (account_view row.now) ∷ []) }
-{
-    let mut name = Vec::from_slice(alloc, row.name.as_slice())?;
-    if row.needed.is_gone {
-        name.extend_from_slice(b" gone")?;
-    }
-    let account = Some(row.account);
-    add_row(
-        alloc,
-        name,
-        ram_figures(account, row.peak),
-        caps_figures(account, row.peak),
-        rows,
-    )
-}
-
-// Adds the rows of all components.
-fn add_components(
-    alloc: Global,
-    components: &[ComponentRows],
-    closed: &[SessionRow],
-    rows: &mut Vec<Vec<Vec<u8>>>,
-) -> Result<(), AllocError>
-    ensures { OnOk result (rows_of rows.new.items ≡ rows_of rows.old.items
-        ++ flat_map (λ e. component_rows (map session_view closed.now) e.0 e.1)
-        (enumerate_from 0 (map component_view components.now))) }
-{
-    for place in 0..components.len() {
-        add_component(alloc, place, &components[place], closed, rows)?;
-    }
-    Ok(())
-}
-
-// Adds the rows of the component at a place.
-fn add_component(
-    alloc: Global,
-    place: usize,
-    component: &ComponentRows,
-    closed: &[SessionRow],
-    rows: &mut Vec<Vec<Vec<u8>>>,
-) -> Result<(), AllocError>
-    ensures { OnOk result (rows_of rows.new.items ≡ rows_of rows.old.items
-        ++ component_rows (map session_view closed.now) place (component_view component.now)) }
-{
-    add_account(alloc, &component.account, rows)?;
-    add_reserve(alloc, component.reserve, rows)?;
-    add_sessions(alloc, component.sessions.as_slice(), rows)?;
-    add_closed(alloc, place, closed, rows)
-}
-
-// Adds the row of a reserve, if it is shown.
-fn add_reserve(
-    alloc: Global,
-    reserve: Option<Reserve>,
-    rows: &mut Vec<Vec<Vec<u8>>>,
-) -> Result<(), AllocError>
-    ensures { OnOk result (rows_of rows.new.items
-        ≡ rows_of rows.old.items ++ reserve_rows (option_map reserve_amounts reserve)) }
-{
-    match reserve {
-        Some(reserve) => {
-            let (ram, caps) = (u128::from(reserve.ram.0), u128::from(reserve.caps.0));
-            add_limits(alloc, b"  reserve", ram, caps, rows)
+    pub fn table(&self, alloc: Global) -> Result<Vec<u8>, AllocError> {
+        let mut table = Table {
+            alloc,
+            rows: Vec::new(alloc),
+        };
+        let mut header = Vec::new(alloc);
+        for name in HEADER {
+            header.push(Vec::from_slice(alloc, name.as_bytes())?)?;
         }
-        None => Ok(()),
+        table.rows.push(header)?;
+        table.add_account(&self.init)?;
+        for (place, component) in self.components.iter().enumerate() {
+            table.add_account(&component.account)?;
+            if let Some(reserve) = component.reserve {
+                let limit = (u128::from(reserve.ram.0), u128::from(reserve.caps.0));
+                table.add(
+                    "  reserve".to_string(alloc)?,
+                    [None, None, None, Some(limit)],
+                )?;
+            }
+            for session in &component.sessions {
+                table.add_session(session)?;
+            }
+            for session in &self.closed {
+                if session.component == place {
+                    table.add_session(session)?;
+                }
+            }
+        }
+        let limit = (self.total.ram, self.total.caps);
+        table.add("total".to_string(alloc)?, [None, None, None, Some(limit)])?;
+        table_text(alloc, table.rows.as_slice())
     }
 }
 
-// Adds the rows of open sessions.
-fn add_sessions(
+// The rows of a table.
+#[derive(Drop)]
+struct Table {
     alloc: Global,
-    sessions: &[SessionRow],
-    rows: &mut Vec<Vec<Vec<u8>>>,
-) -> Result<(), AllocError>
-    ensures { OnOk result (rows_of rows.new.items
-        ≡ rows_of rows.old.items ++ map session_cells (map session_view sessions.now)) }
-{
-    for session in sessions {
-        add_session(alloc, session, rows)?;
-    }
-    Ok(())
+    rows: Vec<Vec<Vec<u8>>>,
 }
 
-// Adds the rows of those closed sessions that are of the component at a place.
-fn add_closed(
-    alloc: Global,
-    place: usize,
-    closed: &[SessionRow],
-    rows: &mut Vec<Vec<Vec<u8>>>,
-) -> Result<(), AllocError>
-    ensures { OnOk result (rows_of rows.new.items
-        ≡ rows_of rows.old.items ++ flat_map (closed_rows place) (map session_view closed.now)) }
-{
-    for session in closed {
-        add_closed_of(alloc, place, session, rows)?;
+impl Table {
+    // Adds the row of an account.
+    fn add_account(&mut self, row: &AccountRow) -> Result<(), AllocError> {
+        let name = String::from_utf8_lossy(self.alloc, row.name.as_slice())?;
+        let gone = if row.needed.is_gone { " gone" } else { "" };
+        let title = format!(in self.alloc; "{name}{gone}")?;
+        self.add(title, figures(Some(row.account), row.peak, row.needed))
     }
-    Ok(())
-}
 
-// Adds the row of a closed session, if it is one of the component at a place.
-fn add_closed_of(
-    alloc: Global,
-    place: usize,
-    session: &SessionRow,
-    rows: &mut Vec<Vec<Vec<u8>>>,
-) -> Result<(), AllocError>
-    ensures { OnOk result (rows_of rows.new.items
-        ≡ rows_of rows.old.items ++ closed_rows place (session_view session.now)) }
-{
-    if session.component == place {
-        add_session(alloc, session, rows)
-    } else {
+    // Adds the row of a session.
+    fn add_session(&mut self, row: &SessionRow) -> Result<(), AllocError> {
+        let closed = if row.account.is_some() { "" } else { "closed " };
+        let server = String::from_utf8_lossy(self.alloc, row.server.as_slice())?;
+        let label = String::from_utf8_lossy(self.alloc, row.label.as_slice())?;
+        let selector = row.selector;
+        let title = format!(in self.alloc; "  {closed}session {selector} {server} {label}")?;
+        self.add(title, figures(row.account, row.peak, row.needed))
+    }
+
+    // Adds a row: its title, the figures of RAM, and those of capabilities.
+    fn add(&mut self, title: String, figures: Figures) -> Result<(), AllocError> {
+        let alloc = self.alloc;
+        let mut row = Vec::new(alloc);
+        row.push(title.into_bytes())?;
+        for figure in figures {
+            row.push(match figure {
+                Some((ram, _)) if ram > 0 && ram % 1024 == 0 => {
+                    let kilobytes = ram / 1024;
+                    format!(in alloc; "{kilobytes}K")?.into_bytes()
+                }
+                Some((ram, _)) => format!(in alloc; "{ram}")?.into_bytes(),
+                None => Vec::from_slice(alloc, b"-")?,
+            })?;
+        }
+        for figure in figures {
+            row.push(match figure {
+                Some((_, caps)) => format!(in alloc; "{caps}")?.into_bytes(),
+                None => Vec::from_slice(alloc, b"-")?,
+            })?;
+        }
+        self.rows.push(row)?;
         Ok(())
     }
 }
 
-// Adds the row of a session.
-fn add_session(
-    alloc: Global,
-    session: &SessionRow,
-    rows: &mut Vec<Vec<Vec<u8>>>,
-) -> Result<(), AllocError>
-    ensures { OnOk result (rows_of rows.new.items
-        ≡ rows_of rows.old.items ++ session_cells (session_view session.now) ∷ []) }
-{
-    let name = session_name(alloc, session)?;
-    let (account, peak) = (session.account, session.peak);
-    add_row(
-        alloc,
-        name,
-        ram_figures(account, peak),
-        caps_figures(account, peak),
-        rows,
-    )
-}
-
-// Returns a session by its selector, its server and its label.
-fn session_name(alloc: Global, session: &SessionRow) -> Result<Vec<u8>, AllocError>
-    ensures { IfOk result (λ name. name.items ≡ session_name (session_view session.now)) }
-{
-    let title: &[u8] = match session.account {
-        Some(_) => b"  session ",
-        None => b"  closed session ",
-    };
-    let mut digits = Buffer::new();
-    let mut name = Vec::from_slice(alloc, title)?;
-    name.extend_from_slice(digits.format(session.selector).as_bytes())?;
-    name.extend_from_slice(b" ")?;
-    name.extend_from_slice(session.server.as_slice())?;
-    name.extend_from_slice(b" ")?;
-    name.extend_from_slice(session.label.as_slice())?;
-    Ok(name)
-}
-
-// Adds a row of limits alone.
-fn add_limits(
-    alloc: Global,
-    name: &[u8],
-    ram: u128,
-    caps: u128,
-    rows: &mut Vec<Vec<Vec<u8>>>,
-) -> Result<(), AllocError>
-    ensures { OnOk result (rows_of rows.new.items
-        ≡ rows_of rows.old.items ++ limit_cells name.now (record { ram = ram; caps = caps }) ∷ []) }
-{
-    let name = Vec::from_slice(alloc, name)?;
-    add_row(alloc, name, limit_alone(ram), limit_alone(caps), rows)
-}
-
-// Returns use, peak and limit of RAM; a closed session has its peak alone.
-fn ram_figures(account: Option<Quotas>, peak: Peak) -> Figures
-    ensures { result ≡ ram_figures (option_map quotas_account account) (peaked peak) }
-{
-    Figures {
-        used: account.map(|account| u128::from(account.ram_used.0)),
-        peak: Some(u128::from(peak.ram.0)),
-        limit: account.map(|account| u128::from(account.ram_limit.0)),
-    }
-}
-
-// Returns use, peak and limit of capabilities; a closed session has its peak alone.
-fn caps_figures(account: Option<Quotas>, peak: Peak) -> Figures
-    ensures { result ≡ caps_figures (option_map quotas_account account) (peaked peak) }
-{
-    Figures {
-        used: account.map(|account| u128::from(account.caps_used.0)),
-        peak: Some(u128::from(peak.caps.0)),
-        limit: account.map(|account| u128::from(account.caps_limit.0)),
-    }
-}
-
-// Returns a limit alone.
-fn limit_alone(limit: u128) -> Figures
-    ensures { result ≡ limit_alone limit }
-{
-    Figures {
-        used: None,
-        peak: None,
-        limit: Some(limit),
-    }
+// Returns use, peak, need and limit of an account. A closed session has its peak and its need alone.
+fn figures(account: Option<Quotas>, peak: Peak, needed: AccountNeed) -> Figures {
+    let used = account.map(|it| (u128::from(it.ram_used.0), u128::from(it.caps_used.0)));
+    let limit = account.map(|it| (u128::from(it.ram_limit.0), u128::from(it.caps_limit.0)));
+    let need = (u128::from(needed.need.ram), u128::from(needed.need.caps));
+    let peak = (u128::from(peak.ram.0), u128::from(peak.caps.0));
+    [used, Some(peak), Some(need), limit]
 }

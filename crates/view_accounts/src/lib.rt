@@ -3,8 +3,8 @@
 //! `cli_runs` calls it. For example `accounts(alloc, play, reader, writer, complaints)?` runs a scenario, and returns its rows.
 #![tactic(auto)]
 
-mod account_documents;
 mod account_list;
+mod account_records;
 mod account_rows;
 mod account_table;
 mod accounting;
@@ -13,8 +13,6 @@ mod peaks;
 mod session_needs;
 mod session_outcome;
 mod session_table;
-mod table;
-mod table_rows;
 
 pub use account_list::{AccountList, accounts};
 pub use account_rows::AccountRows;

@@ -272,7 +272,6 @@ impl SessionNeeds {
     }
 
     // Keeps sessions of a component as closed, in this order.
-    #[tactic(auto, using(crate::proofs::ClosingLemmas::closing_next))]
     fn keep_each_closed(
         &mut self,
         component: usize,

@@ -2,5 +2,5 @@ pub mod Names
 pub mod Rules
 pub mod Views
 pub mod Covered
-pub mod Documents
+pub mod Records
 pub mod Reported

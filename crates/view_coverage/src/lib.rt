@@ -3,9 +3,9 @@
 #![tactic(auto)]
 
 mod deciding_rules;
-mod documents;
 mod event;
 mod lines;
+mod records;
 mod report;
 mod row;
 mod scenario_coverage;

@@ -1,7 +1,7 @@
 //! The coverage of all scenarios: which rules decide a session request, and which script requests which service, in total and by
 //! file.
 ghost use Rattle.std.specs.Prelude.{◌≡◌, ◌++◌, ◌∷◌, [], count_by, length, map, string_bytes, IfOk, OnOk, Some};
-ghost use Rattle.view_coverage.specs.Documents.{path_at, times_of};
+ghost use Rattle.view_coverage.specs.Records.{path_at, times_of};
 ghost use Rattle.std.specs.Option.{option_and_then};
 ghost use Rattle.view_coverage.specs.Names.{names_by, names_in, owner_number, path_of, requested_service, rule_name, rule_text, script_path};
 ghost use Rattle.view_coverage.specs.Reported.{is_covered, list_at, list_of_scenario, meets_part, part_of, parts_from, parts_in, parts_with, paths_in, paths_with, place_of, rows_in};

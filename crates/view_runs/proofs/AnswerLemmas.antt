@@ -46,9 +46,9 @@ answered_from {first = first} {start = start} ending is plays = record {
 }
 
 -- and it wrote nothing
-pub silent_played : {first : RunPosition} {seen reports : List (List ℕ) → Type 0} {start last : World} {awaited : Awaited} {input rest w w' : Option (List ℕ)} {failed : Bool} (ending : ScenarioEnd) →
-    RunsAll (λ _ _ _. []) true seen (CountsErrors None start (tally 0 awaited) ending.complaints) reports None first ending.fault ending.lines start last [] input rest failed w w' →
-    IsRunFrom (start_at None start first awaited) (λ _. []) (λ _. []) true reports ending input rest failed w w'
+pub silent_played : {list : Listed} {first : RunPosition} {seen reports : List (List ℕ) → Type 0} {start last : World} {awaited : Awaited} {input rest w w' : Option (List ℕ)} {failed : Bool} (ending : ScenarioEnd) →
+    RunsAll (λ _ _ _. []) true seen (CountsErrors list None start (tally 0 awaited) ending.complaints) reports None first ending.fault ending.lines start last [] input rest failed w w' →
+    IsRunFrom (start_at list None start first awaited) (λ _. []) (λ _. []) true reports ending input rest failed w w'
 silent_played {first = first} {start = start} {w' = w'} ending plays =
     played_from ending ending plays (silent_steps None [] (steps_of None start first plays.given)) (closes_alone ending w')
 

@@ -1,20 +1,18 @@
 -- What each command writes, from what its play promises.
-use Rattle.std.proofs.Common.{◌≡◌, ℕ, ◌≤◌, List, [], ◌∷◌, ◌++◌, Bool, true, false, length, Option, Some, None, IfNone, Result, Ok, Err, arith, refl, sym, ◌∙◌, ap, subst, append-nil, length-append}
+use Rattle.std.proofs.Common.{◌≡◌, ℕ, ◌≤◌, List, [], ◌∷◌, ◌++◌, Bool, true, false, length, Option, Some, None, IfNone, arith, refl, sym, ◌∙◌, ap, subst, append-nil, length-append}
 use Rattle.std.proofs.lemmas.Bool.Decides.{nat_tests}
 use Rattle.std.proofs.lemmas.Option.{none-some}
 use Rattle.std.specs.Prelude.{IfSome}
 use Rattle.std.specs.List.{filter}
-use Rattle.own_model.specs.LinesOfName.{is_line_of, said_by}
-use Rattle.own_model.specs.Listed.{Listed, start_list_of}
-use Rattle.own_model.specs.StartList.{entries_of}
-use Rattle.own_model.specs.Text.{lines_of}
+use Rattle.own_model.specs.LinesOfName.{is_line_of}
+use Rattle.own_model.specs.Listed.{Listed}
 use Rattle.own_model.specs.World.{World}
 use Rattle.line_steps.specs.ResolvedLines.{ResolvedLine}
 use Rattle.line_steps.specs.ResolvedLines.ResolvedLine.{TooLong, Skipped, BadName, Follow, Misplaced, Nothing, Log, Call, BadLine}
 use Rattle.run_lines.specs.LineRuns.{EndsFor}
 use Rattle.run_lines.specs.Machine.{accounts_for, world_of}
 use Rattle.view_runs.specs.Alone.{CountsAlone, SeesAlone, alone_sum, alone_call_text}
-use Rattle.run_scenario.specs.Judging.{Awaited, errors_of, nothing_awaited}
+use Rattle.run_scenario.specs.Judging.{Awaited, nothing_awaited}
 use Rattle.run_scenario.specs.RunCalls.{calls_answered, calls_of_steps, text_of_steps}
 use Rattle.run_scenario.specs.ScenarioRuns.{CountsErrors, RunsAll, most_lines, tally}
 use Rattle.view_runs.specs.Tracing.{TraceRow, trace_call_text}
@@ -30,8 +28,8 @@ use Rattle.run_scenario.proofs.WriteLemmas.{closes_alone, closes_as, played_from
 
 -- what is told, and the account list behind it where it is asked for
 pub run_played : (numbers accounts : Bool) (only : Option (List ℕ)) (listed : Listed) {first : RunPosition} {seen reports : List (List ℕ) → Type 0} {start last : World} {awaited : Awaited} {input rest w w' w'' : Option (List ℕ)} {failed : Bool} (played ended : ScenarioEnd) →
-    RunsAll (text_of_run_call numbers start) false seen (CountsErrors only start (tally 0 awaited) played.complaints) reports only first played.fault played.lines start last [] input rest failed w w' → Closes played ended w' w'' (accounts_for accounts listed last) →
-    IsRunFrom (start_at only start first awaited) (shown_of numbers only start) (list_behind accounts only listed start) false reports ended input rest failed w w''
+    RunsAll (text_of_run_call numbers start) false seen (CountsErrors listed only start (tally 0 awaited) played.complaints) reports only first played.fault played.lines start last [] input rest failed w w' → Closes played ended w' w'' (accounts_for accounts listed last) →
+    IsRunFrom (start_at listed only start first awaited) (shown_of numbers only start) (list_behind accounts only listed start) false reports ended input rest failed w w''
 run_played true accounts only listed {w' = w'} {w'' = w''} played ended plays closes =
     played_from played ended plays refl (subst (λ world. Closes played ended w' w'' (accounts_for accounts listed world)) plays.world closes)
 run_played false accounts only listed {first = first} {start = start} {w' = w'} {w'' = w''} played ended plays closes =
@@ -39,9 +37,9 @@ run_played false accounts only listed {first = first} {start = start} {w' = w'} 
     (subst (λ world. Closes played ended w' w'' (accounts_for accounts listed world)) plays.world closes)
 
 -- the rows of a trace, after the text before them
-pub trace_played : (front : List ℕ) (row_text : TraceRow → List ℕ) (takes : Bool) {first : RunPosition} {seen reports : List (List ℕ) → Type 0} {start last : World} {awaited : Awaited} {input rest w w' : Option (List ℕ)} {failed : Bool} (ending : ScenarioEnd) {header : List ℕ} → header ≡ front →
-    RunsAll (trace_call_text row_text start) takes seen (CountsErrors None start (tally 0 awaited) ending.complaints) reports None first ending.fault ending.lines start last header input rest failed w w' →
-    IsRunFrom (start_at None start first awaited) (λ steps. front ++ text_of_steps (trace_call_text row_text start) None [] steps) (λ _. []) takes reports ending input rest failed w w'
+pub trace_played : (front : List ℕ) (row_text : TraceRow → List ℕ) (takes : Bool) {list : Listed} {first : RunPosition} {seen reports : List (List ℕ) → Type 0} {start last : World} {awaited : Awaited} {input rest w w' : Option (List ℕ)} {failed : Bool} (ending : ScenarioEnd) {header : List ℕ} → header ≡ front →
+    RunsAll (trace_call_text row_text start) takes seen (CountsErrors list None start (tally 0 awaited) ending.complaints) reports None first ending.fault ending.lines start last header input rest failed w w' →
+    IsRunFrom (start_at list None start first awaited) (λ steps. front ++ text_of_steps (trace_call_text row_text start) None [] steps) (λ _. []) takes reports ending input rest failed w w'
 trace_played front row_text takes {first = first} {start = start} {w' = w'} ending is plays =
     played_from ending ending plays (ap (λ text. text ++ text_of_steps (trace_call_text row_text start) None [] (steps_of None start first plays.given)) is) (closes_alone ending w')
 
@@ -73,10 +71,10 @@ pub few_of_name : (name : List ℕ) (world : World) (position : RunPosition) (li
 few_of_name name world position lines =
     omega (arith, filter_few (is_line_of name) (calls_of_steps (steps_of None world position lines)), few_calls (steps_of None world position lines), steps_length None world position lines)
 
-pub alone_played : (name : List ℕ) {reports : List (List ℕ) → Type 0} {first : RunPosition} {start last core : World} {awaited : Awaited} {count : ℕ} {difference : Option ℕ} {input rest w w' w'' : Option (List ℕ)} {failed : Bool} (played ended : ScenarioEnd) → played.lines ≤ 1000000 →
-    RunsAll (alone_call_text name start) false (SeesAlone name core count difference start) (CountsErrors None start (tally 0 awaited) played.complaints) reports None first played.fault played.lines start last [] input rest failed w w' →
+pub alone_played : (name : List ℕ) {list : Listed} {reports : List (List ℕ) → Type 0} {first : RunPosition} {start last core : World} {awaited : Awaited} {count : ℕ} {difference : Option ℕ} {input rest w w' w'' : Option (List ℕ)} {failed : Bool} (played ended : ScenarioEnd) → played.lines ≤ 1000000 →
+    RunsAll (alone_call_text name start) false (SeesAlone name core count difference start) (CountsErrors list None start (tally 0 awaited) played.complaints) reports None first played.fault played.lines start last [] input rest failed w w' →
     Closes played ended w' w'' (alone_sum name count) →
-    IsRunFrom (start_at None start first awaited) (λ steps. text_of_steps (alone_call_text name start) None [] steps) (λ steps. alone_sum name (length (calls_answered (Some name) steps))) false reports ended input rest failed w w''
+    IsRunFrom (start_at list None start first awaited) (λ steps. text_of_steps (alone_call_text name start) None [] steps) (λ steps. alone_sum name (length (calls_answered (Some name) steps))) false reports ended input rest failed w w''
 alone_played name {first = first} {start = start} {core = core} {count = count} {difference = difference} {w' = w'} {w'' = w''} played ended few plays closes =
     played_from played ended plays refl (closes_as played ended w' w'' _ _ (same played.fault plays.counted plays.sees) closes)
   where
@@ -89,11 +87,11 @@ alone_played name {first = first} {start = start} {core = core} {count = count} 
     same (Some fault) counted sees = tt
 
 -- the errors of the lines, and how many calls of the name they make
-pub alone_counts : (name : List ℕ) {reports : List (List ℕ) → Type 0} {first : RunPosition} {start last core : World} (awaited : Awaited) {count : ℕ} {difference : Option ℕ} {input rest w w' w'' : Option (List ℕ)} {failed : Bool} (played ended : ScenarioEnd) → played.lines ≤ 1000000 →
-    RunsAll (alone_call_text name start) false (SeesAlone name core count difference start) (CountsErrors None start (tally 0 awaited) played.complaints) reports None first played.fault played.lines start last [] input rest failed w w' →
+pub alone_counts : (name : List ℕ) (list : Listed) {reports : List (List ℕ) → Type 0} {first : RunPosition} {start last core : World} (awaited : Awaited) {count : ℕ} {difference : Option ℕ} {input rest w w' w'' : Option (List ℕ)} {failed : Bool} (played ended : ScenarioEnd) → played.lines ≤ 1000000 →
+    RunsAll (alone_call_text name start) false (SeesAlone name core count difference start) (CountsErrors list None start (tally 0 awaited) played.complaints) reports None first played.fault played.lines start last [] input rest failed w w' →
     Closes played ended w' w'' (alone_sum name count) →
-    IfNone ended.fault (CountsAlone name (start_at None start first awaited) input ended.complaints count)
-alone_counts name {first = first} {start = start} {core = core} awaited {count = count} {difference = difference} {input = input} {rest = rest} {w' = w'} {w'' = w''} {failed = failed} played ended few plays closes =
+    IfNone ended.fault (CountsAlone name (start_at list None start first awaited) input ended.complaints count)
+alone_counts name list {first = first} {start = start} {core = core} awaited {count = count} {difference = difference} {input = input} {rest = rest} {w' = w'} {w'' = w''} {failed = failed} played ended few plays closes =
     by played.fault ended.fault plays.ends plays.counted plays.complained plays.sees closes.writes
   where
     steps : List LineStep
@@ -104,12 +102,12 @@ alone_counts name {first = first} {start = start} {core = core} awaited {count =
     all (Some text) ends = ends.1 ∙ ap (λ left. plays.given ++ left) ends.2.0 ∙ append-nil plays.given
 
     by : (f f' : Option LineRunFault) → EndsFor most_lines f plays.given input rest failed → IfNone f (played.lines ≡ length plays.given) →
-        IfNone f (CountsErrors None start (tally 0 awaited) played.complaints steps) → IfNone f (SeesAlone name core count difference start (calls_answered None steps)) →
-        WritesAfter f f' w' w'' (alone_sum name count) → IfNone f' (CountsAlone name (start_at None start first awaited) input ended.complaints count)
+        IfNone f (CountsErrors list None start (tally 0 awaited) played.complaints steps) → IfNone f (SeesAlone name core count difference start (calls_answered None steps)) →
+        WritesAfter f f' w' w'' (alone_sum name count) → IfNone f' (CountsAlone name (start_at list None start first awaited) input ended.complaints count)
     by None None ends counted errors sees writes = record {
       given = plays.given;
       all = all input ends;
-      complained = closes.complaints ∙ errors_exact None start awaited steps played.complaints (omega (arith, plays.few, steps_length None start first plays.given)) errors;
+      complained = closes.complaints ∙ errors_exact list None start awaited steps played.complaints (omega (arith, plays.few, steps_length None start first plays.given)) errors;
       counted = sees.counted (omega (arith, few, counted, few_of_name name start first plays.given));
     }
     by (Some fault) None ends counted errors sees writes = absurd (none-some fault writes.0)
@@ -117,10 +115,10 @@ alone_counts name {first = first} {start = start} {core = core} awaited {count =
 
 -- and on the machine of a list
 pub alone_counts_on : (name : List ℕ) (listed : Listed) (first : RunPosition) (fault : Option LineRunFault) (errors count : ℕ) {start : World} {begun : RunPosition} {awaited : Awaited} (input : Option (List ℕ)) →
-    start ≡ world_of listed → begun ≡ first → awaited ≡ nothing_awaited → IfNone fault (CountsAlone name (start_at None start begun awaited) input errors count) →
+    start ≡ world_of listed → begun ≡ first → awaited ≡ nothing_awaited → IfNone fault (CountsAlone name (start_at listed None start begun awaited) input errors count) →
     IfNone fault (CountsAlone name (start_on None first listed) input errors count)
 alone_counts_on name listed first fault errors count input starts begins none counts =
-    subst (λ (s : RunStart). IfNone fault (CountsAlone name s input errors count)) (λ i. start_at None (starts i) (begins i) (none i)) counts
+    subst (λ (s : RunStart). IfNone fault (CountsAlone name s input errors count)) (λ i. start_at listed None (starts i) (begins i) (none i)) counts
 
 -- it differs nowhere
 pub alone_same : (fault : Option LineRunFault) (name : List ℕ) (start core : World) (count : ℕ) (difference : Option ℕ) (lines : List (List ℕ)) →

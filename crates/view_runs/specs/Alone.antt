@@ -38,11 +38,15 @@ pub record SeesAlone (name : List ℕ) (core : World) (lines : ℕ) (difference 
   pub counted : length (said_by (Some name) earlier) < 2 ^ 64 → lines ≡ length (said_by (Some name) earlier)
   pub alike : difference ≡ None
 
+-- the words between a number of lines and the name
+abbrev pub words_for : ℕ → List ℕ
+words_for lines = if lines == 1 then codes " line of " else codes " lines of "
+
 -- how many lines of the name there were, if any
 abbrev pub alone_sum : List ℕ → ℕ → List ℕ
 alone_sum name lines =
     if lines == 0 then name ++ codes ": no line of the scenario" ++ 10 ∷ []
-    else decimal lines ++ codes " lines of " ++ name ++ codes ": the same alone as in the whole run" ++ 10 ∷ []
+    else decimal lines ++ words_for lines ++ name ++ codes ": the same alone as in the whole run" ++ 10 ∷ []
 
 abbrev pub alone_behind : List ℕ → List LineStep → List ℕ
 alone_behind name steps = alone_sum name (length (calls_answered (Some name) steps))
@@ -51,7 +55,7 @@ alone_behind name steps = alone_sum name (length (calls_answered (Some name) ste
 pub record CountsAlone (name : List ℕ) (start : RunStart) (input : Option (List ℕ)) (errors count : ℕ) : Type 0 where
   pub given : List (List ℕ)
   pub all : IfSome input (AreAll given)
-  pub complained : errors ≡ errors_of start.only start.world start.awaited (steps_from start given)
+  pub complained : errors ≡ errors_of start.list start.only start.world start.awaited (steps_from start given)
   pub counted : count ≡ length (calls_answered (Some name) (steps_from start given))
 
 abbrev pub alone_text : List ℕ → Listed → List LineStep → List ℕ

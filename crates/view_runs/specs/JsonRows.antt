@@ -1,41 +1,40 @@
 -- Rows of a trace as objects of JSON, a row a line.
 use Rattle.std.specs.Prelude.{ℕ, List, [], ◌∷◌, ◌++◌, codes, Option}
-use Rattle.std.specs.Option.{option_map, option_map_or}
+use Rattle.std.specs.Option.{option_map}
 use Rattle.own_model.specs.Account.{Account}
-use Rattle.serde_json.specs.Data.{Data, null, number, unsigned}
-use Rattle.view_json.specs.Documents.{object_text, text_data}
+use Rattle.serde_json.specs.Written.{compact_text}
+use Rattle.view_records.specs.JsonTexts.{object_of}
+use Rattle.view_records.specs.Records.{CellData, Record, text, number, if_number, if_text, null_if_absent}
 use Rattle.view_runs.specs.Tracing.{SessionAccount, TraceRow}
 
--- a number as a value, or `null`
-abbrev pub number_data : Option ℕ → Data
-number_data n = option_map_or (λ n. number (unsigned n)) n null
+-- a figure of an account, if there is one
+abbrev pub figure_cell : (Account → ℕ) → Option Account → CellData
+figure_cell figure account = null_if_absent (if_number (option_map figure account))
 
--- a text as a value, or `null`
-abbrev pub filled_data : Option (List ℕ) → Data
-filled_data text = option_map_or text_data text null
+-- the selector of a session, and its account
+abbrev pub selector_cell : Option SessionAccount → CellData
+selector_cell session = null_if_absent (if_number (option_map (λ (s : SessionAccount). s.selector) session))
 
-abbrev pub account_members : Option Account → List (List ℕ × Data)
-account_members account =
-    (codes "ram_used", number_data (option_map (λ (a : Account). a.ram_used) account))
-    ∷ (codes "ram_limit", number_data (option_map (λ (a : Account). a.ram_limit) account))
-    ∷ (codes "caps_used", number_data (option_map (λ (a : Account). a.caps_used) account))
-    ∷ (codes "caps_limit", number_data (option_map (λ (a : Account). a.caps_limit) account))
-    ∷ []
+abbrev pub account_of : Option SessionAccount → Option Account
+account_of session = option_map (λ (s : SessionAccount). s.account) session
 
-abbrev pub session_members : Option SessionAccount → List (List ℕ × Data)
-session_members session =
-    (codes "session", number_data (option_map (λ (s : SessionAccount). s.selector) session))
-    ∷ (codes "session_ram_used", number_data (option_map (λ (s : SessionAccount). s.account.ram_used) session))
-    ∷ (codes "session_ram_limit", number_data (option_map (λ (s : SessionAccount). s.account.ram_limit) session))
-    ∷ (codes "session_caps_used", number_data (option_map (λ (s : SessionAccount). s.account.caps_used) session))
-    ∷ (codes "session_caps_limit", number_data (option_map (λ (s : SessionAccount). s.account.caps_limit) session))
-    ∷ []
-
--- the members of a row's object: a member for each column
-abbrev pub row_members : TraceRow → List (List ℕ × Data)
-row_members row =
-    (codes "line", number (unsigned row.number)) ∷ (codes "component", text_data row.component) ∷ (codes "call", text_data row.call) ∷ (codes "reply", text_data row.reply)
-    ∷ (account_members row.account ++ session_members row.session ++ (codes "text", filled_data row.text) ∷ [])
+-- a row: a cell for each column, in the order of their names
+abbrev pub row_record : TraceRow → Record
+row_record row =
+    (codes "call", text row.call)
+    ∷ (codes "caps_limit", figure_cell (λ a. a.caps_limit) row.account)
+    ∷ (codes "caps_used", figure_cell (λ a. a.caps_used) row.account)
+    ∷ (codes "component", text row.component)
+    ∷ (codes "line", number row.number)
+    ∷ (codes "ram_limit", figure_cell (λ a. a.ram_limit) row.account)
+    ∷ (codes "ram_used", figure_cell (λ a. a.ram_used) row.account)
+    ∷ (codes "reply", text row.reply)
+    ∷ (codes "session", selector_cell row.session)
+    ∷ (codes "session_caps_limit", figure_cell (λ a. a.caps_limit) (account_of row.session))
+    ∷ (codes "session_caps_used", figure_cell (λ a. a.caps_used) (account_of row.session))
+    ∷ (codes "session_ram_limit", figure_cell (λ a. a.ram_limit) (account_of row.session))
+    ∷ (codes "session_ram_used", figure_cell (λ a. a.ram_used) (account_of row.session))
+    ∷ (codes "text", null_if_absent (if_text row.text)) ∷ []
 
 abbrev pub json_row : TraceRow → List ℕ
-json_row row = object_text (row_members row) ++ 10 ∷ []
+json_row row = compact_text (object_of (row_record row)) ++ 10 ∷ []

@@ -13,7 +13,7 @@ ghost use Rattle.line_grammar.specs.Read.{IsReadAs};
 ghost use Rattle.run_lines.specs.Causes.{HasCause};
 ghost use Rattle.run_scenario.specs.Faults.{fault_before, unplayed};
 ghost use Rattle.run_lines.specs.Faults.{is_write_fault};
-ghost use Rattle.view_runs.specs.Alone.{AreAlike, CountsAlone, SeesAlone, alone_behind, alone_sum, alone_call_text, alone_text};
+ghost use Rattle.view_runs.specs.Alone.{AreAlike, CountsAlone, SeesAlone, alone_behind, alone_sum, alone_call_text, alone_text, words_for};
 ghost use Rattle.run_scenario.specs.RunCalls.{calls_answered, text_of_steps};
 ghost use Rattle.run_scenario.specs.Texts.{in_brackets, line_text};
 ghost use Rattle.run_scenario.specs.LineSteps.{steps_of};
@@ -364,31 +364,31 @@ fn run_alone<'a, R: Router + Drop, Q: Router + Drop, S: Source, K: Sink, E: Sink
     requires same { machines.alone ≡ machines.whole }
     ensures played { fault_before (S.has_failed reader.old)
         (K.has_failed writer.old || E.has_failed complaints.old) ≡ None →
-        IsRunFrom (start_at None machines.whole state.old.position state.old.checker.expected)
+        IsRunFrom (start_at named.now.run.list.now None machines.whole state.old.position state.old.checker.expected)
         (λ steps. text_of_steps (alone_call_text named.now.name.now machines.whole) None [] steps)
         (λ steps. alone_sum named.now.name.now
         (length (calls_answered (Some named.now.name.now) steps)))
         false
         (WritesAllReports (scope_of (subject_at state.old.checker.scenario) named.now.run.list.now)
-        (start_at None machines.whole state.old.position state.old.checker.expected)
+        (start_at named.now.run.list.now None machines.whole state.old.position state.old.checker.expected)
         (E.contents complaints.old) (E.contents complaints.new))
         result.ending (S.remaining reader.old) (S.remaining reader.new)
         (S.has_failed reader.new) (K.contents writer.old) (K.contents writer.new) }
     ensures summed { fault_before (S.has_failed reader.old)
         (K.has_failed writer.old || E.has_failed complaints.old) ≡ None →
-        IsRunFrom (start_at None machines.whole state.old.position state.old.checker.expected)
+        IsRunFrom (start_at named.now.run.list.now None machines.whole state.old.position state.old.checker.expected)
         (λ steps. text_of_steps (alone_call_text named.now.name.now machines.whole) None [] steps)
         (λ _. alone_sum named.now.name.now result.lines)
         false
         (WritesAllReports (scope_of (subject_at state.old.checker.scenario) named.now.run.list.now)
-        (start_at None machines.whole state.old.position state.old.checker.expected)
+        (start_at named.now.run.list.now None machines.whole state.old.position state.old.checker.expected)
         (E.contents complaints.old) (E.contents complaints.new))
         result.ending (S.remaining reader.old) (S.remaining reader.new)
         (S.has_failed reader.new) (K.contents writer.old) (K.contents writer.new) }
     ensures counts { fault_before (S.has_failed reader.old)
         (K.has_failed writer.old || E.has_failed complaints.old) ≡ None →
         IfNone result.ending.fault (CountsAlone named.now.name.now
-        (start_at None machines.whole state.old.position state.old.checker.expected)
+        (start_at named.now.run.list.now None machines.whole state.old.position state.old.checker.expected)
         (S.remaining reader.old) result.ending.complaints result.lines) }
     ensures same { fault_before (S.has_failed reader.old)
         (K.has_failed writer.old || E.has_failed complaints.old) ≡ None →
@@ -435,6 +435,18 @@ fn run_alone<'a, R: Router + Drop, Q: Router + Drop, S: Source, K: Sink, E: Sink
     compared.close(name, writer)
 }
 
+// Returns the words between a number of lines and a name.
+fn words_for(lines: u64) -> &'static [u8]
+    ensures words { result.now ≡ words_for lines }
+    ensures few { length result.now ≤ 10 }
+{
+    if lines == 1 {
+        b" line of "
+    } else {
+        b" lines of "
+    }
+}
+
 // Gathers how many lines there are, and whether the answers are the same.
 fn put_sum<K: Sink>(
     name: &[u8],
@@ -453,7 +465,7 @@ fn put_sum<K: Sink>(
     }
     let mut count: ArrayVec<u8, LONGEST_NUMBER> = ArrayVec::new();
     add_number(&mut count, lines);
-    add(&mut count, b" lines of ");
+    add(&mut count, words_for(lines));
     match difference {
         None => put_three(
             count.as_slice(),

@@ -125,7 +125,7 @@ fn trace_on<R: Router + Drop, F: RowFormat + Drop, S: Source, K: Sink, E: Sink>(
     requires all { stage.run.only ≡ None }
     ensures played { fault_before (S.has_failed reader.old)
         (K.has_failed writer.old || E.has_failed complaints.old) ≡ None →
-        IsRunFrom (start_at None stage.entry.core stage.entry.state.position
+        IsRunFrom (start_at stage.entry.run.list.now None stage.entry.core stage.entry.state.position
         stage.entry.state.checker.expected)
         (λ steps. F.front
         ++ text_of_steps (trace_call_text F.row_text stage.entry.core) None [] steps)
@@ -133,7 +133,7 @@ fn trace_on<R: Router + Drop, F: RowFormat + Drop, S: Source, K: Sink, E: Sink>(
         F.takes
         (WritesAllReports
         (scope_of (subject_at stage.entry.state.checker.scenario) stage.entry.run.list.now)
-        (start_at None stage.entry.core stage.entry.state.position
+        (start_at stage.entry.run.list.now None stage.entry.core stage.entry.state.position
         stage.entry.state.checker.expected)
         (E.contents complaints.old) (E.contents complaints.new))
         result (S.remaining reader.old) (S.remaining reader.new)

@@ -184,7 +184,7 @@ fn run_on<R: Router + Drop, S: Source, K: Sink, E: Sink>(
     requires listed { stage.core.entries ≡ entries_of (start_list_of stage.run.list.now) }
     ensures played { fault_before (S.has_failed reader.old)
         (K.has_failed writer.old || E.has_failed complaints.old) ≡ None →
-        IsRunFrom (start_at (option_copied stage.entry.run.only) stage.entry.core
+        IsRunFrom (start_at stage.entry.run.list.now (option_copied stage.entry.run.only) stage.entry.core
         stage.entry.state.position stage.entry.state.checker.expected)
         (shown_of showing.entry.numbers (option_copied stage.entry.run.only) stage.entry.core)
         (list_behind showing.entry.accounts (option_copied stage.entry.run.only)
@@ -192,7 +192,7 @@ fn run_on<R: Router + Drop, S: Source, K: Sink, E: Sink>(
         false
         (WritesAllReports
         (scope_of (subject_at stage.entry.state.checker.scenario) stage.entry.run.list.now)
-        (start_at (option_copied stage.entry.run.only) stage.entry.core stage.entry.state.position
+        (start_at stage.entry.run.list.now (option_copied stage.entry.run.only) stage.entry.core stage.entry.state.position
         stage.entry.state.checker.expected)
         (E.contents complaints.old) (E.contents complaints.new))
         result

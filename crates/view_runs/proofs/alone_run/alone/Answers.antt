@@ -20,7 +20,7 @@ returns-clause-summed g c = λ works.
 pub returns-clause-counts : goal.returns-clause-counts
 returns-clause-counts g c = λ works.
     alone_counts_on c.args.name.now c.args.play.list.now c.args.play.start c.run_alone.result.ending.fault c.run_alone.result.ending.complaints c.run_alone.result.lines (g.S.Source.remaining c.args.reader.now)
-    c.in_ok-whole.ensures.started c.new-state.ensures.stands c.new-state.ensures.expects (rw c.new-named.ensures.name at (c.run_alone.ensures.counts works))
+    c.in_ok-whole.ensures.started c.new-state.ensures.stands c.new-state.ensures.expects (rw (c.new-named.ensures.name, c.new-named.ensures.list) at (c.run_alone.ensures.counts works))
 
 pub returns-clause-alike : goal.returns-clause-alike
 returns-clause-alike g c = are_alike c.args.name.now

@@ -29,7 +29,7 @@ returns-clause-counts g c = λ works.
     let start = c.args.machines.whole in
     let plays = rw c.play-ending.ensures.held at (rw c.requires.all at (c.play-ending.ensures.plays works)) in
     rw c.close.ensures.lines
-    (alone_counts name _ c.play-ending.result c.close.result.ending c.play-ending.ensures.few plays
+    (alone_counts name c.args.named.now.run.list.now _ c.play-ending.result c.close.result.ending c.play-ending.ensures.few plays
     (c.close.ensures.closes (alone_same c.play-ending.result.fault name start _ _ _ _ plays.sees)))
 
 pub returns-clause-same : goal.returns-clause-same

@@ -1,3 +1,0 @@
-pub mod ListingLemmas
-pub mod MemberLemmas
-pub mod TextLemmas

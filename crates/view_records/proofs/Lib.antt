@@ -1,0 +1,4 @@
+pub mod MemberLemmas
+pub mod OrderLemmas
+pub mod RecordLemmas
+pub mod TokenLemmas

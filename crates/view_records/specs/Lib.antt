@@ -1,0 +1,6 @@
+pub mod Cells
+pub mod JsonTexts
+pub mod Lists
+pub mod ObjectTexts
+pub mod Records
+pub mod Stored
