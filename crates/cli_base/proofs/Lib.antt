@@ -2,4 +2,5 @@ mod FileLemmas
 pub mod MadeLemmas
 pub mod StatusLemmas
 pub mod UnfoldingLemmas
-mod VerdictLemmas
+pub mod UnreadLemmas
+pub mod VerdictLemmas

@@ -1,10 +1,10 @@
 -- What an exit status states.
-use Rattle.std.proofs.Common.{◌≡◌, ◌≢◌, ℕ, Bool, true, false, Result, Ok, Err, OnOk, refl, sym, subst, ap, ◌∙◌, arith, inl, inr}
-use Rattle.std.specs.Prelude.{◌==◌, ◌&&◌, nat_lt, if◌then◌else◌}
+use Rattle.std.proofs.Common.{◌≡◌, ◌≢◌, ℕ, Result, Ok, Err, OnOk, refl, sym, subst, ap, ◌∙◌, arith, inl, inr}
+use Rattle.std.specs.Prelude.{◌==◌, if◌then◌else◌}
 use Rattle.std.specs.IoError.{error_kind}
 use Rattle.std.specs.declared.io.Error.{Error}
 use Rattle.std.specs.declared.io.ErrorKind.TheVariants.{BrokenPipe}
-use Rattle.cli_base.specs.Statuses.{EndsAs, HasNoResult, HasWritten, IsZero, warned}
+use Rattle.cli_base.specs.Statuses.{EndsAs, HasNoResult, HasWritten, IsZero}
 
 -- the write didn't fail
 pub written_whole : {T : Type 0} (written : Result T Error) (status : ℕ) (P : Type 0) → HasWritten written status → OnOk written P → status ≡ 0 → P
@@ -43,17 +43,3 @@ ends_printed R P printed status ended (inl failed) ends is =
     inl (unrefused R ended (failed_by ⊥ (λ p. if p == 0 then status else p) printed ended refl refl refl is failed))
 ends_printed R P printed status ended (inr zero) ends is =
     subst (λ s. EndsAs R P s) (sym (is ∙ ap (λ p. if p == 0 then status else p) zero)) ends
-
--- warnings don't count if something else is reported
-unwarned : (strict some : Bool) (status : ℕ) → (if strict && (some && false) then 3 else status) ≡ status
-unwarned true true status = refl
-unwarned true false status = refl
-unwarned false some status = refl
-
--- the status of a result with its warnings
-pub ends_warned : (R S : Type 0) (P Q : ℕ → Type 0) (strict : Bool) (warnings ran status : ℕ) → (R → S)
-    → ((ended : ℕ) → P ended → Q (warned strict warnings ended)) → EndsAs R P ran → status ≡ warned strict warnings ran → EndsAs S Q status
-ends_warned R S P Q strict warnings ran status why more (inl failed) is =
-    refused_by R S Q why status ((failed_by R (λ r. warned strict warnings r) ran status
-    (unwarned strict (nat_lt 0 warnings) 1) (unwarned strict (nat_lt 0 warnings) 2) (unwarned strict (nat_lt 0 warnings) 141) is failed))
-ends_warned R S P Q strict warnings ran status why more (inr ends) is = inr (subst Q (sym is) (more ran ends))

@@ -1,7 +1,6 @@
 pub mod Files
 pub mod Given
 pub mod ListFailures
-pub mod ListFaults
 pub mod MachineChoice
 pub mod MachineTexts
 pub mod Origins

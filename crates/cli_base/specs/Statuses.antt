@@ -1,5 +1,5 @@
 -- Exit statuses.
-use Rattle.std.specs.Prelude.{◌≡◌, ◌≢◌, ◌⊎◌, ℕ, ◌==◌, ◌&&◌, Bool, nat_lt, if◌then◌else◌, Result, Ok, Err}
+use Rattle.std.specs.Prelude.{◌≡◌, ◌≢◌, ◌⊎◌, ℕ, if◌then◌else◌, Result, Ok, Err}
 use Rattle.std.specs.IoError.{error_kind}
 use Rattle.std.specs.declared.io.Error.{Error}
 use Rattle.std.specs.declared.io.ErrorKind.TheVariants.{BrokenPipe}
@@ -31,7 +31,3 @@ IsZero status = status ≡ 0
 -- a list that doesn't boot is refused, unless the host is out of memory
 abbrev pub boot_status : BootFault → ℕ
 boot_status fault = if boot_lacks_memory fault then 1 else 2
-
--- with `--strict` a warning counts, if nothing else is reported
-abbrev pub warned : Bool → ℕ → ℕ → ℕ
-warned strict warnings status = if strict && (nat_lt 0 warnings && status == 0) then 3 else status

@@ -101,8 +101,8 @@ pub fn scenario_text<H: Host>(host: &H, form: DiagnosticForm, path: &str) -> Res
     }
 }
 
-// Reads a file to its end. Returns none if it has more than 64 MiB.
-fn read_bounded<H: Host>(host: &H, path: &str) -> Result<Option<Vec<u8>>, ReadFailure>
+/// Reads a file to its end. Returns none if it has more than 64 MiB.
+pub(crate) fn read_bounded<H: Host>(host: &H, path: &str) -> Result<Option<Vec<u8>>, ReadFailure>
     ensures text { IfOk result (λ found. IfSome found (λ text.
         IsTextAt (H.text_at host.now) path.now text.items)) }
     ensures long { IfOk result (λ found. IfNone found (IsTooLong (H.text_at host.now) path.now)) }

@@ -8,13 +8,13 @@ ghost use Rattle.cli_base.specs.MachineTexts.{IsFilled};
 use crate::files::read_list;
 use crate::host::{Host, ReadFailure};
 use crate::lines::LineStarts;
-use crate::list_fault::{ListFaultMessage, fault_spot};
+use crate::list_fault::fault_spot;
 use crate::reports::{Spot, report_error};
 use crate::settings::Settings;
 use crate::status::{REFUSED, UNWRITTEN};
 use line_names::{Unfilled, UnknownName, fill_list, token_at};
 use list_parser::BootFault;
-use list_review::{FaultPlace, ListFault, Review};
+use list_review::{FaultSite, PlacedFault, Review};
 use std::alloc::AllocError;
 use std::fmt;
 
@@ -31,7 +31,7 @@ enum ListFailureKind {
     // A name without a value, and its text.
     Unfilled(UnknownName, String),
     // The fault of a file's list.
-    Faulty(ListFault),
+    Faulty(PlacedFault),
     // The fault of the built-in machine's boot.
     Unbooted(BootFault),
 }
@@ -111,14 +111,14 @@ impl fmt::Display for StartListFailure<'_> {
         match &self.why {
             ListFailureKind::ReadFailure(why) => write!(f, "{}", why.about(self.path)),
             ListFailureKind::Unfilled(_, name) => write!(f, "unknown name `{name}`"),
-            ListFailureKind::Faulty(fault) => write!(f, "{}", ListFaultMessage(fault)),
+            ListFailureKind::Faulty(fault) => write!(f, "{fault}"),
             ListFailureKind::Unbooted(fault) => write!(f, "boot: {fault}"),
         }
     }
 }
 
 // Returns the fault of a text that is no start list, with its place. If the host is out of memory, the fault has no place.
-fn placed_fault(rt: &HostRuntime, text: &[u8], fault: BootFault) -> ListFault
+fn placed_fault(rt: &HostRuntime, text: &[u8], fault: BootFault) -> PlacedFault
     ensures { fault ≡ NoRoom → result.fault ≡ NoRoom }
 {
     if !matches!(&fault, BootFault::NoMemory) {
@@ -126,9 +126,9 @@ fn placed_fault(rt: &HostRuntime, text: &[u8], fault: BootFault) -> ListFault
             return placed;
         }
     }
-    ListFault {
+    PlacedFault {
         fault,
-        place: FaultPlace::Nowhere,
+        place: FaultSite::Nowhere,
     }
 }
 

@@ -1,8 +1,9 @@
 //! The check of a start list against a policy: each line of the policy that the list breaks, with its place.
-ghost use Rattle.std.specs.Prelude.{◌≡◌, ◌++◌, ◌≤◌, false, List, length, map, MatchOption, IfErr, IfOk, OnOk};
+ghost use Rattle.std.specs.Prelude.{◌≡◌, ◌++◌, ◌≤◌, false, List, filter, length, map, MatchOption, IfErr, IfOk, OnOk};
 ghost use Rattle.list_policy.specs.Components.{fault_at};
 ghost use Rattle.list_policy.specs.Demand.{AreBreaches};
 ghost use Rattle.list_policy.specs.Line.{line_at};
+ghost use Rattle.list_policy.specs.Pairs.{says_nothing};
 ghost use Rattle.list_policy.specs.Verdict.{AreBrokenAt, IsVerdict, breach_place, flaw_place};
 ghost use Rattle.list_policy.specs.declared.breach.Breach.{Breach};
 ghost use Rattle.cli_base.specs.Files.{IsTextAt};
@@ -13,9 +14,12 @@ use crate::host::Host;
 use crate::reports::Spot;
 use crate::status::{REFUSED, UNWRITTEN};
 use list_parser::StartList;
-use list_policy::{Breach, BreachText, Policy, PolicyFault, PolicyLine, exit_status};
+use list_policy::{
+    Breach, BreachText, Demand, PairCount, Policy, PolicyFault, PolicyLine, exit_status,
+};
 use std::alloc::{AllocError, Global};
 use std::{fmt, str};
+use view_diagnostics::Severity;
 
 /// The most bytes of a policy.
 const LONGEST_POLICY: usize = 65_536;
@@ -23,7 +27,7 @@ const LONGEST_POLICY: usize = 65_536;
 /// A diagnostic of a policy: its place, and the message.
 #[derive(Drop)]
 pub struct PolicyDiagnostic {
-    /// The number of the line, from 1 on.
+    /// The number of the line, from 1 on, or 0 if the diagnostic is about the whole policy.
     pub line: usize,
     /// The column in bytes, from 1 on.
     pub column: usize,
@@ -31,11 +35,33 @@ pub struct PolicyDiagnostic {
     pub text: String,
 }
 
+/// A remark on a line of a policy, whether the line is kept or not.
+#[derive(Drop)]
+pub struct PolicyRemark {
+    /// The place and the message.
+    pub diagnostic: PolicyDiagnostic,
+    /// `Warning` if the line speaks of nothing, and `Note` if the tree keeps pairs apart that the line is about.
+    pub severity: Severity,
+    /// Whether the remark is about a part of the line's pairs. Such a remark is left out of lines for people.
+    pub is_partial: bool,
+}
+
+/// What is found of the lines of a policy without faults, in their order.
+#[derive(Drop)]
+pub struct PolicyFindings {
+    /// The breaches: none if the list keeps the policy.
+    pub broken: Vec<PolicyDiagnostic>,
+    /// The number of lines that speak of nothing.
+    pub void: usize,
+    /// The remarks, of which so many are warnings.
+    pub remarks: Vec<PolicyRemark>,
+}
+
 /// The result of a check of a start list against a policy.
 #[derive(Drop)]
 pub enum PolicyVerdict {
-    /// The breaches of the policy's lines, in their order: none if the list keeps the policy.
-    Held(Vec<PolicyDiagnostic>),
+    /// What is found of the policy's lines.
+    Held(PolicyFindings),
     /// The faults of the policy's lines.
     Faulty(Vec<PolicyDiagnostic>),
     /// The reason for which the policy isn't read.
@@ -44,12 +70,14 @@ pub enum PolicyVerdict {
 
 impl PolicyVerdict {
     /// Returns the exit status of a check: 0 if no line of the policy is broken, and 3 if one is. A policy that has a fault or
-    /// isn't read has the status 2.
-    pub fn exit_status(&self) -> u8
-        ensures { result ≡ verdict_status self.now }
+    /// isn't read has the status 2, and so has one with a line that speaks of nothing if the check is strict.
+    pub fn exit_status(&self, strict: bool) -> u8
+        ensures { result ≡ verdict_status strict self.now }
     {
         match self {
-            PolicyVerdict::Held(broken) => exit_status(0, broken.len()),
+            PolicyVerdict::Held(found) => {
+                exit_status(if strict { found.void } else { 0 }, found.broken.len())
+            }
             PolicyVerdict::Faulty(faults) => exit_status(faults.len(), 0),
             PolicyVerdict::ReadFailure(_) => REFUSED,
         }
@@ -59,7 +87,16 @@ impl PolicyVerdict {
 impl PolicyDiagnostic {
     /// Returns the place in the policy's file.
     pub fn spot<'a>(&self, path: &'a str) -> Spot<'a> {
-        Spot::byte(path, self.line as u64, self.column)
+        policy_spot(path, self.line, self.column)
+    }
+}
+
+/// Returns a place in a policy's file: a line and a column, or the whole file if the line is 0.
+pub fn policy_spot(path: &str, line: usize, column: usize) -> Spot<'_> {
+    if line == 0 {
+        Spot::file(path)
+    } else {
+        Spot::byte(path, line as u64, column)
     }
 }
 
@@ -158,7 +195,7 @@ pub fn check_policy<H: Host>(
 }
 
 // Checks a start list against the text of a policy.
-#[tactic(auto, using(list_policy::proofs::VerdictLemmas::held_is, list_policy::proofs::VerdictLemmas::faulty_is))]
+#[tactic(auto, using(list_policy::proofs::VerdictLemmas::faulty_is))]
 fn verdict_of(alloc: Global, list: &StartList, text: &[u8]) -> Result<PolicyVerdict, AllocError>
     ensures { IfOk result (λ verdict. MatchOption (verdict_notes verdict) ⊥
         (IsVerdict list.now text.now)) }
@@ -166,11 +203,87 @@ fn verdict_of(alloc: Global, list: &StartList, text: &[u8]) -> Result<PolicyVerd
     let policy = Policy::read(alloc, list, text)?;
     let faults = policy.faults();
     if faults.is_empty() {
-        let broken = broken_lines(alloc, list, policy.lines())?;
-        return Ok(PolicyVerdict::Held(broken));
+        let found = findings(alloc, list, policy.lines())?;
+        return Ok(PolicyVerdict::Held(found));
     }
     let notes = fault_notes(alloc, faults)?;
     Ok(PolicyVerdict::Faulty(notes))
+}
+
+// Returns what is found of a policy's lines.
+fn findings(
+    alloc: Global,
+    list: &StartList,
+    lines: &[PolicyLine],
+) -> Result<PolicyFindings, AllocError>
+    ensures broken { IfOk result (λ found. AreBrokenAt list.now (map line_at lines.now)
+        (map note_place found.broken.items)) }
+    ensures void { IfOk result (λ found.
+        found.void ≡ length (filter (λ line. says_nothing list.now (line_at line)) lines.now)) }
+{
+    let remarks = remarks(alloc, list, lines)?;
+    let broken = broken_lines(alloc, list, lines)?;
+    let void = lines.iter().filter(|line| line.is_void(list)).count();
+    Ok(PolicyFindings {
+        broken,
+        void,
+        remarks,
+    })
+}
+
+// Returns the remarks on a policy's lines.
+fn remarks(
+    alloc: Global,
+    list: &StartList,
+    lines: &[PolicyLine],
+) -> Result<Vec<PolicyRemark>, AllocError> {
+    let mut remarks = Vec::new(alloc);
+    for line in lines {
+        if let Some(remark) = remark_on(alloc, list, line)? {
+            remarks.push(remark)?;
+        }
+    }
+    Ok(remarks)
+}
+
+// Returns the remark on a line, if there is one: it speaks of nothing, or it is kept by the tree.
+fn remark_on(
+    alloc: Global,
+    list: &StartList,
+    line: &PolicyLine,
+) -> Result<Option<PolicyRemark>, AllocError> {
+    let PairCount { all, by_tree } = line.pairs(list);
+    let is_void = line.is_void(list);
+    let text = match &line.demand {
+        Demand::AtMost(_) if is_void => {
+            String::from_str(
+                alloc,
+                "expected less RAM or fewer capabilities than 16M and 4096, which the largest machine has",
+            )?
+        }
+        _ if is_void => {
+            String::from_str(
+                alloc,
+                "expected a pair of a script and a server, found none",
+            )?
+        }
+        Demand::Deny(_) | Demand::Only(_) | Demand::Isolate if by_tree > 0 => {
+            format!(in alloc;
+                "kept by the tree for {by_tree} of {all} pairs of a script and a server"
+            )?
+        }
+        _ => return Ok(None),
+    };
+    let (line, column) = (line.number, line.column);
+    Ok(Some(PolicyRemark {
+        diagnostic: PolicyDiagnostic { line, column, text },
+        severity: if is_void {
+            Severity::Warning
+        } else {
+            Severity::Note
+        },
+        is_partial: !is_void && by_tree < all,
+    }))
 }
 
 // Returns the faults of a policy's lines.

@@ -1,9 +1,11 @@
 //! Diagnostics of a command, on standard error or in a text.
+use crate::status::OUT_OF_MEMORY;
 use crate::streams::{OutputStream as Stream, Writer, plain_writer, text_of};
 use arrayvec::ArrayString;
 use clap::Error;
+use cli_options::CommandLine;
 use run_devices::Sink;
-use std::alloc::AllocError;
+use std::alloc::{AllocError, Global};
 use std::fmt::{Display, Write};
 use std::{fmt, io};
 use view_diagnostics::{Counts, DiagnosticForm, Diagnostics, FilePlace, Severity, Subject};
@@ -59,7 +61,7 @@ pub fn report_error<D: Display>(
     report(rt, form, Severity::Error, spot, message);
 }
 
-/// Prints a diagnostic at its place on standard error, as text or JSON. A write that fails loses it.
+/// Prints a diagnostic at its place on standard error, as text or JSON, or that the host is out of memory. A write that fails loses it.
 pub fn report<D: Display>(
     rt: &HostRuntime,
     form: DiagnosticForm,
@@ -68,7 +70,9 @@ pub fn report<D: Display>(
     message: &D,
 ) {
     let mut writer = plain_writer(rt, Stream::Complained(rt.stderr()));
-    let _ = write(rt, &mut writer, form, severity, spot, message);
+    if write(rt, &mut writer, form, severity, spot, message).is_err() {
+        let _ = eprintln!(rt; "error: {}", OUT_OF_MEMORY);
+    }
 }
 
 /// Prints that a file can't be written, with the operating system's reason.
@@ -81,8 +85,37 @@ pub fn report_write_failure(rt: &HostRuntime, form: DiagnosticForm, path: &str, 
     );
 }
 
-/// Prints the help that arguments ask for, or why they are refused. There control characters except newlines are escapes.
-pub fn print_refusal(rt: &HostRuntime, error: &Error) -> io::Result<()> {
+/// Prints the help that arguments ask for, or why they are refused. There control characters of the arguments are escapes.
+pub fn print_refusal(rt: &HostRuntime, words: &[String], error: &Error) -> io::Result<()> {
+    if words.iter().any(|word| word.as_str().contains('\n')) {
+        // (the same arguments without newlines are refused for the same reason)
+        if let Ok(words) = shown_words(rt.alloc(), words) {
+            if let Err(error) = CommandLine::read(rt.alloc(), words.as_slice()) {
+                return print_error(rt, &error);
+            }
+        }
+    }
+    print_error(rt, error)
+}
+
+// Returns arguments with escapes in place of newlines. The error is out of memory.
+fn shown_words(alloc: Global, words: &[String]) -> Result<Vec<String>, AllocError> {
+    let mut shown = Vec::new(alloc);
+    for word in words {
+        let mut text = String::new(alloc);
+        for character in word.as_str().chars() {
+            match character {
+                '\n' => text.push_str("\\n")?,
+                character => text.push(character)?,
+            }
+        }
+        shown.push(text)?;
+    }
+    Ok(shown)
+}
+
+// Prints an error of `clap`, or the help in its place, in which control characters except newlines are escapes.
+fn print_error(rt: &HostRuntime, error: &Error) -> io::Result<()> {
     match error.to_string(rt.alloc()) {
         Ok(text) if error.use_stderr() => eprint!(rt; "{}", ShownLines(text.as_str())),
         _ => error.print(rt),
@@ -143,15 +176,28 @@ pub fn error_line<D: Display>(
     spot: Spot<'_>,
     message: &D,
 ) -> Result<Vec<u8>, AllocError> {
+    diagnostic_line(rt, Severity::Error, spot, message)
+}
+
+/// Renders a diagnostic at its place as a line of text. Returns an error if the host is out of memory.
+pub fn diagnostic_line<D: Display>(
+    rt: &HostRuntime,
+    severity: Severity,
+    spot: Spot<'_>,
+    message: &D,
+) -> Result<Vec<u8>, AllocError> {
     let mut writer = plain_writer(rt, Stream::text(rt));
     write(
         rt,
         &mut writer,
         DiagnosticForm::Text,
-        Severity::Error,
+        severity,
         spot,
         message,
     )?;
+    if writer.failed() {
+        return Err(AllocError);
+    }
     Ok(text_of(rt, writer))
 }
 

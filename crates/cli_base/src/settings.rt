@@ -1,5 +1,7 @@
 //! What a command line sets for each command: the values of names, and the form of diagnostics.
-ghost use Rattle.std.specs.Prelude.{◌≡◌, ◌⊎◌, IfErr, IfOk, OnOk, Some};
+ghost use Rattle.std.specs.Prelude.{◌≡◌, ◌⊎◌, ℕ, List, filter, length, IfErr, IfOk, OnOk, Some};
+ghost use Rattle.std.specs.Borrow.{Bor};
+ghost use Rattle.std.specs.Str.{bytes_eq};
 ghost use Rattle.std.specs.Option.{option_copied};
 ghost use Rattle.line_names.specs.NameTable.{nothing};
 ghost use Rattle.line_steps.specs.RunPosition.{first_position};
@@ -20,24 +22,32 @@ use view_diagnostics::{DiagnosticForm, Subject};
 pub struct Settings<'a> {
     // Or nothing, where no name has a value.
     known: Option<&'a NameTable>,
+    /// The arguments of `--set` that give names their values.
+    pub given: &'a [&'a str],
     /// The form of diagnostics.
     pub form: DiagnosticForm,
 }
 
 impl<'a> Settings<'a> {
-    /// Returns those by which names denote this.
-    pub fn new(known: &'a NameTable, form: DiagnosticForm) -> Settings<'a>
-        ensures { names_of result ≡ known.now }
+    /// Returns those by which names denote what these arguments give them.
+    pub fn new(known: &'a NameTable, given: &'a [&'a str], form: DiagnosticForm) -> Settings<'a>
+        ensures names { names_of result ≡ known.now }
+        ensures given { result.given.now ≡ given.now }
     {
         Settings {
             known: Some(known),
+            given,
             form,
         }
     }
 
     /// Returns settings without values of names, with this form of diagnostics.
     pub fn without_values(form: DiagnosticForm) -> Settings<'a> {
-        Settings { known: None, form }
+        Settings {
+            known: None,
+            given: &[],
+            form,
+        }
     }
 
     /// Returns a scenario's path as the subject of diagnostics, with their form.
@@ -90,8 +100,28 @@ impl<'a> Settings<'a> {
     }
 }
 
-/// Returns what names denote by arguments of `--set`, each `NAME=VALUE`, or the exit status if one is none or the host is out of
-/// memory, which is printed.
+/// Returns the name in an argument of `--set`.
+pub(crate) fn name_given(argument: &str) -> &[u8]
+    ensures { result.now ≡ name_in argument.now }
+{
+    parted(argument.as_bytes()).0
+}
+
+/// Prints that no text reads the name of an argument of `--set`, and returns the exit status 2.
+pub fn refuse_unread(rt: &HostRuntime, form: DiagnosticForm, argument: &str) -> u8
+    ensures { result ≡ 2 }
+{
+    refuse(
+        rt,
+        form,
+        argument,
+        "expected a name that a start list or a scenario reads",
+    );
+    REFUSED
+}
+
+/// Returns what names denote by arguments of `--set`, each `NAME=VALUE`, or the exit status if one is none, a name is given twice or
+/// the host is out of memory, which is printed.
 pub fn names_given(
     rt: &HostRuntime,
     arguments: &[&str],
@@ -102,7 +132,7 @@ pub fn names_given(
         ⊎ (status ≡ 2) × HasNoSetting arguments.now) }
 {
     for argument in arguments {
-        if !is_taken(rt, form, argument) {
+        if !is_taken(rt, form, arguments, argument) {
             return Err(REFUSED);
         }
     }
@@ -131,9 +161,9 @@ fn give(known: &mut NameTable, argument: &[u8]) -> Result<(), AllocError>
     }
 }
 
-// Returns whether an argument gives a name a value. Otherwise prints why it doesn't.
-fn is_taken(rt: &HostRuntime, form: DiagnosticForm, argument: &str) -> bool
-    ensures { result ≡ is_setting argument.now }
+// Returns whether an argument, one of these, gives a name a value that no other one gives. Otherwise prints why it doesn't.
+fn is_taken(rt: &HostRuntime, form: DiagnosticForm, arguments: &[&str], argument: &str) -> bool
+    ensures { result ≡ is_setting arguments.now argument.now }
 {
     let (name, value) = parted(argument.as_bytes());
     let Some(value) = value else {
@@ -158,7 +188,28 @@ fn is_taken(rt: &HostRuntime, form: DiagnosticForm, argument: &str) -> bool
         );
         return false;
     }
+    if givers(arguments, name) > 1 {
+        refuse(rt, form, argument, "expected each name once");
+        return false;
+    }
     true
+}
+
+// Returns how many arguments give a name a value.
+fn givers(arguments: &[&str], name: &[u8]) -> usize
+    ensures { result ≡ length (filter (λ (argument : Bor (List ℕ)). bytes_eq (name_in argument.now) name.now) arguments.now) }
+{
+    arguments
+        .iter()
+        .filter(|argument| names(argument, name))
+        .count()
+}
+
+// Returns whether an argument gives this name a value.
+fn names(argument: &str, name: &[u8]) -> bool
+    ensures { result ≡ bytes_eq (name_in argument.now) name.now }
+{
+    name_given(argument) == name
 }
 
 // Returns whether each byte is allowed in a value.

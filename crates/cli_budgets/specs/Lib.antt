@@ -1,3 +1,3 @@
-pub mod ReportDocuments
+pub mod ReportRecords
 pub mod BudgetPrinting
 pub mod BudgetStatus

@@ -1,63 +1,77 @@
 //! The command `least`: the sufficient budgets of a scenario's accounts.
-ghost use Rattle.std.specs.Prelude.{◌≡◌, if◌then◌else◌, length, IfOk};
-ghost use Rattle.budget_least.specs.Report.{unmeasured_of};
-ghost use Rattle.budget_search.specs.declared.budget_intervals.BudgetChoice.TheVariants.{Minimum, Safe};
+ghost use Rattle.std.specs.Prelude.{◌≡◌, IfOk};
+ghost use Rattle.std.specs.List.{list_all};
 ghost use Rattle.cli_base.specs.Statuses.{EndsAs, IsZero};
 ghost use Rattle.cli_base.specs.Unfolding.{EndsUnfolded};
 ghost use Rattle.cli_budgets.specs.BudgetPrinting.{IsReportIn, format_asked};
-ghost use Rattle.cli_budgets.specs.BudgetStatus.{BudgetsEnd, EndsMeasured, LacksReport, measured_status};
+ghost use Rattle.cli_budgets.specs.BudgetStatus.{BudgetsEnd, EndsMeasured, LacksReport, is_budgeted, least_status, written_choice};
 
+use crate::budget_records::report_records;
 use crate::budget_text::BudgetText;
-use crate::documents::budget_documents;
-use budget_least::{BudgetChoice, BudgetQuery, BudgetReport, UnmeasuredLine};
+use budget_least::{
+    AccountBudgets, BudgetChoice, BudgetQuery, BudgetReport, JudgeFault, SessionKey,
+    UnmeasuredReason,
+};
 use cli_base::{
-    Host, Machine, MachineChoice, Settings, Spot, UNWRITTEN, no_memory, report_boot_fault,
-    report_error, scenario_text, status_after, status_of, summarize_errors, unfolded,
-    unread_status,
+    Host, Machine, MachineChoice, OutputStream, Settings, Spot, UNWRITTEN, made_or_status,
+    no_memory, plain_writer, report_boot_fault, report_error, scenario_text, status_after,
+    status_of, summarize_errors, unfolded,
 };
 use cli_options::LeastOptions;
-use list_parser::BootFault;
-use std::alloc::{AllocError, Global};
+use list_parser::{BootFault, StartList};
+use run_lines::LineRunFault;
+use std::alloc::Global;
 use std::io;
 use std::io::Write;
-use view_diagnostics::DiagnosticForm;
+use view_diagnostics::{DiagnosticForm, Subject};
+
+// The exit status of a report with an error, a line that isn't measured, or an account without a budget.
+const INCOMPLETE: u8 = 3;
+
+// The message about a line that isn't measured although it can be read.
+const UNSETTLED: &str = "a name in this line has another value with the minimum budgets";
 
 // The form in which a report is printed.
 #[derive(Clone, Copy)]
 enum BudgetFormat {
     /// As text.
     Text,
-    /// As a document of JSON.
-    Documents,
+    /// As records of JSON.
+    Records,
     /// As the start list with its budgets in place.
     List,
     /// As the scenario with its donations in place.
     Scenario,
+    /// Not at all.
+    Nothing,
 }
 
 impl BudgetFormat {
     ghost use Rattle.std.specs.Prelude.{◌≡◌};
     ghost use Rattle.cli_budgets.specs.BudgetPrinting.{format_asked};
 
-    // Returns the form that the flags of a command line ask for. The first flag that is set decides.
-    fn asked(asked: &LeastOptions<'_>) -> BudgetFormat
-        ensures { result ≡ format_asked asked.now }
+    // Returns the form that the flags of a command line ask for, of a report with this exit status. The first flag that is set decides.
+    // A list or a scenario is only printed without an error.
+    fn asked(asked: &LeastOptions<'_>, status: u8) -> BudgetFormat
+        ensures { result ≡ format_asked asked.now status }
     {
         if asked.json {
-            BudgetFormat::Documents
+            BudgetFormat::Records
+        } else if !asked.list && !asked.donations {
+            BudgetFormat::Text
+        } else if status != 0 {
+            BudgetFormat::Nothing
         } else if asked.list {
             BudgetFormat::List
-        } else if asked.donations {
-            BudgetFormat::Scenario
         } else {
-            BudgetFormat::Text
+            BudgetFormat::Scenario
         }
     }
 }
 
 // Returns which of the sufficient budgets a command line asks for.
 fn choice_asked(asked: &LeastOptions<'_>) -> BudgetChoice
-    ensures { result ≡ (if asked.now.safe then Safe else Minimum) }
+    ensures { result ≡ written_choice asked.now }
 {
     if asked.safe {
         BudgetChoice::Safe
@@ -109,53 +123,138 @@ fn least_on(
         Ok(start) => start,
         Err(status) => return status,
     };
+    let again = match made_or_status(rt, start.copy(rt.alloc())) {
+        Ok(again) => again,
+        Err(status) => return status,
+    };
     let question = BudgetQuery {
         list: machine.list(),
         scenario: lines.bytes(),
         choice: choice_asked(asked),
         as_donated: asked.as_donated,
     };
-    match BudgetReport::of(rt.alloc(), question, start) {
-        Ok(report) => print_report(rt, machine.text(), text, asked, settings.form, &report),
-        Err(fault) => report_boot_fault(rt, settings.form, machine, &fault),
+    let report = match BudgetReport::of(rt.alloc(), question, start) {
+        Ok(report) => report,
+        Err(fault) => return report_boot_fault(rt, settings.form, machine, &fault),
+    };
+    let subject = Subject {
+        file: asked.scenario.as_bytes(),
+        form: settings.form,
+    };
+    let mut stderr = plain_writer(rt, OutputStream::Complained(rt.stderr()));
+    match report.write_errors(rt.alloc(), lines.bytes(), again, subject, &mut stderr) {
+        Ok(errors) => {
+            let status = report_status(rt, settings.form, asked, &report, errors);
+            print_report(rt, machine.text(), text, asked, &report, status)
+        }
+        Err(JudgeFault::Boot(fault)) => report_boot_fault(rt, settings.form, machine, &fault),
+        Err(JudgeFault::Run(LineRunFault::NoMemory)) => no_memory(rt),
+        Err(JudgeFault::Run(_)) => UNWRITTEN,
     }
 }
 
-// Prints why lines of a scenario's text aren't measured, and then a report. Returns the exit status.
+// Prints which names have other values, which accounts no budget suffices for, and how many errors there are with those that are
+// written already. Returns the exit status of the report.
+fn report_status(
+    rt: &HostRuntime,
+    form: DiagnosticForm,
+    asked: &LeastOptions<'_>,
+    report: &BudgetReport<'_>,
+    errors: u64,
+) -> u8
+    ensures { result ≡ least_status asked.now errors report.now }
+{
+    let choice = choice_asked(asked);
+    let is_complete = errors == 0
+        && report.unmeasured().is_empty()
+        && have_budgets(report.accounts(), choice);
+    let mut reported = errors;
+    for line in report.unmeasured() {
+        if line.why == UnmeasuredReason::Unsettled {
+            let spot = Spot::byte(asked.scenario, line.number, 1);
+            report_error(rt, form, spot, &UNSETTLED);
+            reported = reported.saturating_add(1);
+        }
+    }
+    for account in report.accounts() {
+        if !has_budget(account, choice) {
+            report_lacking(rt, form, asked.scenario, report.list(), account);
+            reported = reported.saturating_add(1);
+        }
+    }
+    summarize_errors(rt, form, reported);
+    if is_complete { 0 } else { INCOMPLETE }
+}
+
+// Returns whether each account has a budget that is written.
+fn have_budgets(accounts: &[AccountBudgets], choice: BudgetChoice) -> bool
+    ensures { result ≡ list_all (is_budgeted choice) accounts.now }
+{
+    accounts.iter().all(|account| has_budget(account, choice))
+}
+
+// Returns whether an account has a budget that is written.
+fn has_budget(account: &AccountBudgets, choice: BudgetChoice) -> bool
+    ensures { result ≡ is_budgeted choice account.now }
+{
+    account.chosen(choice).is_some()
+}
+
+// Prints that an account has no budget that can be written.
+fn report_lacking(
+    rt: &HostRuntime,
+    form: DiagnosticForm,
+    scenario: &str,
+    list: &StartList,
+    account: &AccountBudgets,
+) {
+    let Some(entry) = list.entries().get(account.component()) else {
+        return;
+    };
+    let path = entry.to_path();
+    let verb = if account.least().is_some() {
+        "is safe"
+    } else {
+        "suffices"
+    };
+    match account.session() {
+        Some(SessionKey { selector, line }) => report_error(
+            rt,
+            form,
+            Spot::byte(scenario, line, 1),
+            &format_args!("no budget {verb} for session {selector} of `{path}`"),
+        ),
+        None => report_error(
+            rt,
+            form,
+            Spot::file(scenario),
+            &format_args!("no budget {verb} for `{path}`"),
+        ),
+    }
+}
+
+// Prints a report of this status. Returns the exit status.
 fn print_report(
     rt: &HostRuntime,
     machine: &[u8],
     text: &[u8],
     asked: &LeastOptions<'_>,
-    form: DiagnosticForm,
     report: &BudgetReport<'_>,
+    status: u8,
 ) -> u8
-    ensures { EndsAs ⊥ (λ status. status ≡ measured_status (length (unmeasured_of report.now))) result }
+    ensures { EndsAs ⊥ (λ printed. printed ≡ status) result }
 {
-    let status = report_unmeasured(rt, form, asked.scenario, report.unmeasured());
-    let format = BudgetFormat::asked(asked);
+    let format = BudgetFormat::asked(asked, status);
     let printed = match rendered(rt.alloc(), format, report, machine, text) {
         Ok(text) => status_of(rt, io::writer(rt).write_all(text.as_slice())),
-        Err(failure) => failure.report(rt),
+        Err(BootFault::NoMemory) => no_memory(rt),
+        Err(fault) => {
+            let message = format_args!("the list with these budgets: {fault}");
+            report_error(rt, DiagnosticForm::Text, Spot::nowhere(), &message);
+            UNWRITTEN
+        }
     };
     status_after(printed, status)
-}
-
-// Prints why lines of a scenario aren't measured, and returns the exit status: 3 if there are any, else 0.
-fn report_unmeasured(
-    rt: &HostRuntime,
-    form: DiagnosticForm,
-    scenario: &str,
-    lines: &[UnmeasuredLine],
-) -> u8
-    ensures { result ≡ measured_status (length lines.now) }
-{
-    for line in lines {
-        let spot = Spot::byte(scenario, line.number, line.column());
-        report_error(rt, form, spot, &line.message());
-    }
-    summarize_errors(rt, form, lines.len() as u64);
-    unread_status(lines.len())
 }
 
 // Renders a report in a form: as a text of its own, in a start list of this text, or in a scenario of this text. The error is the
@@ -166,54 +265,14 @@ fn rendered(
     report: &BudgetReport<'_>,
     machine: &[u8],
     scenario: &[u8],
-) -> Result<Vec<u8>, RenderFailure>
+) -> Result<Vec<u8>, BootFault>
     ensures { IfOk result (λ text. IsReportIn format report.now machine.now scenario.now text.items) }
 {
     match format {
         BudgetFormat::Text => Ok(BudgetText(report).to_string(alloc)?.into_bytes()),
-        BudgetFormat::Documents => Ok(budget_documents(alloc, report)?),
-        BudgetFormat::List => match report.start_list(alloc, machine) {
-            Ok(text) => Ok(text),
-            Err(fault) => Err(RenderFailure::List(fault)),
-        },
-        BudgetFormat::Scenario => match report.scenario(alloc, scenario) {
-            Ok(text) => Ok(text),
-            Err(fault) => Err(RenderFailure::Scenario(fault)),
-        },
-    }
-}
-
-// The reason why a report isn't rendered.
-#[derive(Drop)]
-enum RenderFailure {
-    /// The host is out of memory.
-    NoMemory,
-    /// The start list with its budgets has a fault.
-    List(BootFault),
-    /// The scenario with its donations can't be written.
-    Scenario(BootFault),
-}
-
-impl From<AllocError> for RenderFailure {
-    fn from(_fault: AllocError) -> RenderFailure {
-        RenderFailure::NoMemory
-    }
-}
-
-impl RenderFailure {
-    ghost use Rattle.std.specs.Prelude.{◌≡◌};
-
-    // Prints the reason, and returns the exit status 1.
-    fn report(&self, rt: &HostRuntime) -> u8
-        ensures { result ≡ 1 }
-    {
-        let (name, fault) = match self {
-            RenderFailure::NoMemory => return no_memory(rt),
-            RenderFailure::List(fault) => ("the list with these budgets", fault),
-            RenderFailure::Scenario(fault) => ("run", fault),
-        };
-        let form = DiagnosticForm::Text;
-        report_error(rt, form, Spot::nowhere(), &format_args!("{name}: {fault}"));
-        UNWRITTEN
+        BudgetFormat::Records => Ok(report_records(alloc, report)?.to_json()?),
+        BudgetFormat::List => report.start_list(alloc, machine),
+        BudgetFormat::Scenario => Ok(report.scenario(alloc, scenario)?),
+        BudgetFormat::Nothing => Ok(Vec::new(alloc)),
     }
 }

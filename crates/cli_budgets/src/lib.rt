@@ -4,8 +4,8 @@
 //! this returns.
 #![tactic(auto)]
 
+mod budget_records;
 mod budget_text;
-mod documents;
 mod least_command;
 
 pub use least_command::print_minimum_budgets;

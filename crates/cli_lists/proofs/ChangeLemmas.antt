@@ -1,17 +1,18 @@
 -- What the exit status of `diff` states of the runs of scenarios, and of all that is compared.
-use Rattle.std.proofs.Common.{Global, ◌≡◌, ◌∙◌, ◌++◌, ℕ, Bool, List, append-nil, ap, inl, inr, map, subst, sym}
+use Rattle.std.proofs.Common.{Global, ◌≡◌, ◌∙◌, ◌++◌, ℕ, Bool, true, false, List, append-nil, ap, inl, inr, length, map, nat_eq, refl, subst, sym}
 use Rattle.std.proofs.lemmas.Result.{IfErr-weaker, IfOk-at_ok, IfOk-weaker}
-use Rattle.std.specs.Prelude.{◌⊎◌, IfErr, IfNone, IfOk, Option, Some, None, Result, Ok, Vec}
+use Rattle.std.specs.Prelude.{◌⊎◌, IfErr, IfNone, IfOk, Option, Some, None, Result, Ok, MatchBool, Vec}
 use Rattle.std.specs.Borrow.{Bor}
 use Rattle.std.specs.Option.{option_copied}
 use Rattle.line_rounds.specs.Unfolding.{UnfoldedText}
 use Rattle.list_diff.specs.LineResults.{call_in}
 use Rattle.list_diff.specs.Needs.{shortfalls}
-use Rattle.list_diff.specs.Replies.{AreChanges}
+use Rattle.list_diff.specs.Replies.{AreCompared}
 use Rattle.list_diff.specs.declared.line_outcomes.LineResult.{LineResult}
 use Rattle.list_diff.specs.declared.need_changes.ComponentNeed.{ComponentNeed}
 use Rattle.list_diff.specs.declared.need_changes.NeedChange.{NeedChange}
 use Rattle.list_diff.specs.declared.policy_breaches.BreachChange.{BreachChange}
+use Rattle.list_diff.specs.declared.reply_changes.ComparedLines.TheVariants.{Changed, Misread}
 use Rattle.list_diff.specs.declared.reply_changes.ReplyChange.{ReplyChange}
 use Rattle.own_model.specs.Listed.{Listed}
 use Rattle.own_model.specs.Text.{lines_of}
@@ -30,7 +31,8 @@ use Rattle.cli_base.specs.Statuses.{EndsAs}
 use Rattle.cli_base.specs.Unfolding.{HasRoundsFault, rounds_of}
 use Rattle.cli_base.specs.declared.settings.Settings.{Settings}
 use Rattle.cli_lists.specs.ComparedRuns.{AreLinesAt, AreNeedsOn, HasFaultAt, path_after, results_by}
-use Rattle.cli_lists.specs.Comparison.{AnswersDiffer, AreNewBreaches, Differ, EndsBy, EndsChanged, HasStopped, LinesDiffer, NeedsDiffer, PairDiffers, RunsDiffer, ScenariosDiffer}
+use Rattle.cli_lists.specs.Comparison.{AnswersDiffer, AreNewBreaches, Compared, Differ, EndsBy, EndsChanged, HasStopped, LinesDiffer, NeedsDiffer, PairDiffers, ResultsDiffer, RunsDiffer, ScenariosDiffer, status_if_misread}
+use Rattle.cli_lists.specs.Comparison.Compared.{Same, Different, Misunderstood}
 
 -- ---- the answered calls of a run
 
@@ -54,22 +56,32 @@ answered steps start ending found input rest failed text input_is none run =
 -- ---- statuses that say whether something differs
 
 -- what is known of whether something differs
-pub changed_as : (P Q : Bool → Type 0) → ((b : Bool) → P b → Q b) → (status : ℕ) → EndsAs ⊥ (EndsChanged P) status → EndsAs ⊥ (EndsChanged Q) status
+pub changed_as : (P Q : Compared → Type 0) → ((b : Compared) → P b → Q b) → (status : ℕ) → EndsAs ⊥ (EndsChanged P) status → EndsAs ⊥ (EndsChanged Q) status
 changed_as P Q more status (inl none) = inl none
 changed_as P Q more status (inr (changed, differ, is)) = inr (changed, more changed differ, is)
 
-pub ok_as : (P Q : Bool → Type 0) → ((b : Bool) → P b → Q b) → (r : Result ℕ ℕ) → IfOk r (EndsAs ⊥ (EndsChanged P))
+pub ok_as : (P Q : Compared → Type 0) → ((b : Compared) → P b → Q b) → (r : Result ℕ ℕ) → IfOk r (EndsAs ⊥ (EndsChanged P))
     → IfOk r (EndsAs ⊥ (EndsChanged Q))
 ok_as P Q more r = IfOk-weaker r (EndsAs ⊥ (EndsChanged P)) (EndsAs ⊥ (EndsChanged Q)) (changed_as P Q more)
 
+-- a line isn't understood, unless the host fails
+pub misread_ends : (P Q : Compared → Type 0) → Q Misunderstood → (status : ℕ) → EndsAs ⊥ (EndsChanged P) status
+    → EndsAs ⊥ (EndsChanged Q) (status_if_misread status)
+misread_ends P Q misread status (inl (inl (inl one))) = inl (inl (inl (ap status_if_misread one)))
+misread_ends P Q misread status (inl (inl (inr unread))) = inl (inl (inr (ap status_if_misread unread)))
+misread_ends P Q misread status (inl (inr (two, refused))) = absurd refused
+misread_ends P Q misread status (inr (Same, differ, is)) = inr (Misunderstood, misread, ap status_if_misread is)
+misread_ends P Q misread status (inr (Different, differ, is)) = inr (Misunderstood, misread, ap status_if_misread is)
+misread_ends P Q misread status (inr (Misunderstood, differ, is)) = inr (Misunderstood, misread, ap status_if_misread is)
+
 -- where nothing is refused
-pub ends_any : (R F : Type 0) (P : Bool → Type 0) (status : ℕ) → EndsAs ⊥ (EndsChanged P) status → EndsBy R F P status
+pub ends_any : (R F : Type 0) (P : Compared → Type 0) (status : ℕ) → EndsAs ⊥ (EndsChanged P) status → EndsBy R F P status
 ends_any R F P status (inl (inl failed)) = inl (inl (inl failed))
 ends_any R F P status (inl (inr (two, refused))) = absurd refused
 ends_any R F P status (inr changed) = inr changed
 
 -- with other reasons
-pub ends_more : (R S F : Type 0) (P Q : Bool → Type 0) → (R → S) → ((b : Bool) → P b → Q b) → (status : ℕ) → EndsBy R F P status
+pub ends_more : (R S F : Type 0) (P Q : Compared → Type 0) → (R → S) → ((b : Compared) → P b → Q b) → (status : ℕ) → EndsBy R F P status
     → EndsBy S F Q status
 ends_more R S F P Q why more status (inl (inl (inl failed))) = inl (inl (inl failed))
 ends_more R S F P Q why more status (inl (inl (inr (two, refused)))) = inl (inl (inr (two, why refused)))
@@ -103,17 +115,49 @@ one_stops R F r = IfErr-weaker r (λ status. status ≡ 1) (HasStopped R F) (λ 
 -- ---- what the runs of scenarios differ in
 
 module _ (settings : Settings) (before : Listed) (old : UnfoldedText) (after : Listed) (new : UnfoldedText) (breaches : List BreachChange) where
-  -- the replies that were found
-  pub with_replies : {E : Type 0} (olds news : List Exchange) (was now : List LineResult) (made : Result (Vec ReplyChange Global) E)
-      (value : Vec ReplyChange Global) (replies : List ReplyChange) (r : Result ℕ ℕ) → map call_in was ≡ results_by settings old olds
-      → map call_in now ≡ results_by settings new news → IfOk made (λ found. AreChanges was now found.items) → made ≡ Ok value
-      → replies ≡ value.items → IfOk r (EndsAs ⊥ (EndsChanged (NeedsDiffer settings before old after new breaches replies)))
+  -- what came of the lines
+  pub with_results : (olds news : List Exchange) (was now old_lines new_lines : List LineResult) (r : Result ℕ ℕ) → old_lines ≡ was
+      → new_lines ≡ now → map call_in was ≡ results_by settings old olds → map call_in now ≡ results_by settings new news
+      → IfOk r (EndsAs ⊥ (EndsChanged (ResultsDiffer settings before old after new old_lines new_lines breaches)))
       → IfOk r (EndsAs ⊥ (EndsChanged (AnswersDiffer settings before old after new olds news breaches)))
-  with_replies olds news was now made value replies r olds_are news_are are is replies_are ends =
-      let changes : AreChanges was now value.items = IfOk-at_ok (λ (found : Vec ReplyChange Global). AreChanges was now found.items) is are in
-      ok_as (NeedsDiffer settings before old after new breaches replies) (AnswersDiffer settings before old after new olds news breaches)
-      (λ b needs. (replies, (was, now, olds_are, news_are, subst (λ (rs : List ReplyChange). AreChanges was now rs) (sym replies_are) changes), needs))
-      r ends
+  with_results olds news was now old_lines new_lines r was_is now_is olds_are news_are ends =
+      ok_as (ResultsDiffer settings before old after new old_lines new_lines breaches)
+      (AnswersDiffer settings before old after new olds news breaches)
+      (λ b differ. (
+        old_lines,
+        new_lines,
+        ap (λ (rs : List LineResult). map call_in rs) was_is ∙ olds_are,
+        ap (λ (rs : List LineResult). map call_in rs) now_is ∙ news_are,
+        differ,
+      )) r ends
+
+  -- the replies that were found, where each line is understood
+  pub with_replies : (was now : List LineResult) (misread replies : List ReplyChange) (status : ℕ) → AreCompared Misread was now misread
+      → AreCompared Changed was now replies → nat_eq (length misread) 0 ≡ true
+      → EndsAs ⊥ (EndsChanged (NeedsDiffer settings before old after new breaches replies)) status
+      → EndsAs ⊥ (EndsChanged (ResultsDiffer settings before old after new was now breaches)) status
+  with_replies was now misread replies status misread_are are none ends =
+      changed_as (NeedsDiffer settings before old after new breaches replies) (ResultsDiffer settings before old after new was now breaches)
+      (λ b needs. (
+        misread,
+        misread_are,
+        subst
+            (λ (n : Bool). MatchBool n ((rs : List ReplyChange) × AreCompared Changed was now rs × NeedsDiffer settings before old after new breaches rs b)
+            (b ≡ Misunderstood)) (sym none) (replies, are, needs),
+      )) status ends
+
+  -- a line that isn't understood
+  pub with_misread : (P : Compared → Type 0) (was now : List LineResult) (misread : List ReplyChange) (status : ℕ)
+      → AreCompared Misread was now misread → nat_eq (length misread) 0 ≡ false → EndsAs ⊥ (EndsChanged P) status
+      → EndsAs ⊥ (EndsChanged (ResultsDiffer settings before old after new was now breaches)) (status_if_misread status)
+  with_misread P was now misread status misread_are some ends =
+      misread_ends P (ResultsDiffer settings before old after new was now breaches) (
+        misread,
+        misread_are,
+        subst
+            (λ (n : Bool). MatchBool n ((rs : List ReplyChange) × AreCompared Changed was now rs × NeedsDiffer settings before old after new breaches rs Misunderstood)
+            (Misunderstood ≡ Misunderstood)) (sym some) refl,
+      ) status ends
 
   -- the needs that were found
   pub with_needs : {E : Type 0} (had has : List ComponentNeed) (replies : List ReplyChange) (made : Result (Vec NeedChange Global) E)

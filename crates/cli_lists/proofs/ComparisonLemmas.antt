@@ -9,7 +9,7 @@ use Rattle.std.proofs.lemmas.Result.{IfOk-at_ok}
 use Rattle.cli_base.specs.Files.{IsTextAt}
 use Rattle.cli_base.specs.PolicyVerdict.{HasNoPolicy}
 use Rattle.cli_base.specs.Statuses.{EndsAs, HasFailed, HasWritten}
-use Rattle.cli_lists.specs.Comparison.{AreAll, AreBreachesBy, AreBreachesOf, AreNewBreaches, AreSoFar, EndsChanged, EndsWith, HasPolicyFault, IsSideOf, IsTextOf, RefusesPolicy}
+use Rattle.cli_lists.specs.Comparison.{AreAll, AreBreachesBy, AreBreachesOf, AreNewBreaches, AreSoFar, Compared, EndsChanged, EndsWith, HasPolicyFault, IsSideOf, IsTextOf, RefusesPolicy, changed_if}
 use Rattle.cli_lists.specs.declared.diff_policy.PolicyBreaches.{PolicyBreaches}
 use Rattle.cli_lists.specs.declared.diff_text.DiffText.{DiffText}
 use Rattle.list_diff.specs.Breaches.{breach_changes, change_at}
@@ -48,12 +48,13 @@ failed_write T error status is = failed_by (error_kind error ≡ BrokenPipe) sta
 
 -- the status after a write
 pub written : {T : Type 0} (printed : Result T Error) (changed : Bool) (status : ℕ) → EndsWith printed changed status
-    → EndsAs ⊥ (EndsChanged (λ c. c ≡ changed)) status
-written (Ok done) changed status is = inr (changed, refl, is)
+    → EndsAs ⊥ (EndsChanged (λ c. c ≡ changed_if changed)) status
+written (Ok done) changed status is = inr (changed_if changed, refl, is)
 written {T} (Err error) changed status is = inl (inl (failed_write T error status is))
 
 -- a text says whether something differs
-pub ends_text : (P : Bool → Type 0) (changed : Bool) (status : ℕ) → P changed → EndsAs ⊥ (EndsChanged (λ c. c ≡ changed)) status
+pub ends_text : (P : Compared → Type 0) (changed : Bool) (status : ℕ) → P (changed_if changed)
+    → EndsAs ⊥ (EndsChanged (λ c. c ≡ changed_if changed)) status
     → EndsAs ⊥ (EndsChanged P) status
 ends_text P changed status differ (inl none) = inl none
 ends_text P changed status differ (inr (said, same, is)) = inr (said, subst P (sym same) differ, is)
@@ -73,7 +74,7 @@ side_is list cells side rows_are cells_are list_is is = record {
 pub text_is : {E : Type 0} (so_far found : ListDifferences) (r : Result DiffText E)
     → AreAll so_far.before.now so_far.after.now so_far.breaches.now so_far.lacks.now so_far.replies.now found
     → IfOk r (λ made. made.is_changed ≡ not (nothing_differs found)) → IfOk r (IsTextOf so_far)
-text_is so_far found (Ok made) all is = (found, all, is)
+text_is so_far found (Ok made) all is = (found, all, ap changed_if is)
 text_is so_far found (Err fault) all is = tt
 
 pub all_found : (so_far found : ListDifferences) (was now : ReachSide) (changes : List EntryChange) (leads : List ReachChange)

@@ -14,7 +14,7 @@ use Rattle.cli_base.specs.ListFailures.{boot_lacks_memory}
 use Rattle.cli_base.specs.MachineTexts.{IsFilled}
 use Rattle.cli_base.specs.Statuses.{EndsAs, boot_status}
 use Rattle.cli_base.specs.declared.settings.Settings.{Settings}
-use Rattle.cli_lists.specs.ListStatus.{EndsOnList, EndsOnText, IsReviewAt, IsReviewOf}
+use Rattle.cli_lists.specs.ListStatus.{EndsOnFile, EndsOnText, IsAt, IsReviewOf}
 
 -- ---- refusals
 
@@ -76,17 +76,17 @@ module _ (texts : List ℕ → Option (List ℕ)) (settings : Settings) (path : 
       by None is = tt
       by (Some bytes) is = subst (λ (file : List ℕ). IsNoBoot (list_filled settings file)) is of_file
 
-  -- the review of a text is that of its file
-  pub review_at : (text other : List ℕ) (r : Result Review ℕ) → IsFilled texts settings path text → other ≡ text
-      → IfOk r (IsReviewOf other) → IfOk r (IsReviewAt texts settings path)
-  review_at text other (Ok review) filled is read =
+  -- what is read of a text is that of its file
+  pub read_at : (X : Type 0) (Is : List ℕ → X → Type 0) (text other : List ℕ) (r : Result X ℕ) → IsFilled texts settings path text → other ≡ text
+      → IfOk r (Is other) → IfOk r (IsAt X texts settings path Is)
+  read_at X Is text other (Ok x) filled is read =
       (other, subst (λ (t : List ℕ). IsFilled texts settings path t) (sym is) filled, read)
-  review_at text other (Err status) filled is read = tt
+  read_at X Is text other (Err status) filled is read = tt
 
-  pub no_review_at : (text other : List ℕ) (r : Result Review ℕ) → IsFilled texts settings path text → other ≡ text
+  pub not_read_at : (X : Type 0) (text other : List ℕ) (r : Result X ℕ) → IsFilled texts settings path text → other ≡ text
       → IfErr r (λ status. (status ≡ 1) ⊎ (status ≡ 2) × (is_some (fault_of other) ≡ true))
       → IfErr r (λ status. (status ≡ 1) ⊎ (status ≡ 2) × HasNoBoot texts settings path)
-  no_review_at text other r filled is =
+  not_read_at X text other r filled is =
       IfErr-weaker r (λ status. (status ≡ 1) ⊎ (status ≡ 2) × (is_some (fault_of other) ≡ true))
       (λ status. (status ≡ 1) ⊎ (status ≡ 2) × HasNoBoot texts settings path)
       (λ status.
@@ -95,38 +95,31 @@ module _ (texts : List ℕ → Option (List ℕ)) (settings : Settings) (path : 
 
   -- ---- a command on the list
 
-  module _ (Refuses : Review → Type 0) (Ends : Review → ℕ → Type 0) where
-    -- the list isn't reviewed
-    pub unreviewed : (status : ℕ) → (status ≡ 1) ⊎ (status ≡ 2) × HasNoBoot texts settings path
-        → EndsOnList texts settings path Refuses Ends status
-    unreviewed status (inl one) = inl (inl (inl one))
-    unreviewed status (inr (two, none)) = inl (inr (two, inl none))
+  module _ (X : Type 0) (Is : List ℕ → X → Type 0) (Refuses : X → Type 0) (Ends : X → ℕ → Type 0) where
+    -- the list doesn't boot
+    pub not_booted : (status : ℕ) → (status ≡ 1) ⊎ (status ≡ 2) × HasNoBoot texts settings path
+        → EndsOnFile X texts settings path Is Refuses Ends status
+    not_booted status (inl one) = inl (inl (inl one))
+    not_booted status (inr (two, none)) = inl (inr (two, inl none))
 
+    -- what is read of it
+    pub on_read : (x : X) (status : ℕ) → IsAt X texts settings path Is x → EndsAs (Refuses x) (Ends x) status
+        → EndsOnFile X texts settings path Is Refuses Ends status
+    on_read x status there (inl (inl failed)) = inl (inl failed)
+    on_read x status there (inl (inr (two, refused))) = inl (inr (two, inr (x, there, refused)))
+    on_read x status there (inr ends) = inr (x, there, ends)
+
+  module _ (Refuses : Review → Type 0) (Ends : Review → ℕ → Type 0) where
     -- the list isn't read
     pub unread : (status : ℕ) → (status ≡ 1) ⊎ (status ≡ 2) × HasNoList texts settings path
-        → EndsOnList texts settings path Refuses Ends status
+        → EndsOnFile Review texts settings path IsReviewOf Refuses Ends status
     unread status (inl one) = inl (inl (inl one))
     unread status (inr (two, none)) = inl (inr (two, inl (no_list_boots none)))
 
-    -- its review
-    pub on_review : (review : Review) (status : ℕ) → IsReviewAt texts settings path review → EndsAs (Refuses review) (Ends review) status
-        → EndsOnList texts settings path Refuses Ends status
-    on_review review status there (inl (inl failed)) = inl (inl failed)
-    on_review review status there (inl (inr (two, refused))) = inl (inr (two, inr (review, there, refused)))
-    on_review review status there (inr ends) = inr (review, there, ends)
-
     -- its text
     pub on_text : (text : List ℕ) (status : ℕ) → IsFilled texts settings path text → EndsOnText text Refuses Ends status
-        → EndsOnList texts settings path Refuses Ends status
+        → EndsOnFile Review texts settings path IsReviewOf Refuses Ends status
     on_text text status filled (inl (inl failed)) = inl (inl failed)
     on_text text status filled (inl (inr (two, inl has_fault))) = inl (inr (two, inl (text_boots_not text filled has_fault)))
     on_text text status filled (inl (inr (two, inr (review, read, refused)))) = inl (inr (two, inr (review, (text, filled, read), refused)))
     on_text text status filled (inr (review, read, ends)) = inr (review, (text, filled, read), ends)
-
-  -- its list
-  pub on_list : (Refuses : Listed → Type 0) (Ends : Listed → ℕ → Type 0) (review : Review) (list : Listed) (status : ℕ)
-      → IsReviewAt texts settings path review → list ≡ review.list → EndsAs (Refuses list) (Ends list) status
-      → EndsOnList texts settings path (λ r. Refuses r.list) (λ r. Ends r.list) status
-  on_list Refuses Ends review list status there is ends =
-      on_review (λ (r : Review). Refuses r.list) (λ (r : Review). Ends r.list) review status there
-      (subst (λ (l : Listed). EndsAs (Refuses l) (Ends l) status) is ends)

@@ -15,14 +15,11 @@ use Rattle.budget_search.specs.declared.account_budgets.AccountBudgets.{AccountB
 use Rattle.budget_search.specs.declared.budget_intervals.BudgetChoice.TheVariants.{Minimum}
 use Rattle.line_rounds.specs.Unfolding.{UnfoldedText}
 use Rattle.line_steps.specs.RunPosition.{RunPosition, first_position}
-use Rattle.list_diff.specs.LineResults.{LineCall, call_in, line_calls}
+use Rattle.list_diff.specs.LineResults.{LineCall, line_calls}
 use Rattle.list_diff.specs.Needs.{shortfalls}
-use Rattle.list_diff.specs.Replies.{AreChanges}
-use Rattle.list_diff.specs.declared.line_outcomes.LineResult.{LineResult}
 use Rattle.list_diff.specs.declared.need_changes.ComponentNeed.{ComponentNeed}
 use Rattle.list_diff.specs.declared.need_changes.NeedChange.{NeedChange}
 use Rattle.list_diff.specs.declared.need_changes.QuotaAmounts.{QuotaAmounts}
-use Rattle.list_diff.specs.declared.reply_changes.ReplyChange.{ReplyChange}
 use Rattle.list_reach.specs.Paths.{pieces}
 use Rattle.run_exchanges.specs.Exchange.{Exchange}
 use Rattle.run_lines.specs.Machine.{world_of}
@@ -71,11 +68,6 @@ answers_on settings list lines =
 abbrev pub results_by : Settings → UnfoldedText → List Exchange → List LineCall
 results_by settings lines answers =
     line_calls (record { position = start_by settings lines; ahead = answers }) (pieces 10 lines.text)
-
--- replies that differ, by what came of the lines on both lists
-abbrev pub AreReplyChanges : List LineCall → List LineCall → List ReplyChange → Type 0
-AreReplyChanges olds news replies =
-    (was : List LineResult) × (now : List LineResult) × (map call_in was ≡ olds) × (map call_in now ≡ news) × AreChanges was now replies
 
 -- ---- needs
 

@@ -1,6 +1,5 @@
 pub mod CheckDocuments
 pub mod ComparedRuns
 pub mod Comparison
-pub mod Findings
 pub mod ListStatus
 pub mod ReachDocuments

@@ -6,9 +6,7 @@ use Rattle.own_model.specs.Listed.{Listed}
 use Rattle.list_faults.specs.Places.{fault_of}
 use Rattle.list_parser.specs.Quota.{quota_fault}
 use Rattle.list_parser.specs.StartText.{json_in, list_in}
-use Rattle.list_findings.specs.Findings.{findings_of}
-use Rattle.list_findings.specs.Repeated.{repeated_in}
-use Rattle.list_findings.specs.Unread.{unread_of}
+use Rattle.list_findings.specs.AllFindings.{all_findings}
 use Rattle.list_reach.specs.Paths.{PathFault, joined, numbers_of_all, fault_of as unnamed_fault}
 use Rattle.list_reach.specs.RouteQuery.{Answers, IsWhy}
 use Rattle.list_reach.specs.declared.component_numbers.ComponentKind.TheVariants.{Script as Scripts, Server as Servers}
@@ -28,28 +26,33 @@ use Rattle.cli_base.specs.Statuses.{EndsAs, IsZero}
 use Rattle.cli_base.specs.declared.policy_verdict.PolicyVerdict.{PolicyVerdict}
 use Rattle.cli_base.specs.declared.settings.Settings.{Settings}
 
--- a list that boots was read from this text, with all its findings
+-- a list that boots was read from this text
+abbrev pub IsListOf : List ℕ → Listed → Type 0
+IsListOf text list = (list_in text ≡ Ok list) × (quota_fault list ≡ None)
+
+-- and all its findings
 abbrev pub IsReviewOf : List ℕ → Review → Type 0
 IsReviewOf text review =
     (list_in text ≡ Ok review.list) × (quota_fault review.list ≡ None)
-    × (Some review.findings.items ≡ option_map (λ value. repeated_in text ++ unread_of value ++ findings_of review.list) (json_in text))
+    × (Some review.findings.items ≡ option_map (λ value. all_findings text value review.list) (json_in text))
 
--- a review is that of the list of the file at a path
+-- what is read of a text is that of the file at a path
+abbrev pub IsAt : (X : Type 0) → (List ℕ → Option (List ℕ)) → Settings → List ℕ → (List ℕ → X → Type 0) → X → Type 0
+IsAt X texts settings path Is x = (text : List ℕ) × IsFilled texts settings path text × Is text x
+
+abbrev pub IsListAt : (List ℕ → Option (List ℕ)) → Settings → List ℕ → Listed → Type 0
+IsListAt texts settings path list = IsAt Listed texts settings path IsListOf list
+
 abbrev pub IsReviewAt : (List ℕ → Option (List ℕ)) → Settings → List ℕ → Review → Type 0
-IsReviewAt texts settings path review = (text : List ℕ) × IsFilled texts settings path text × IsReviewOf text review
+IsReviewAt texts settings path review = IsAt Review texts settings path IsReviewOf review
 
 -- ---- a command on one list
 
--- the list at a path is refused: it doesn't boot, or it is one that the command refuses
-abbrev pub IsRefusedOn : (List ℕ → Option (List ℕ)) → Settings → List ℕ → (Review → Type 0) → Type 0
-IsRefusedOn texts settings path Refuses =
-    HasNoBoot texts settings path ⊎ ((review : Review) × IsReviewAt texts settings path review × Refuses review)
-
--- a command ends by the review of the list at a path
-abbrev pub EndsOnList : (List ℕ → Option (List ℕ)) → Settings → List ℕ → (Review → Type 0) → (Review → ℕ → Type 0) → ℕ → Type 0
-EndsOnList texts settings path Refuses Ends status =
-    EndsAs (IsRefusedOn texts settings path Refuses)
-    (λ ended. (review : Review) × IsReviewAt texts settings path review × Ends review ended) status
+-- a command ends by what is read of the file at a path. It refuses a list that doesn't boot, or what it reads of one.
+abbrev pub EndsOnFile : (X : Type 0) → (List ℕ → Option (List ℕ)) → Settings → List ℕ → (List ℕ → X → Type 0) → (X → Type 0) → (X → ℕ → Type 0) → ℕ → Type 0
+EndsOnFile X texts settings path Is Refuses Ends status =
+    EndsAs (HasNoBoot texts settings path ⊎ ((x : X) × IsAt X texts settings path Is x × Refuses x))
+    (λ ended. (x : X) × IsAt X texts settings path Is x × Ends x ended) status
 
 -- the same by the text of the list
 abbrev pub EndsOnText : List ℕ → (Review → Type 0) → (Review → ℕ → Type 0) → ℕ → Type 0
@@ -66,33 +69,35 @@ is_refused strict review = strict && nat_lt 0 (length review.findings.items)
 abbrev pub HasRefused : CheckOptions → Review → Type 0
 HasRefused asked review = is_refused asked.strict review ≡ true
 
--- 3 exactly if the list breaks a line of the policy at a path, and 2 if that is no policy or has a fault
-abbrev pub EndsVerdict : (List ℕ → Option (List ℕ)) → List ℕ → Listed → ℕ → Type 0
-EndsVerdict texts path list status =
-    (verdict : PolicyVerdict) × IsVerdictAt texts path list verdict × (status ≡ verdict_status verdict)
+-- 3 exactly if the list breaks a line of the policy at a path, and 2 if that is no policy or has a fault, or in a strict check a line
+-- that speaks of nothing
+abbrev pub EndsVerdict : (List ℕ → Option (List ℕ)) → Bool → List ℕ → Listed → ℕ → Type 0
+EndsVerdict texts strict path list status =
+    (verdict : PolicyVerdict) × IsVerdictAt texts path list verdict × (status ≡ verdict_status strict verdict)
 
 -- without a policy nothing is broken
-abbrev pub EndsPolicy : (List ℕ → Option (List ℕ)) → Option (Bor (List ℕ)) → Listed → ℕ → Type 0
-EndsPolicy texts None list status = status ≡ 0
-EndsPolicy texts (Some policy) list status = EndsVerdict texts policy.now list status
+abbrev pub EndsPolicy : (List ℕ → Option (List ℕ)) → Bool → Option (Bor (List ℕ)) → Listed → ℕ → Type 0
+EndsPolicy texts strict None list status = status ≡ 0
+EndsPolicy texts strict (Some policy) list status = EndsVerdict texts strict policy.now list status
 
 -- a list that isn't refused has a status by the policy
 abbrev pub EndsKept : (List ℕ → Option (List ℕ)) → CheckOptions → Review → ℕ → Type 0
 EndsKept texts asked review status =
-    (is_refused asked.strict review ≡ false) × EndsPolicy texts asked.policy review.list status
+    (is_refused asked.strict review ≡ false) × EndsPolicy texts asked.strict asked.policy review.list status
 
 abbrev pub EndsReviewed : (List ℕ → Option (List ℕ)) → CheckOptions → Review → ℕ → Type 0
 EndsReviewed texts asked review status = EndsAs (HasRefused asked review) (EndsKept texts asked review) status
 
 -- a list is refused if it doesn't boot, or in a strict check if it has findings
 abbrev pub CheckEnds : (List ℕ → Option (List ℕ)) → CheckOptions → Settings → ℕ → Type 0
-CheckEnds texts asked settings status = EndsOnList texts settings asked.list.now (HasRefused asked) (EndsKept texts asked) status
+CheckEnds texts asked settings status =
+    EndsOnFile Review texts settings asked.list.now IsReviewOf (HasRefused asked) (EndsKept texts asked) status
 
 -- ---- tree
 
 -- a list is refused only if it doesn't boot
 abbrev pub TreeEnds : (List ℕ → Option (List ℕ)) → TreeOptions → Settings → ℕ → Type 0
-TreeEnds texts asked settings status = EndsOnList texts settings asked.list.now (λ review. ⊥) (λ review. IsZero) status
+TreeEnds texts asked settings status = EndsOnFile Listed texts settings asked.list.now IsListOf (λ list. ⊥) (λ list. IsZero) status
 
 -- ---- reach
 
@@ -114,7 +119,7 @@ unnamed_status fault = if is_some (unnamed_fault fault) then 2 else 1
 -- a list is refused if it doesn't boot, or if a path of the command line denotes no component of it
 abbrev pub ReachEnds : (List ℕ → Option (List ℕ)) → ReachOptions → Settings → ℕ → Type 0
 ReachEnds texts asked settings status =
-    EndsOnList texts settings asked.list.now (λ review. NamesNone asked review.list) (λ review. EndsNamed asked review.list) status
+    EndsOnFile Listed texts settings asked.list.now IsListOf (NamesNone asked) (EndsNamed asked) status
 
 -- ---- route
 
@@ -140,4 +145,4 @@ HasNoRequest asked list =
 -- a list is refused if it doesn't boot, or if the command line states no request of one of its scripts
 abbrev pub RouteEnds : (List ℕ → Option (List ℕ)) → RouteOptions → Settings → ℕ → Type 0
 RouteEnds texts asked settings status =
-    EndsOnList texts settings asked.list.now (λ review. HasNoRequest asked review.list) (λ review. EndsRouted asked review.list) status
+    EndsOnFile Listed texts settings asked.list.now IsListOf (HasNoRequest asked) (EndsRouted asked) status

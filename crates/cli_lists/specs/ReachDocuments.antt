@@ -1,8 +1,6 @@
--- A table of reach as objects of JSON: one for each cell.
+-- A table of reach as records: one for each cell.
 use Rattle.std.specs.Prelude.{◌≡◌, ℕ, List, [], ◌∷◌, codes, flat_map, map, All, Option, Some, None}
 use Rattle.std.specs.List.{slice_get}
-use Rattle.serde_json.specs.Data.{Data, null}
-use Rattle.view_json.specs.Documents.{Member, list_text, text_data}
 use Rattle.own_model.specs.Listed.{Listed, ListedEntry}
 use Rattle.list_reach.specs.Paths.{is_chosen}
 use Rattle.list_reach.specs.Rows.{row_of, rows}
@@ -11,7 +9,9 @@ use Rattle.list_reach.specs.declared.client_reach.Reach.{Reach}
 use Rattle.list_reach.specs.declared.client_reach.Reach.TheVariants.{Always, By, Never}
 use Rattle.list_reach.specs.declared.reach_cell.ReachCell.{ReachCell}
 use Rattle.list_reach.specs.declared.reach_filter.ReachFilter.{ReachFilter}
-use Rattle.view_differences.specs.LabelObjects.{labels_data}
+use Rattle.list_diff.specs.LabelRecords.{label_records}
+use Rattle.view_records.specs.JsonTexts.{json_text, list_data}
+use Rattle.view_records.specs.Records.{CellData, Record, list, null, text}
 
 -- whether all, some or no labels reach the server
 abbrev pub reach_word : Reach → List ℕ
@@ -20,37 +20,37 @@ reach_word (By label) = codes "some"
 reach_word Never = codes "none"
 
 -- a shortest label, if not all or none do
-abbrev pub label_data : Reach → Data
-label_data Always = null
-label_data (By label) = text_data label
-label_data Never = null
+abbrev pub label_cell : Reach → CellData
+label_cell Always = null
+label_cell (By label) = text label
+label_cell Never = null
 
 -- a shortest label, if any does
-abbrev pub witness_data : Reach → Data
-witness_data Always = text_data []
-witness_data (By label) = text_data label
-witness_data Never = null
+abbrev pub witness_cell : Reach → CellData
+witness_cell Always = text []
+witness_cell (By label) = text label
+witness_cell Never = null
 
-abbrev pub cell_object : ListedEntry → ReachCell → ListedEntry → List Member
-cell_object client cell server =
-    (codes "from", text_data client.path) ∷ (codes "service", text_data cell.service.now) ∷ (codes "to", text_data server.path)
-    ∷ (codes "reach", text_data (reach_word cell.reach)) ∷ (codes "label", label_data cell.reach) ∷ (codes "labels", labels_data cell.labels)
-    ∷ (codes "witness", witness_data cell.reach) ∷ []
+abbrev pub cell_record : ListedEntry → ReachCell → ListedEntry → Record
+cell_record client cell server =
+    (codes "from", text client.path) ∷ (codes "service", text cell.service.now) ∷ (codes "to", text server.path)
+    ∷ (codes "reach", text (reach_word cell.reach)) ∷ (codes "label", label_cell cell.reach) ∷ (codes "labels", list (list_data (label_records cell.labels)))
+    ∷ (codes "witness", witness_cell cell.reach) ∷ []
 
--- the object of a cell, if its client and its server are components of the list
-abbrev pub object_by : Option ListedEntry → ReachCell → Option ListedEntry → List (List Member)
-object_by (Some client) cell (Some server) = cell_object client cell server ∷ []
-object_by None cell server = []
-object_by (Some client) cell None = []
+-- the record of a cell, if its client and its server are components of the list
+abbrev pub record_by : Option ListedEntry → ReachCell → Option ListedEntry → List Record
+record_by (Some client) cell (Some server) = cell_record client cell server ∷ []
+record_by None cell server = []
+record_by (Some client) cell None = []
 
-abbrev pub cell_objects : Listed → ReachCell → List (List Member)
-cell_objects list cell = object_by (slice_get list.entries cell.client) cell (slice_get list.entries cell.server)
+abbrev pub cell_records : Listed → ReachCell → List Record
+cell_records start cell = record_by (slice_get start.entries cell.client) cell (slice_get start.entries cell.server)
 
-abbrev pub reach_objects : Listed → List ReachCell → List (List Member)
-reach_objects list cells = flat_map (cell_objects list) cells
+abbrev pub reach_records : Listed → List ReachCell → List Record
+reach_records start cells = flat_map (cell_records start) cells
 
 -- the table of the scripts and servers that a filter selects is listed, cell by cell
 abbrev pub IsReachText : Listed → ReachFilter → List ℕ → Type 0
-IsReachText list chosen text =
-    (cells : List ReachCell) × (map row_of cells ≡ rows list (is_chosen chosen.from.items) (is_chosen chosen.to.items))
-    × All (IsTrue list) cells × (text ≡ list_text (reach_objects list cells))
+IsReachText start chosen printed =
+    (cells : List ReachCell) × (map row_of cells ≡ rows start (is_chosen chosen.from.items) (is_chosen chosen.to.items))
+    × All (IsTrue start) cells × (printed ≡ json_text (reach_records start cells))

@@ -1,20 +1,18 @@
 //! The command `check`: findings of a start list, and its breaches of a policy.
-ghost use Rattle.std.specs.Prelude.{◌≡◌, ◌&&◌, nat_lt, Some};
+ghost use Rattle.std.specs.Prelude.{◌≡◌, ◌&&◌, nat_lt};
 ghost use Rattle.cli_base.specs.PolicyVerdict.{verdict_status};
 ghost use Rattle.cli_base.specs.Statuses.{EndsAs};
-ghost use Rattle.cli_lists.specs.Findings.{finding_message};
 ghost use Rattle.cli_lists.specs.ListStatus.{CheckEnds, EndsReviewed, EndsVerdict};
 
 use crate::check_documents::check_documents;
 use crate::review::review;
 use cli_base::{
-    Host, PolicyDiagnostic, PolicyVerdict, REFUSED, Settings, Spot, check_policy, no_memory,
-    report, report_error, status_of, summarize, summarize_errors,
+    FindingMessage, Host, PolicyDiagnostic, PolicyVerdict, REFUSED, Settings, Spot, check_policy,
+    finding_spot, no_memory, report, report_error, status_of, summarize, summarize_errors,
 };
 use cli_options::CheckOptions;
-use list_review::{Finding, ListPart, Review};
+use list_review::Review;
 use std::alloc::AllocError;
-use std::fmt;
 use view_diagnostics::{Counts, DiagnosticForm, Severity};
 
 /// Checks a start list, also against a policy if one is named, and prints what is found. Returns the exit status: 0, 2 if the
@@ -48,23 +46,23 @@ fn check_review<H: Host>(
     let rt = host.rt();
     report_review(rt, form, asked.list, review);
     if is_refused(asked.strict, review.findings().len()) {
-        summarize(rt, form, counts_of(review, 0));
+        summarize(rt, form, counts_of(review, 0, 0));
         return REFUSED;
     }
     match asked.policy {
-        Some(policy) => check_kept(host, form, review, policy),
+        Some(policy) => check_kept(host, asked.strict, form, review, policy),
         None => {
-            summarize(rt, form, counts_of(review, 0));
+            summarize(rt, form, counts_of(review, 0, 0));
             status_of(rt, println!(rt; "ok"))
         }
     }
 }
 
-// Returns the number of findings of a start list, next to this number of errors.
-fn counts_of(review: &Review, errors: usize) -> Counts {
+// Returns the number of findings of a start list, next to these numbers of errors and warnings about a policy.
+fn counts_of(review: &Review, errors: usize, warnings: usize) -> Counts {
     Counts {
         errors: errors as u64,
-        warnings: review.findings().len() as u64,
+        warnings: (review.findings().len() as u64).saturating_add(warnings as u64),
     }
 }
 
@@ -78,7 +76,7 @@ pub(crate) fn is_refused(strict: bool, findings: usize) -> bool
 // Prints the findings and the advice of a start list.
 fn report_review(rt: &HostRuntime, form: DiagnosticForm, path: &str, review: &Review) {
     for finding in review.findings() {
-        let spot = spot_of(path, &finding.part);
+        let spot = finding_spot(path, finding);
         report(rt, form, Severity::Warning, spot, &FindingMessage(finding));
     }
     if let Some(advice) = review.advice() {
@@ -86,78 +84,70 @@ fn report_review(rt: &HostRuntime, form: DiagnosticForm, path: &str, review: &Re
     }
 }
 
-// Checks a reviewed list against the policy of a path. Prints the policy's faults, or each of its lines that the list breaks, and
-// `ok` if there are none. Returns the exit status.
-fn check_kept<H: Host>(host: &H, form: DiagnosticForm, review: &Review, path: &str) -> u8
-    ensures { EndsAs ⊥ (EndsVerdict (H.text_at host.now) path.now review.now.list) result }
+// Checks a reviewed list against the policy of a path. Prints the policy's faults, or its remarks and each of its lines that the list
+// breaks, and `ok` if the status is 0. Returns the exit status.
+fn check_kept<H: Host>(
+    host: &H,
+    strict: bool,
+    form: DiagnosticForm,
+    review: &Review,
+    path: &str,
+) -> u8
+    ensures { EndsAs ⊥ (EndsVerdict (H.text_at host.now) strict path.now review.now.list) result }
 {
     let rt = host.rt();
     match check_policy(host, review.list(), path) {
         Ok(verdict) => {
-            let errors = report_verdict(rt, form, path, &verdict);
-            summarize(rt, form, counts_of(review, errors));
-            print_ok(rt, &verdict)
+            let (errors, warnings) = report_verdict(rt, form, path, &verdict);
+            summarize(rt, form, counts_of(review, errors, warnings));
+            print_ok(rt, strict, &verdict)
         }
         Err(AllocError) => no_memory(rt),
     }
 }
 
-// Prints the faults of a policy, or its broken lines. Returns the number of errors.
+// Prints the faults of a policy, or its remarks and its broken lines. Returns the numbers of errors and of warnings.
 fn report_verdict(
     rt: &HostRuntime,
     form: DiagnosticForm,
     path: &str,
     verdict: &PolicyVerdict,
-) -> usize {
+) -> (usize, usize) {
     match verdict {
-        PolicyVerdict::Held(notes) | PolicyVerdict::Faulty(notes) => {
-            for note in notes.as_slice() {
-                report_note(rt, form, path, note);
+        PolicyVerdict::Held(found) => {
+            for remark in found.remarks.as_slice() {
+                if !remark.is_partial {
+                    let spot = remark.diagnostic.spot(path);
+                    report(rt, form, remark.severity, spot, &remark.diagnostic.text);
+                }
             }
-            notes.len()
+            report_notes(rt, form, path, found.broken.as_slice());
+            (found.broken.len(), found.void)
+        }
+        PolicyVerdict::Faulty(notes) => {
+            report_notes(rt, form, path, notes.as_slice());
+            (notes.len(), 0)
         }
         PolicyVerdict::ReadFailure(why) => {
             report_error(rt, form, Spot::nowhere(), why);
-            1
+            (1, 0)
         }
     }
 }
 
 // Prints `ok` if a policy is kept, and returns the exit status.
-fn print_ok(rt: &HostRuntime, verdict: &PolicyVerdict) -> u8
-    ensures { EndsAs ⊥ (λ status. status ≡ verdict_status verdict.now) result }
+fn print_ok(rt: &HostRuntime, strict: bool, verdict: &PolicyVerdict) -> u8
+    ensures { EndsAs ⊥ (λ status. status ≡ verdict_status strict verdict.now) result }
 {
-    match verdict.exit_status() {
+    match verdict.exit_status(strict) {
         0 => status_of(rt, println!(rt; "ok")),
         status => status,
     }
 }
 
-// Prints the diagnostic of a policy's line.
-fn report_note(rt: &HostRuntime, form: DiagnosticForm, path: &str, note: &PolicyDiagnostic) {
-    report_error(rt, form, note.spot(path), &note.text);
-}
-
-// Returns the place of a part of a start list.
-fn spot_of<'a>(path: &'a str, part: &ListPart) -> Spot<'a> {
-    match part {
-        ListPart::Text(line, column) => Spot::byte(path, *line as u64, *column),
-        _ => Spot::file(path),
-    }
-}
-
-// The message of a finding, as it follows the finding's place.
-#[derive(Clone, Copy)]
-struct FindingMessage<'a>(&'a Finding);
-
-impl fmt::Display for FindingMessage<'_> {
-    ghost output = { λ message. Some (finding_message message) };
-
-    fn fmt<W: fmt::Write>(&self, f: &mut fmt::Formatter<W>) -> fmt::Result {
-        let finding = self.0;
-        match &finding.part {
-            ListPart::Text(_, _) => write!(f, "{}", finding.remark),
-            _ => write!(f, "{finding}"),
-        }
+// Prints errors of a policy.
+fn report_notes(rt: &HostRuntime, form: DiagnosticForm, path: &str, notes: &[PolicyDiagnostic]) {
+    for note in notes {
+        report_error(rt, form, note.spot(path), &note.text);
     }
 }

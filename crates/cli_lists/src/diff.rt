@@ -5,31 +5,35 @@ ghost use Rattle.line_rounds.specs.Views.{whole_view};
 ghost use Rattle.cli_base.specs.Files.{IsUnknown};
 ghost use Rattle.cli_base.specs.Statuses.{EndsAs};
 ghost use Rattle.cli_lists.specs.ComparedRuns.{AreLinesAt, HasFaultAt, HasFaultIn, LacksScenario, path_after};
-ghost use Rattle.cli_lists.specs.Comparison.{AfterDiffers, AfterRefused, AnswersDiffer, DiffEnds, EndsBy, EndsChanged, HasStopped, LinesDiffer, NeedsDiffer, OfScenarios, PairDiffers, PairRefused, RunsDiffer, ScenariosDiffer};
+ghost use Rattle.cli_lists.specs.Comparison.{AfterDiffers, AfterRefused, AnswersDiffer, DiffEnds, EndsBy, EndsChanged, HasStopped, LinesDiffer, NeedsDiffer, OfScenarios, PairDiffers, PairRefused, ResultsDiffer, RunsDiffer, ScenariosDiffer, status_if_misread};
 
 use crate::diff_files::{JudgedPair, ListFile, ListPair};
+use crate::diff_misread::report_misread;
 use crate::diff_policy::PolicyBreaches;
 use crate::diff_runs::{RunInput, RunPair, answers_on, needs, results_on};
-use crate::diff_text::print_differences;
-use crate::review::review;
+use crate::diff_text::{CHANGED, print_differences};
+use crate::review::list_at;
 use cli_base::{Host, Settings, made_or_status, scenario_text, unfolded};
 use cli_options::DiffOptions;
-use list_diff::{ReplyChange, changed_replies, lacks};
+use list_diff::{ComparedLines, LineResult, ReplyChange, compared_lines, lacks};
 use list_parser::StartList;
 use run_exchanges::Exchange;
 
+/// The exit status if neither list understands a line of a scenario.
+const MISREAD: u8 = 3;
+
 /// Prints the differences between two start lists, also the breaches of a policy that one list alone has and the replies to a
 /// scenario that differ, as lines or documents of JSON. Returns the exit status: 0 if nothing differs and 4 if something does; 2 if a
-/// list, the policy or a scenario is refused; 3 if a scenario's rounds have a fault; 1 or 141 if the host is out of memory, or if a
-/// run or a result fails.
+/// list, the policy or a scenario is refused; 3 if a scenario's rounds have a fault, or neither list understands a line; 1 or 141 if
+/// the host is out of memory, or if a run or a result fails.
 pub fn compare_lists<H: Host>(host: &H, asked: &DiffOptions<'_>, settings: Settings<'_>) -> u8
     ensures { DiffEnds (H.text_at host.now) asked.now settings.entry result }
 {
-    match review(host, asked.before, settings) {
-        Ok(before) => compare_before(host, asked, before.list(), settings),
+    match list_at(host, asked.before, settings) {
+        Ok(before) => compare_before(host, asked, &before, settings),
         Err(status) => {
             // The faults of the list after are printed too.
-            let _ = review(host, asked.after, settings);
+            let _ = list_at(host, asked.after, settings);
             status
         }
     }
@@ -38,7 +42,7 @@ pub fn compare_lists<H: Host>(host: &H, asked: &DiffOptions<'_>, settings: Setti
 // Compares a list with the list after, and returns the exit status.
 fn compare_before<'a, H: Host>(
     host: &'a H,
-    asked: &DiffOptions<'a>,
+    asked: &'a DiffOptions<'a>,
     before: &'a StartList,
     settings: Settings<'_>,
 ) -> u8
@@ -46,8 +50,8 @@ fn compare_before<'a, H: Host>(
         (OfScenarios (HasFaultIn (H.text_at host.now) settings.entry) asked.now)
         (AfterDiffers (H.text_at host.now) asked.now settings.entry before.now) result }
 {
-    match review(host, asked.after, settings) {
-        Ok(after) => compare_both(host, asked, before, after.list(), settings),
+    match list_at(host, asked.after, settings) {
+        Ok(after) => compare_both(host, asked, before, &after, settings),
         Err(status) => status,
     }
 }
@@ -55,7 +59,7 @@ fn compare_before<'a, H: Host>(
 // Compares two lists, and returns the exit status.
 fn compare_both<'a, H: Host>(
     host: &'a H,
-    asked: &DiffOptions<'a>,
+    asked: &'a DiffOptions<'a>,
     before: &'a StartList,
     after: &'a StartList,
     settings: Settings<'_>,
@@ -74,7 +78,7 @@ fn compare_both<'a, H: Host>(
 // or of a scenario that isn't run.
 fn compare<'a, H: Host>(
     host: &'a H,
-    asked: &DiffOptions<'a>,
+    asked: &'a DiffOptions<'a>,
     before: &'a StartList,
     after: &'a StartList,
     settings: Settings<'_>,
@@ -105,7 +109,7 @@ fn compare<'a, H: Host>(
 // Compares two lists with their breaches, and the replies to a scenario if there is one.
 fn compare_judged<'a, H: Host>(
     host: &'a H,
-    asked: &DiffOptions<'a>,
+    asked: &'a DiffOptions<'a>,
     pair: JudgedPair<'a>,
     settings: Settings<'_>,
 ) -> Result<u8, u8>
@@ -203,11 +207,50 @@ fn compare_answers<'a>(
         olds.now news.now runs.entry.breaches.now))) }
     ensures failed { IfErr result (λ status. status ≡ 1) }
 {
-    let was = results_on(rt, runs.was, olds, settings)?;
-    let now = results_on(rt, runs.now, news, settings)?;
-    let replies = changed_replies(rt.alloc(), was.as_slice(), now.as_slice());
+    let before = results_on(rt, runs.was, olds, settings)?;
+    let after = results_on(rt, runs.now, news, settings)?;
+    compare_results(rt, runs, before.as_slice(), after.as_slice(), settings)
+}
+
+// Compares what came of the lines of both runs, and prints all differences. Then prints the lines that neither list understands, which
+// are errors. Returns the exit status; the error is 1.
+fn compare_results<'a>(
+    rt: &HostRuntime,
+    runs: RunPair<'a>,
+    was: &'a [LineResult<'a>],
+    now: &'a [LineResult<'a>],
+    settings: Settings<'a>,
+) -> Result<u8, u8>
+    ensures ended { IfOk result (EndsAs ⊥ (EndsChanged (ResultsDiffer settings.entry
+        runs.entry.was.file.list.now (whole_view runs.entry.was.lines.now)
+        runs.entry.now.file.list.now (whole_view runs.entry.now.lines.now)
+        was.now now.now runs.entry.breaches.now))) }
+    ensures failed { IfErr result (λ status. status ≡ 1) }
+{
+    let misread = compared_lines(rt.alloc(), ComparedLines::Misread, was, now);
+    let misread = made_or_status(rt, misread)?;
+    let replies = compared_lines(rt.alloc(), ComparedLines::Changed, was, now);
     let replies = made_or_status(rt, replies)?;
-    compare_needs(rt, runs, replies.as_slice(), settings)
+    let status = compare_needs(rt, runs, replies.as_slice(), settings)?;
+    if misread.is_empty() {
+        return Ok(status);
+    }
+    made_or_status(
+        rt,
+        report_misread(rt, runs, misread.as_slice(), settings.form),
+    )?;
+    Ok(misread_status(status))
+}
+
+// Returns the exit status if a line isn't understood: 3, unless the write failed.
+fn misread_status(status: u8) -> u8
+    ensures { result ≡ status_if_misread status }
+{
+    if status == 0 || status == CHANGED {
+        MISREAD
+    } else {
+        status
+    }
 }
 
 // Compares the needs of both runs, and prints all differences, with these replies. Returns the exit status; the error is 1.

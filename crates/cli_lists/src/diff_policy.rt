@@ -6,7 +6,9 @@ ghost use Rattle.list_diff.specs.Breaches.{breach_changes, change_at};
 ghost use Rattle.cli_lists.specs.Comparison.{AreBreachesBy, AreBreachesOf, HasPolicyFault, RefusesPolicy};
 
 use crate::diff_files::ListPair;
-use cli_base::{Host, REFUSED, Spot, made_or_status, policy_text, report_error, summarize_errors};
+use cli_base::{
+    Host, REFUSED, Spot, made_or_status, policy_spot, policy_text, report_error, summarize_errors,
+};
 use list_diff::{BreachChange, PlacedBreach, breach_changes, placed_breaches};
 use list_policy::{Policy, PolicyFault};
 use std::alloc::{AllocError, Global};
@@ -91,7 +93,7 @@ fn refuse_policy(
     ensures { result ≡ 2 }
 {
     for fault in faults {
-        let spot = Spot::byte(path, fault.line as u64, fault.column);
+        let spot = policy_spot(path, fault.line, fault.column);
         report_error(rt, form, spot, &fault.flaw);
     }
     summarize_errors(rt, form, faults.len() as u64);

@@ -2,12 +2,13 @@
 ghost use Rattle.std.specs.Prelude.{◌≡◌, [], not, IfOk};
 ghost use Rattle.list_diff.specs.Differences.{nothing_differs};
 ghost use Rattle.cli_base.specs.Statuses.{EndsAs};
-ghost use Rattle.cli_lists.specs.Comparison.{AreSoFar, Differ, EndsChanged, EndsWith, IsSideOf, IsTextOf, diff_status};
+ghost use Rattle.cli_lists.specs.Comparison.{AreSoFar, Differ, EndsChanged, EndsWith, IsSideOf, IsTextOf, changed_if, diff_status};
 
 use crate::diff_files::JudgedPair;
 use cli_base::{made_or_status, status_of};
 use list_diff::{
-    EntryChange, ListDifferences, NeedChange, ReachChange, ReachSide, ReplyChange, changes, leads,
+    EntryChange, ListDifferences, NeedChange, ReachChange, ReachSide, ReplyChange, changes,
+    difference_documents, difference_lines, leads,
 };
 use list_parser::StartList;
 use list_reach::ReachTable;
@@ -15,10 +16,9 @@ use std::alloc::{AllocError, Global};
 use std::io;
 use std::io::Write;
 use view_diagnostics::DiagnosticForm;
-use view_differences::{difference_documents, difference_lines};
 
 /// The exit status if something is changed.
-const CHANGED: u8 = 4;
+pub(crate) const CHANGED: u8 = 4;
 
 /// Prints all differences of two lists, with their breaches, these needs and replies. Returns the exit status: 4 if there is a difference,
 /// 0 if there is none, else that of a failed write, or 1 if the host is out of memory.
@@ -74,7 +74,7 @@ impl DiffText {
 
     // Prints the text, and returns the exit status.
     fn print(&self, rt: &HostRuntime) -> u8
-        ensures { EndsAs ⊥ (EndsChanged (λ changed. changed ≡ self.now.is_changed)) result }
+        ensures { EndsAs ⊥ (EndsChanged (λ changed. changed ≡ changed_if self.now.is_changed)) result }
     {
         let printed = io::writer(rt).write_all(self.text.as_slice());
         end_status(rt, printed, self.is_changed)
@@ -155,7 +155,7 @@ fn end_status(rt: &HostRuntime, printed: io::Result<()>, is_changed: bool) -> u8
 
 // Returns the exit status of a comparison: 4 if something is changed, else 0.
 fn diff_status(is_changed: bool) -> u8
-    ensures { result ≡ diff_status is_changed }
+    ensures { result ≡ diff_status (changed_if is_changed) }
 {
     if is_changed { CHANGED } else { 0 }
 }

@@ -7,9 +7,10 @@
 
 mod check;
 mod check_documents;
-mod check_objects;
+mod check_records;
 mod diff;
 mod diff_files;
+mod diff_misread;
 mod diff_policy;
 mod diff_runs;
 mod diff_text;

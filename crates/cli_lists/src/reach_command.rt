@@ -5,14 +5,14 @@ ghost use Rattle.cli_lists.specs.ListStatus.{EndsNamed, NamesNone, ReachEnds, na
 ghost use Rattle.cli_lists.specs.ReachDocuments.{IsReachText};
 
 use crate::reach_documents::reach_text;
-use crate::review::review;
+use crate::review::list_at;
 use cli_base::{
     Host, REFUSED, Settings, Spot, UNWRITTEN, made_or_status, print_documents, report_error,
     status_of,
 };
 use cli_options::ReachOptions;
 use list_parser::StartList;
-use list_reach::{ReachFilter, ReachPathList, ReachTable, Unnamed};
+use list_reach::{ReachFilter, ReachPathList, ReachTable, ReachText, Unnamed};
 use std::alloc::{AllocError, Global};
 use view_diagnostics::DiagnosticForm;
 
@@ -21,8 +21,8 @@ use view_diagnostics::DiagnosticForm;
 pub fn show_reach<H: Host>(host: &H, asked: &ReachOptions<'_>, settings: Settings<'_>) -> u8
     ensures { ReachEnds (H.text_at host.now) asked.now settings.entry result }
 {
-    match review(host, asked.list, settings) {
-        Ok(review) => reach_in(host.rt(), settings.form, review.list(), asked),
+    match list_at(host, asked.list, settings) {
+        Ok(list) => reach_in(host.rt(), settings.form, &list, asked),
         Err(status) => status,
     }
 }
@@ -101,11 +101,21 @@ fn print_table(
 ) -> u8
     ensures { EndsAs ⊥ IsZero result }
 {
-    let status = status_of(rt, print!(rt; "{table}"));
+    let status = print_text(rt, table);
     if status == 0 && filter.is_narrow() {
         print_paths(rt, list, filter)
     } else {
         status
+    }
+}
+
+// Prints a table as text, and returns the exit status.
+fn print_text(rt: &HostRuntime, table: &ReachTable<'_>) -> u8
+    ensures { EndsAs ⊥ IsZero result }
+{
+    match made_or_status(rt, ReachText::of(rt.alloc(), table)) {
+        Ok(text) => status_of(rt, print!(rt; "{text}")),
+        Err(status) => status,
     }
 }
 

@@ -1,59 +1,48 @@
-//! A table of reach as documents of JSON.
-ghost use Rattle.std.specs.Prelude.{◌≡◌, IfOk, OnOk};
+//! A table of reach as records.
+ghost use Rattle.std.specs.Prelude.{◌≡◌, ◌++◌, IfOk, OnOk};
 ghost use Rattle.std.specs.Option.{option_copied};
-ghost use Rattle.view_json.specs.Documents.{field_data, list_data, list_text};
-ghost use Rattle.view_differences.specs.LabelObjects.{labels_data};
-ghost use Rattle.view_json.specs.Listings.{Extends};
-ghost use Rattle.cli_lists.specs.ReachDocuments.{cell_objects, label_data, object_by, reach_objects, reach_word, witness_data};
+ghost use Rattle.view_records.specs.Cells.{cell_data};
+ghost use Rattle.view_records.specs.JsonTexts.{json_text};
+ghost use Rattle.view_records.specs.Lists.{records_of};
+ghost use Rattle.list_diff.specs.LabelRecords.{label_records};
+ghost use Rattle.cli_lists.specs.ReachDocuments.{cell_records, label_cell, reach_records, reach_word, record_by, witness_cell};
 
+use list_diff::label_records;
 use list_parser::{ListEntry, StartList};
 use list_reach::{Reach, ReachCell, ReachTable};
 use std::alloc::{AllocError, Global};
-use view_differences::label_documents;
-use view_json::{JsonField, Listing, ObjectList};
+use view_records::{Cell, RecordList};
 
-/// Returns a list with a document for each cell of a start list's table. Fails if the host is out of memory.
+/// Returns a list with a record for each cell of a start list's table. Fails if the host is out of memory.
 pub(crate) fn reach_text(
     alloc: Global,
     list: &StartList,
     table: &ReachTable<'_>,
 ) -> Result<Vec<u8>, AllocError>
     ensures { IfOk result
-        (λ text. text.items ≡ list_text (reach_objects list.now table.now.cells.items)) }
+        (λ text. text.items ≡ json_text (reach_records list.now table.now.cells.items)) }
 {
-    let mut listing = Listing::new(alloc);
-    add_cells(alloc, &mut listing, list, table.cells())?;
-    listing.into_text()
-}
-
-// Adds cells of a table.
-fn add_cells(
-    alloc: Global,
-    listing: &mut Listing,
-    list: &StartList,
-    cells: &[ReachCell<'_>],
-) -> Result<(), AllocError>
-    ensures { OnOk result (Extends listing.old listing.new (reach_objects list.now cells.now)) }
-{
-    for cell in cells {
-        add_cell(alloc, listing, list, cell)?;
+    let mut records = RecordList::new(alloc);
+    for cell in table.cells() {
+        add_cell(alloc, &mut records, list, cell)?;
     }
-    Ok(())
+    records.to_json()
 }
 
-// Adds a cell of a table, with the documents of its labels.
+// Adds a cell of a table, with the records of its labels.
 fn add_cell(
     alloc: Global,
-    listing: &mut Listing,
+    records: &mut RecordList,
     list: &StartList,
     cell: &ReachCell<'_>,
 ) -> Result<(), AllocError>
-    ensures { OnOk result (Extends listing.old listing.new (cell_objects list.now cell.now)) }
+    ensures { OnOk result
+        (records_of records.new ≡ records_of records.old ++ cell_records list.now cell.now) }
 {
-    let labels = label_documents(alloc, &cell.labels)?;
+    let labels = label_records(alloc, &cell.labels)?;
     let entries = list.entries();
     add_pair(
-        listing,
+        records,
         entries.get(cell.client),
         cell,
         entries.get(cell.server),
@@ -61,28 +50,28 @@ fn add_cell(
     )
 }
 
-// Adds a cell of a script and a server with these documents of its labels, if both are there.
+// Adds a cell of a script and a server with these records of its labels, if both are there.
 fn add_pair<'a>(
-    listing: &mut Listing,
+    records: &mut RecordList,
     client: Option<&'a ListEntry>,
     cell: &'a ReachCell<'_>,
     server: Option<&'a ListEntry>,
-    labels: &'a ObjectList,
+    labels: &'a RecordList,
 ) -> Result<(), AllocError>
-    requires { list_data labels.now ≡ labels_data cell.now.labels }
-    ensures { OnOk result (Extends listing.old listing.new
-        (object_by (option_copied client.entry) cell.now (option_copied server.entry))) }
+    requires { records_of labels.now ≡ label_records cell.now.labels }
+    ensures { OnOk result (records_of records.new ≡ records_of records.old
+        ++ record_by (option_copied client.entry) cell.now (option_copied server.entry)) }
 {
     let (Some(client), Some(server)) = (client, server) else {
         return Ok(());
     };
-    listing.add(&[
-        ("from", JsonField::Text(client.path())),
-        ("service", JsonField::Text(cell.service.as_bytes())),
-        ("to", JsonField::Text(server.path())),
-        ("reach", JsonField::Word(reach_word(&cell.reach))),
+    records.add(&[
+        ("from", Cell::Text(client.path())),
+        ("service", Cell::Word(cell.service)),
+        ("to", Cell::Text(server.path())),
+        ("reach", Cell::Word(reach_word(&cell.reach))),
         ("label", label_of(&cell.reach)),
-        ("labels", JsonField::List(labels)),
+        ("labels", Cell::List(labels)),
         ("witness", witness_of(&cell.reach)),
     ])
 }
@@ -99,22 +88,22 @@ fn reach_word(reach: &Reach) -> &'static str
 }
 
 // Returns a shortest label, if not all labels or none reach the server.
-fn label_of(reach: &Reach) -> JsonField<'_>
-    ensures { field_data result ≡ label_data reach.now }
+fn label_of(reach: &Reach) -> Cell<'_>
+    ensures { cell_data result ≡ label_cell reach.now }
 {
     match reach {
-        Reach::By(label) => JsonField::Text(label.as_bytes()),
-        Reach::Always | Reach::Never => JsonField::Nothing,
+        Reach::By(label) => Cell::Text(label.as_bytes()),
+        Reach::Always | Reach::Never => Cell::Null,
     }
 }
 
 // Returns a shortest label, if a label reaches the server.
-fn witness_of(reach: &Reach) -> JsonField<'_>
-    ensures { field_data result ≡ witness_data reach.now }
+fn witness_of(reach: &Reach) -> Cell<'_>
+    ensures { cell_data result ≡ witness_cell reach.now }
 {
     match reach {
-        Reach::Always => JsonField::Text(b""),
-        Reach::By(label) => JsonField::Text(label.as_bytes()),
-        Reach::Never => JsonField::Nothing,
+        Reach::Always => Cell::Text(b""),
+        Reach::By(label) => Cell::Text(label.as_bytes()),
+        Reach::Never => Cell::Null,
     }
 }

@@ -3,7 +3,7 @@ ghost use Rattle.std.specs.Prelude.{◌≡◌};
 ghost use Rattle.cli_base.specs.Statuses.{EndsAs};
 ghost use Rattle.cli_lists.specs.ListStatus.{EndsRouted, HasNoRequest, RouteEnds, fault_status, routed_status};
 
-use crate::review::review;
+use crate::review::list_at;
 use cli_base::{
     Host, OUT_OF_MEMORY, REFUSED, Settings, Spot, UNWRITTEN, report_error, status_after, status_of,
 };
@@ -20,8 +20,8 @@ const DENIED: u8 = 3;
 pub fn show_route<H: Host>(host: &H, asked: &RouteOptions<'_>, settings: Settings<'_>) -> u8
     ensures { RouteEnds (H.text_at host.now) asked.now settings.entry result }
 {
-    match review(host, asked.list, settings) {
-        Ok(review) => route_in(host.rt(), settings.form, review.list(), asked),
+    match list_at(host, asked.list, settings) {
+        Ok(list) => route_in(host.rt(), settings.form, &list, asked),
         Err(status) => status,
     }
 }

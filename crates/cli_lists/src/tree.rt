@@ -2,39 +2,40 @@
 ghost use Rattle.cli_base.specs.Statuses.{EndsAs, IsZero};
 ghost use Rattle.cli_lists.specs.ListStatus.{TreeEnds};
 
-use crate::review::review;
+use crate::review::list_at;
 use cli_base::{Host, Settings, made_or_status, print_documents, status_of};
 use cli_options::TreeOptions;
-use list_review::{ListTree, Review};
+use list_parser::StartList;
+use list_review::{ListGraph, ListTree};
 
 /// Prints the components of a start list as text, as a graph or as JSON. Returns the exit status: 0, or 2 if the list is refused.
 pub fn show_tree<H: Host>(host: &H, asked: &TreeOptions<'_>, settings: Settings<'_>) -> u8
     ensures { TreeEnds (H.text_at host.now) asked.now settings.entry result }
 {
-    match review(host, asked.list, settings) {
-        Ok(review) => print_review(host.rt(), asked, &review),
+    match list_at(host, asked.list, settings) {
+        Ok(list) => print_list(host.rt(), asked, &list),
         Err(status) => status,
     }
 }
 
 // Prints the components of a start list as the command line asks, and returns the exit status.
-fn print_review(rt: &HostRuntime, asked: &TreeOptions<'_>, review: &Review) -> u8
+fn print_list(rt: &HostRuntime, asked: &TreeOptions<'_>, list: &StartList) -> u8
     ensures { EndsAs ⊥ IsZero result }
 {
     if asked.dot && !asked.json {
-        return print_graph(rt, review);
+        return print_graph(rt, list);
     }
-    match made_or_status(rt, review.tree(rt.alloc())) {
+    match made_or_status(rt, ListTree::of(rt.alloc(), list)) {
         Ok(tree) => print_tree(rt, &tree, asked.json),
         Err(status) => status,
     }
 }
 
 // Prints a graph, and returns the exit status.
-fn print_graph(rt: &HostRuntime, review: &Review) -> u8
+fn print_graph(rt: &HostRuntime, list: &StartList) -> u8
     ensures { EndsAs ⊥ IsZero result }
 {
-    match made_or_status(rt, review.graph(rt.alloc())) {
+    match made_or_status(rt, ListGraph::of(rt.alloc(), list)) {
         Ok(graph) => status_of(rt, print!(rt; "{graph}")),
         Err(status) => status,
     }

@@ -98,14 +98,14 @@ IsTold form made = (app_of made ≡ command_told form) × ((out-Command made).ha
 abbrev pub run : Shape
 run =
     of_scenario (codes "run")
-    (option_rule (codes "only") ∷ flag_rule (codes "accounts") ∷ flag_rule (codes "numbers") ∷ flag_rule (codes "strict")
-    ∷ option_rule (codes "color") ∷ flag_rule (codes "json") ∷ [])
+    (option_rule (codes "only") ∷ flag_rule (codes "accounts") ∷ flag_rule (codes "numbers") ∷ option_rule (codes "color")
+    ∷ flag_rule (codes "json") ∷ [])
 
 -- the command that records a scenario
 abbrev pub record_shape : Shape
 record_shape =
     of_scenario (codes "record")
-    (flag_rule (codes "all") ∷ flag_rule (codes "write") ∷ flag_rule (codes "strict") ∷ flag_rule (codes "json") ∷ [])
+    (flag_rule (codes "all") ∷ flag_rule (codes "write") ∷ flag_rule (codes "json") ∷ [])
 
 -- the command that prints the findings of a start list
 abbrev pub check : Shape
@@ -203,7 +203,6 @@ Asks (command.Run asked) name rows = (name ≡ codes "run")
     × (option_map (λ t. t.now) asked.only ≡ first_of (codes "only") rows)
     × (asked.accounts ≡ is_set (codes "accounts") rows)
     × (asked.numbers ≡ is_set (codes "numbers") rows)
-    × (asked.strict ≡ is_set (codes "strict") rows)
     × IsColor asked.color (first_or (codes "auto") (codes "color") rows)
     × (asked.json ≡ is_set (codes "json") rows)
     × (asked.scenario.now ≡ first_or (codes "-") (codes "scenario") rows)
@@ -211,7 +210,6 @@ Asks (command.Record asked) name rows = (name ≡ codes "record")
     × (option_map (λ t. t.now) asked.machine ≡ first_of (codes "machine") rows)
     × (asked.all ≡ is_set (codes "all") rows)
     × (asked.write ≡ is_set (codes "write") rows)
-    × (asked.strict ≡ is_set (codes "strict") rows)
     × (asked.json ≡ is_set (codes "json") rows)
     × (asked.scenario.now ≡ first_or (codes "-") (codes "scenario") rows)
 Asks (command.Check asked) name rows = (name ≡ codes "check")

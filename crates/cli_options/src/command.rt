@@ -196,7 +196,6 @@ impl<'a> Command<'a> {
             only: found.get_str("only"),
             accounts: is_set(found, "accounts"),
             numbers: is_set(found, "numbers"),
-            strict: is_set(found, "strict"),
             color: colored(found),
             json: is_set(found, "json"),
             scenario: path(found, "scenario"),
@@ -211,7 +210,6 @@ impl<'a> Command<'a> {
             machine: found.get_str("machine"),
             all: is_set(found, "all"),
             write: is_set(found, "write"),
-            strict: is_set(found, "strict"),
             json: is_set(found, "json"),
             scenario: path(found, "scenario"),
         })

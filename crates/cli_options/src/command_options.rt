@@ -22,8 +22,6 @@ pub struct RunOptions<'a> {
     pub accounts: bool,
     /// Whether the replies of a line are printed after its number.
     pub numbers: bool,
-    /// Whether a warning is a fault.
-    pub strict: bool,
     /// The condition under which lines are coloured, or none if the argument names none.
     pub color: Option<Color>,
     /// Whether diagnostics are documents of JSON.
@@ -41,8 +39,6 @@ pub struct RecordOptions<'a> {
     pub all: bool,
     /// Whether the recording replaces the scenario.
     pub write: bool,
-    /// Whether a warning is a fault.
-    pub strict: bool,
     /// Whether diagnostics are documents of JSON.
     pub json: bool,
     /// The path of the scenario.
@@ -185,7 +181,7 @@ pub struct TestOptions<'a> {
     pub junit: Option<&'a str>,
     /// The texts of which the path of a test has one, or nothing for all tests.
     pub filters: Vec<&'a str>,
-    /// Whether a warning fails its scenario.
+    /// Whether each start list that a test uses is checked too, and a line of a policy that speaks of nothing fails its test.
     pub strict: bool,
     /// Whether the coverage of the scenarios is printed.
     pub coverage: bool,

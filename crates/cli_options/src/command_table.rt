@@ -39,8 +39,6 @@ const JSON_ERRORS: ArgumentForm<'static> = ArgumentForm::Flag("json", help::JSON
 
 const COLOR: ArgumentForm<'static> = ArgumentForm::Value("color", "WHEN", help::COLOR);
 
-const STRICT: ArgumentForm<'static> = ArgumentForm::Flag("strict", help::STRICT);
-
 const LIST: ArgumentForm<'static> = ArgumentForm::Needed("list", "FILE", help::LIST);
 
 const SCENARIO: ArgumentForm<'static> = ArgumentForm::Needed(
@@ -59,7 +57,6 @@ pub(crate) const COMMANDS: &[CommandForm<'static>] = &[
             ArgumentForm::Value("only", "NAME", help::ONLY),
             ArgumentForm::Flag("accounts", help::WITH_ACCOUNTS),
             ArgumentForm::Flag("numbers", help::NUMBERS),
-            STRICT,
             COLOR,
             JSON_ERRORS,
             SET,
@@ -73,7 +70,6 @@ pub(crate) const COMMANDS: &[CommandForm<'static>] = &[
             MACHINE,
             ArgumentForm::Flag("all", help::ANEW),
             ArgumentForm::Flag("write", help::IN_PLACE),
-            STRICT,
             JSON_ERRORS,
             SET,
             SCENARIO,
@@ -162,7 +158,7 @@ pub(crate) const COMMANDS: &[CommandForm<'static>] = &[
             ArgumentForm::Value("machine", "FILE", help::OTHER_MACHINE),
             ArgumentForm::Value("junit", "FILE", help::JUNIT),
             ArgumentForm::Values("filter", "TEXT", help::FILTER),
-            STRICT,
+            ArgumentForm::Flag("strict", help::STRICT),
             ArgumentForm::Flag("coverage", help::COVERAGE),
             ArgumentForm::Value("threshold", "N", help::THRESHOLD),
             JSON,

@@ -28,9 +28,9 @@ Exit status:
   0    success, and nothing to report
   1    a failed read or write, too many lines, or no memory during a run
   2    a refused command line, file or start list; with --strict also a finding
-  3    a reply that isn't as expected, a line that is no call, a failed test, a
-       broken policy, coverage below a threshold, a denied request, or an unknown
-       component; with --strict also a warning about a line
+  3    a reply that isn't as expected, a line that isn't understood, a failed test,
+       a broken policy, coverage below a threshold, a denied request, or an unknown
+       component
   4    `diff` found a difference
   141  the reader of the output closed it
 docs/reference/ has the formats of scenarios, start lists, policies and output.";
@@ -93,7 +93,7 @@ Requests of a session of a server that declares its service and its kinds:
 Expected replies:
   granted              any reply except a refusal and ERR ..
   refused              a refusal, or ERR ..
-  refused!             a refusal, and the line is meant: no warning about it
+  refused!             a refusal, and the line is meant: its names may be unknown
   *                    any reply
   ram */65536 caps *   a * replaces an argument, or a number within one
   data \"hello\"         the bytes of a text
@@ -178,7 +178,7 @@ pub(crate) const COLOR: &str = "When to colour the output: auto (on a terminal),
 pub(crate) const STRICT_LIST: &str = "Exit with status 2 if there is a finding";
 
 pub(crate) const STRICT: &str =
-    "Exit with status 3 if there is a warning; a ! after an expected reply says that its line is meant";
+    "Also test each start list that is used: it fails if there is a finding";
 
 pub(crate) const POLICY: &str =
     "A policy: lines that state which scripts may reach which servers, and budgets";

@@ -1,10 +1,11 @@
 //! The files that a command reads, and whether two of them are standard input.
-ghost use Rattle.std.specs.Prelude.{◌≡◌, ◌≤◌, ◌∷◌, ◌++◌, []};
+ghost use Rattle.std.specs.Prelude.{◌≡◌, ◌≤◌, ◌∷◌, ◌++◌, [], map, IfOk};
 ghost use Rattle.std.specs.Option.{option_copied};
-ghost use Rattle.cli_options.specs.Inputs.{diff_files, given, inputs, is_given_input, is_input, is_repeated, reads_twice};
+ghost use Rattle.cli_options.specs.Inputs.{diff_files, files_read, given, inputs, is_given_input, is_input, is_repeated, reads_twice};
 
 use crate::command::Command;
 use crate::command_options::DiffOptions;
+use std::alloc::{AllocError, Global};
 
 /// The path that denotes standard input.
 const STANDARD_INPUT: &str = "-";
@@ -30,6 +31,68 @@ impl Command<'_> {
             Command::Test(_) | Command::Help(_) => false,
         }
     }
+
+    /// Returns the paths of the files that the command line names for the command, except those of tests. Fails if the host is out of
+    /// memory.
+    pub fn paths_read(&self, alloc: Global) -> Result<Vec<&str>, AllocError>
+        ensures { IfOk result (λ paths. map (λ path. path.now) paths.items ≡ files_read self.now) }
+    {
+        match self {
+            Command::Run(asked) => both(alloc, asked.machine, asked.scenario),
+            Command::Record(asked) => both(alloc, asked.machine, asked.scenario),
+            Command::Check(asked) => both(alloc, asked.policy, asked.list),
+            Command::Tree(asked) => both(alloc, None, asked.list),
+            Command::Reach(asked) => both(alloc, None, asked.list),
+            Command::Route(asked) => both(alloc, None, asked.list),
+            Command::Trace(asked) => both(alloc, asked.machine, asked.scenario),
+            Command::Accounts(asked) => both(alloc, asked.machine, asked.scenario),
+            Command::Least(asked) => both(alloc, asked.machine, asked.scenario),
+            Command::Alone(asked) => match asked.scenario {
+                Some(scenario) => both(alloc, asked.machine, scenario),
+                None => both(alloc, asked.machine, asked.name),
+            },
+            Command::Diff(asked) => diff_paths(alloc, asked),
+            Command::Test(asked) => if_given(alloc, asked.machine),
+            Command::Help(_) => Ok(Vec::new(alloc)),
+        }
+    }
+}
+
+// Returns the path of a file that may be given.
+fn if_given<'a>(alloc: Global, path: Option<&'a str>) -> Result<Vec<&'a str>, AllocError>
+    ensures { IfOk result (λ paths. map (λ path. path.now) paths.items ≡ given (option_copied path.entry)) }
+{
+    let mut paths = Vec::new(alloc);
+    if let Some(path) = path {
+        paths.push(path)?;
+    }
+    Ok(paths)
+}
+
+// Returns the path of a file that may be given, and that of another file.
+fn both<'a>(
+    alloc: Global,
+    first: Option<&'a str>,
+    second: &'a str,
+) -> Result<Vec<&'a str>, AllocError>
+    ensures { IfOk result (λ paths. map (λ path. path.now) paths.items
+        ≡ given (option_copied first.entry) ++ second.now ∷ []) }
+{
+    let mut paths = if_given(alloc, first)?;
+    paths.push(second)?;
+    Ok(paths)
+}
+
+// Returns the paths of the files that `diff` reads.
+fn diff_paths<'a>(alloc: Global, asked: &DiffOptions<'a>) -> Result<Vec<&'a str>, AllocError>
+    ensures { IfOk result (λ paths. map (λ path. path.now) paths.items ≡ diff_files asked.now) }
+{
+    let mut paths = if_given(alloc, asked.scenario)?;
+    paths.append(&mut if_given(alloc, asked.scenario_after)?)?;
+    paths.append(&mut if_given(alloc, asked.policy)?)?;
+    paths.push(asked.before)?;
+    paths.push(asked.after)?;
+    Ok(paths)
 }
 
 // Returns whether a file that may be given and another file are both standard input.

@@ -1,6 +1,6 @@
 -- The status of a command, by that of its run.
 use Rattle.std.proofs.Common.{◌≡◌, ℕ, Bool, true, false, List, length, Option, Some, None, refl, sym, subst, ap, ◌∙◌, inl, inr}
-use Rattle.std.specs.Prelude.{◌⊎◌, ◌≢◌, ◌==◌, if◌then◌else◌, is_some, IfOk, IfSome, Result, Ok}
+use Rattle.std.specs.Prelude.{◌⊎◌, ◌≢◌, ◌==◌, if◌then◌else◌, is_some, IfOk, IfSome, MatchBool, Result, Ok}
 use Rattle.std.specs.Borrow.{Bor}
 use Rattle.std.specs.Option.{option_copied}
 use Rattle.std.proofs.lemmas.List.{length-map}
@@ -10,21 +10,21 @@ use Rattle.list_parser.specs.declared.fault.BootFault.TheVariants.{NoMemory}
 use Rattle.line_names.specs.RoundMarks.{RoundMark}
 use Rattle.line_rounds.specs.Unfolding.{UnfoldedText}
 use Rattle.line_steps.specs.RunPosition.{RunPosition}
-use Rattle.line_steps.specs.declared.unread_line.UnreadLine.{UnreadLine}
 use Rattle.run_lines.specs.Machine.{world_of}
-use Rattle.run_record.specs.Unread.{line_by_reason, unread_lines, unread_view}
-use Rattle.cli_base.proofs.StatusLemmas.{ends_by, ends_warned, failed_by}
+use Rattle.run_record.specs.LineErrors.{error_view, errors_view, recording_errors}
+use Rattle.run_record.specs.declared.recording_error.RecordingError.{RecordingError}
+use Rattle.cli_base.proofs.StatusLemmas.{ends_by, failed_by}
 use Rattle.cli_base.proofs.UnfoldingLemmas.{lacks_machine}
-use Rattle.cli_base.specs.Files.{IsTextAt}
+use Rattle.cli_base.specs.Files.{IsTextAt, IsUnknown}
 use Rattle.cli_base.specs.ListFailures.{boot_lacks_memory}
 use Rattle.cli_base.specs.MachineChoice.{IsChosen, IsMachineFor, LacksMachine, list_path}
 use Rattle.cli_base.specs.MachineTexts.{LacksList}
-use Rattle.cli_base.specs.Statuses.{EndsAs, HasNoResult, boot_status, warned}
+use Rattle.cli_base.specs.Statuses.{EndsAs, HasNoResult, boot_status}
 use Rattle.cli_base.specs.Unfolding.{EndsOnText, EndsUnfolded, HasRoundsFault, rounds_of}
 use Rattle.cli_base.specs.declared.machine.Machine.{Machine}
 use Rattle.cli_base.specs.declared.machine_choice.MachineChoice.{MachineChoice}
 use Rattle.cli_base.specs.declared.settings.Settings.{Settings}
-use Rattle.cli_runs.specs.CommandStatus.{EndsByLine, EndsChosen, EndsLines, EndsNamed, EndsOn, EndsRecorded, IsListOf, IsRunOf, IsUnbootable, LacksQuota, LacksScenario, RunRefused, advice_of, is_known, named_status, unread_status}
+use Rattle.cli_runs.specs.CommandStatus.{EndsByLine, EndsChosen, EndsLines, EndsNamed, EndsOn, EndsRecorded, IsListOf, IsRunOf, IsUnbootable, LacksQuota, RunRefused, is_known, named_status, recorded_status}
 use Rattle.cli_runs.specs.RunStatus.{IsUnbooted, start_by}
 use Rattle.cli_runs.specs.declared.run_request.RunRequest.{RunRequest}
 use Rattle.cli_runs.specs.declared.view.RunView.{RunView}
@@ -32,6 +32,10 @@ use Rattle.cli_runs.specs.declared.view.RunView.{RunView}
 -- a value that was made
 pub of_made : {T E : Type 0} (P : T → Type 0) (made : Result T E) (value : T) → made ≡ Ok value → IfOk made P → P value
 of_made P made value is holds = subst (λ m. IfOk m P) is holds
+
+-- what isn't refused
+pub unrefused : (refused : Bool) (P : Type 0) (status : ℕ) → refused ≡ false → P → MatchBool refused (status ≡ 2) P
+unrefused refused P status is held = subst (λ (x : Bool). MatchBool x (status ≡ 2) P) (sym is) held
 
 -- a file that can't be opened isn't known
 pub unopened : (known : Option (List ℕ)) → IfSome known (λ bytes. false ≡ true) → known ≡ None
@@ -82,36 +86,36 @@ named_kept false status is = ap (λ b. if b then 3 else status) is
 module _ (texts : List ℕ → Option (List ℕ)) (machine : Machine) (request : RunRequest) where
   -- a text that is read whole
   pub whole_ran : (text : List ℕ) (status : ℕ) → IsTextAt texts request.scenario.now text
-      → EndsAs ⊥ (EndsUnfolded request.settings text (EndsLines machine request text)) status
-      → EndsAs (LacksScenario texts request) (EndsOn texts machine request) status
+      → EndsAs ⊥ (EndsUnfolded request.settings text (EndsLines machine request)) status
+      → EndsAs (IsUnknown texts request.scenario.now) (EndsOn texts machine request) status
   whole_ran text status at =
-      ends_by ⊥ (LacksScenario texts request) (EndsUnfolded request.settings text (EndsLines machine request text))
+      ends_by ⊥ (IsUnknown texts request.scenario.now) (EndsUnfolded request.settings text (EndsLines machine request))
       (EndsOn texts machine request) (λ never. absurd never) (λ ended ends. inl (text, at, ends)) status
 
   -- a name is known, or not
   pub named_ran : (known : Bool) (list : Listed) (ran status : ℕ) → IsListOf machine list → known ≡ is_known request.name list
-      → EndsAs (LacksScenario texts request) (EndsOn texts machine request) ran → status ≡ named_status known ran
-      → EndsAs (LacksScenario texts request) (EndsNamed texts machine request) status
+      → EndsAs (IsUnknown texts request.scenario.now) (EndsOn texts machine request) ran → status ≡ named_status known ran
+      → EndsAs (IsUnknown texts request.scenario.now) (EndsNamed texts machine request) status
   named_ran known list ran status reads is (inl failed) by =
-      inl (failed_by (LacksScenario texts request) (named_status known) ran status (named_kept known 1 refl) (named_kept known 2 refl)
+      inl (failed_by (IsUnknown texts request.scenario.now) (named_status known) ran status (named_kept known 1 refl) (named_kept known 2 refl)
       (named_kept known 141 refl) by failed)
   named_ran known list ran status reads is (inr ends) by =
       inr (list, reads, (ran, ends, by ∙ ap (λ (k : Bool). named_status k ran) is))
 
   -- a file that is run line by line
-  pub long_ran : (status : ℕ) → EndsAs (LacksScenario texts request) (EndsByLine texts machine request) status
-      → EndsAs (LacksScenario texts request) (EndsOn texts machine request) status
+  pub long_ran : (status : ℕ) → EndsAs (IsUnknown texts request.scenario.now) (EndsByLine texts machine request) status
+      → EndsAs (IsUnknown texts request.scenario.now) (EndsOn texts machine request) status
   long_ran status =
-      ends_by (LacksScenario texts request) (LacksScenario texts request) (EndsByLine texts machine request)
+      ends_by (IsUnknown texts request.scenario.now) (IsUnknown texts request.scenario.now) (EndsByLine texts machine request)
       (EndsOn texts machine request) (λ why. why) (λ ended ends. inr ends) status
 
 module _ (texts : List ℕ → Option (List ℕ)) (named : Option (Bor (List ℕ))) (request : RunRequest) where
   -- a run on the machine that is chosen
   pub chosen_ran : (machine : Machine) (status : ℕ) → IsMachineFor texts request.settings named request.scenario.now machine
-      → EndsAs (LacksScenario texts request) (EndsNamed texts machine request) status
+      → EndsAs (IsUnknown texts request.scenario.now) (EndsNamed texts machine request) status
       → EndsAs (RunRefused texts named request) (EndsChosen texts named request) status
   chosen_ran machine status for =
-      ends_by (LacksScenario texts request) (RunRefused texts named request) (EndsNamed texts machine request)
+      ends_by (IsUnknown texts request.scenario.now) (RunRefused texts named request) (EndsNamed texts machine request)
       (EndsChosen texts named request) (λ why. inr why) (λ ended ends. (machine, for, ends)) status
 
   -- there is no machine
@@ -122,35 +126,25 @@ module _ (texts : List ℕ → Option (List ℕ)) (named : Option (Bor (List ℕ
 
 -- of a view that is one of these
 pub whole_run : (scenario : List ℕ) (settings : Settings) (view : RunView) (IsView : RunView → Type 0) (request : RunRequest) → IsView view
-    → IsRunOf scenario settings (λ v. v ≡ view) None false request → IsRunOf scenario settings IsView None false request
-whole_run scenario settings view IsView request viewed is = (is.0, is.1, subst IsView (sym is.2) viewed, is.3, is.4)
+    → IsRunOf scenario settings (λ v. v ≡ view) None request → IsRunOf scenario settings IsView None request
+whole_run scenario settings view IsView request viewed is = (is.0, is.1, subst IsView (sym is.2) viewed, is.3)
 
 -- ---- a recording
 
 -- a scenario that was recorded
-pub recorded : (settings : Settings) (strict : Bool) (machine : Machine) (list : Listed) (text : List ℕ) (lines : UnfoldedText) (first : RunPosition) (marks : List RoundMark)
-    (bytes : List ℕ) (warnings : ℕ) (unread : List UnreadLine) (ran status : ℕ) → IsListOf machine list → rounds_of settings text ≡ Ok lines
-    → first ≡ start_by settings marks → marks ≡ lines.marks → bytes ≡ lines.text → warnings ≡ length (advice_of None list text)
-    → unread_view unread ≡ unread_lines (world_of list) first bytes → EndsAs ⊥ (λ s. s ≡ unread_status (length unread)) ran
-    → status ≡ warned strict warnings ran
-    → EndsAs (LacksQuota machine) (EndsUnfolded settings text (EndsRecorded settings strict machine text)) status
-recorded settings strict machine list text lines first marks bytes warnings unread ran status reads unfolds first_is marks_are bytes_are warnings_are are ends is =
-    ends_warned ⊥ (LacksQuota machine) (λ s. s ≡ unread_status (length unread))
-    (EndsUnfolded settings text (EndsRecorded settings strict machine text)) strict warnings ran status (λ never. absurd never)
-    (λ ended by. inr (
-      lines,
-      unfolds,
-      (
-        list,
-        reads,
-        ap (λ w. warned strict w ended) warnings_are
-            ∙ ap (λ s. warned strict (length (advice_of None list text)) s) (by ∙ ap unread_status count),
-      ),
-    )) ends is
+pub recorded : (settings : Settings) (machine : Machine) (list : Listed) (text : List ℕ) (lines : UnfoldedText) (first : RunPosition) (marks : List RoundMark)
+    (bytes : List ℕ) (errors : List RecordingError) (status : ℕ) → IsListOf machine list → rounds_of settings text ≡ Ok lines
+    → first ≡ start_by settings marks → marks ≡ lines.marks → bytes ≡ lines.text
+    → errors_view errors ≡ recording_errors list (world_of list) first bytes → EndsAs ⊥ (λ s. s ≡ recorded_status (length errors)) status
+    → EndsAs (LacksQuota machine) (EndsUnfolded settings text (EndsRecorded settings machine)) status
+recorded settings machine list text lines first marks bytes errors status reads unfolds first_is marks_are bytes_are are =
+    ends_by ⊥ (LacksQuota machine) (λ s. s ≡ recorded_status (length errors))
+    (EndsUnfolded settings text (EndsRecorded settings machine)) (λ never. absurd never)
+    (λ ended by. inr (lines, unfolds, (list, reads, by ∙ ap recorded_status count))) status
   where
-    count : length unread ≡ length (unread_lines (world_of list) (start_by settings lines.marks) lines.text)
+    count : length errors ≡ length (recording_errors list (world_of list) (start_by settings lines.marks) lines.text)
     count =
-        sym (length-map unread (λ (it : UnreadLine). record { number = it.number; line = line_by_reason it.why }))
+        sym (length-map errors error_view)
         ∙ ap length are
-        ∙ ap (λ (f : RunPosition). length (unread_lines (world_of list) f bytes)) (first_is ∙ ap (start_by settings) marks_are)
-        ∙ ap (λ (bs : List ℕ). length (unread_lines (world_of list) (start_by settings lines.marks) bs)) bytes_are
+        ∙ ap (λ (f : RunPosition). length (recording_errors list (world_of list) f bytes)) (first_is ∙ ap (start_by settings) marks_are)
+        ∙ ap (λ (bs : List ℕ). length (recording_errors list (world_of list) (start_by settings lines.marks) bs)) bytes_are

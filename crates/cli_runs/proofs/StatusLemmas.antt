@@ -79,7 +79,7 @@ module _ (view : RunView) (start : RunStart) (input : Option (List ℕ)) where
   status_of_run {ending = ending} {rest = rest} {failed = failed} silent run = by ending.fault refl run.ends run.complained
     where
       errors : ℕ
-      errors = errors_of start.only start.world start.awaited (steps_from start run.given)
+      errors = errors_of start.list start.only start.world start.awaited (steps_from start run.given)
 
       by : (f : Option LineRunFault) → ending.fault ≡ f → EndsFor most_lines f run.given input rest failed → IfNone f (ending.complaints ≡ errors) → Known ending f
       by None is ends counts = (
@@ -120,7 +120,7 @@ module _ (view : RunView) (start : RunStart) (input : Option (List ℕ)) where
       by (Some fault) is all alike = has_fault ending fault (faults ∙ is)
       by None is all alike =
           let steps = steps_from start all.given in
-          let own : ℕ = errors_of start.only start.world start.awaited steps in
+          let own : ℕ = errors_of start.list start.only start.world start.awaited steps in
           let are : nat_lt 0 ending.complaints ≡ have_errors view start all.given =
           errors ∙ (λ i. all.counted i == 0 || is_some (alike i) || nat_lt 0 (all.complained i))
           ∙ ap (λ b. b || nat_lt 0 own) (or_none (length (calls_answered (Some name) steps) == 0)) ∙ sym (ap (λ b. b || nat_lt 0 own) (none steps)) in

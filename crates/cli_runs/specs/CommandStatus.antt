@@ -1,7 +1,7 @@
 -- The exit status of each command that runs a scenario.
 use Rattle.std.specs.Prelude.{◌≡◌, ◌⊎◌, ℕ, ◌==◌, ◌&&◌, ◌||◌, Bool, true, false, List, [], codes, is_some, length, nat_lt, if◌then◌else◌, position, Option, Some, None, MatchBool, ⊤, Ok}
 use Rattle.std.specs.Borrow.{Bor}
-use Rattle.std.specs.List.{list_any, slice_split}
+use Rattle.std.specs.List.{list_any}
 use Rattle.std.specs.Option.{option_copied}
 use Rattle.std.specs.Str.{bytes_eq}
 use Rattle.own_model.specs.Listed.{Listed, ListedEntry}
@@ -9,11 +9,9 @@ use Rattle.own_model.specs.Text.{lines_of}
 use Rattle.list_parser.specs.Depth.{runs_script}
 use Rattle.list_parser.specs.Quota.{quota_fault}
 use Rattle.list_parser.specs.StartText.{list_in}
-use Rattle.line_advice.specs.Advice.{Advice, is_newline, scenario_advice}
-use Rattle.line_advice.specs.Services.{kinds_of, services_of}
 use Rattle.line_rounds.specs.Unfolding.{UnfoldedText}
 use Rattle.run_lines.specs.Machine.{world_of}
-use Rattle.run_record.specs.Unread.{unread_lines}
+use Rattle.run_record.specs.LineErrors.{recording_errors}
 use Rattle.run_scenario.specs.Judging.{errors_of}
 use Rattle.run_scenario.specs.Writes.{RunStart, start_on, steps_from}
 use Rattle.view_runs.specs.declared.alone_run.AloneComparison.{AloneComparison}
@@ -24,7 +22,7 @@ use Rattle.cli_options.specs.declared.command_options.RunOptions.{RunOptions}
 use Rattle.cli_options.specs.declared.command_options.TraceOptions.{TraceOptions}
 use Rattle.cli_base.specs.Files.{IsTextAt, IsTooLong, IsUnknown}
 use Rattle.cli_base.specs.MachineChoice.{IsMachineFor, LacksMachine}
-use Rattle.cli_base.specs.Statuses.{EndsAs, warned}
+use Rattle.cli_base.specs.Statuses.{EndsAs}
 use Rattle.cli_base.specs.Texts.{bytes_of}
 use Rattle.cli_base.specs.Unfolding.{EndsOnText, EndsUnfolded}
 use Rattle.cli_base.specs.declared.machine.Machine.{Machine}
@@ -40,40 +38,28 @@ IsListOf machine list = list_in (bytes_of machine.text) ≡ Ok list
 
 -- ---- a run
 
--- the warnings about a text that are printed before its run: those of a transcript
-abbrev pub advice_of : Option (List ℕ) → Listed → List ℕ → List Advice
-advice_of only list text = scenario_advice (services_of list.entries) (kinds_of list.entries) only 1 (slice_split is_newline text)
-
-abbrev pub warnings_of : RunView → Listed → List ℕ → ℕ
-warnings_of (Run options coloring) list text = length (advice_of (option_copied options.only) list text)
-warnings_of (Trace json) list text = 0
-warnings_of (Accounts json) list text = 0
-warnings_of (Alone name) list text = 0
-
--- the lines of a text ran, and the status is theirs, or that of a warning
-abbrev pub EndsLines : Machine → RunRequest → List ℕ → UnfoldedText → ℕ → Type 0
-EndsLines machine request text lines status =
-    (list : Listed) × IsListOf machine list
-    × ((ran : ℕ) × EndsFrom machine request.viewing (start_by request.settings lines.marks) (Some lines.text) ran
-    × (status ≡ warned request.strict (warnings_of request.viewing list text) ran))
+-- the lines of a text ran
+abbrev pub EndsLines : Machine → RunRequest → UnfoldedText → ℕ → Type 0
+EndsLines machine request lines status =
+    EndsFrom machine request.viewing (start_by request.settings lines.marks) (Some lines.text) status
 
 -- a text is read whole, and its rounds are unfolded
 abbrev pub EndsWhole : (List ℕ → Option (List ℕ)) → Machine → RunRequest → ℕ → Type 0
 EndsWhole texts machine request status =
     (text : List ℕ) × IsTextAt texts request.scenario.now text
-    × EndsUnfolded request.settings text (EndsLines machine request text) status
+    × EndsUnfolded request.settings text (EndsLines machine request) status
 
 -- a path is that of standard input
 abbrev pub is_input : List ℕ → Bool
 is_input path = bytes_eq path (codes "-")
 
--- a scenario isn't strict and isn't read whole, and its lines are run one by one: those of standard input, or of a file that is too
--- long, as far as it is known
+-- a scenario isn't read whole, and its lines are run one by one: those of standard input, or of a file that is too long, as far as it
+-- is known
 abbrev pub EndsByLine : (List ℕ → Option (List ℕ)) → Machine → RunRequest → ℕ → Type 0
 EndsByLine texts machine request status =
     let path = request.scenario.now in
     let Ends = λ (input : Option (List ℕ)). EndsFrom machine request.viewing (start_by request.settings []) input status in
-    (request.strict ≡ false) × (((is_input path ≡ true) × Ends None) ⊎ (IsTooLong texts path × Ends (texts path)))
+    ((is_input path ≡ true) × Ends None) ⊎ (IsTooLong texts path × Ends (texts path))
 
 -- a scenario ran on a machine
 abbrev pub EndsOn : (List ℕ → Option (List ℕ)) → Machine → RunRequest → ℕ → Type 0
@@ -100,20 +86,10 @@ EndsChosen texts named request status =
 
 -- ---- refusals
 
--- with `--strict` a scenario has no warnings: it isn't read whole
-abbrev pub LacksWarnings : (List ℕ → Option (List ℕ)) → RunRequest → Type 0
-LacksWarnings texts request =
-    let path = request.scenario.now in
-    (request.strict ≡ true) × ((is_input path ≡ true) ⊎ IsTooLong texts path)
-
--- no scenario is run: its text isn't known, or with `--strict` it has no warnings
-abbrev pub LacksScenario : (List ℕ → Option (List ℕ)) → RunRequest → Type 0
-LacksScenario texts request = LacksWarnings texts request ⊎ IsUnknown texts request.scenario.now
-
--- there is no machine or no scenario
+-- there is no machine, or the text of the scenario isn't known
 abbrev pub RunRefused : (List ℕ → Option (List ℕ)) → Option (Bor (List ℕ)) → RunRequest → Type 0
 RunRefused texts named request =
-    LacksMachine texts request.settings named request.scenario.now ⊎ LacksScenario texts request
+    LacksMachine texts request.settings named request.scenario.now ⊎ IsUnknown texts request.scenario.now
 
 -- a list doesn't boot, or that of a machine
 abbrev pub IsUnbootable : Listed → Type 0
@@ -124,11 +100,10 @@ LacksQuota machine = (list : Listed) × IsListOf machine list × IsUnbootable li
 
 -- ---- commands
 
--- a run is of a scenario with these settings, of such a view, of a name if one is given, and strict or not
-abbrev pub IsRunOf : List ℕ → Settings → (RunView → Type 0) → Option (List ℕ) → Bool → RunRequest → Type 0
-IsRunOf scenario settings IsView name strict request =
+-- a run is of a scenario with these settings, of such a view, and of a name if one is given
+abbrev pub IsRunOf : List ℕ → Settings → (RunView → Type 0) → Option (List ℕ) → RunRequest → Type 0
+IsRunOf scenario settings IsView name request =
     (request.scenario.now ≡ scenario) × (request.settings ≡ settings) × IsView request.viewing × (option_copied request.name ≡ name)
-    × (request.strict ≡ strict)
 
 -- a command ends with the status of such a run, or refuses it
 abbrev pub EndsRun : (List ℕ → Option (List ℕ)) → Option (Bor (List ℕ)) → (RunRequest → Type 0) → ℕ → Type 0
@@ -163,26 +138,26 @@ IsAloneView named (Alone name) = name.now ≡ named
 abbrev pub RunEnds : (List ℕ → Option (List ℕ)) → RunOptions → Settings → ℕ → Type 0
 RunEnds texts asked settings status =
     let only = option_copied asked.only in
-    EndsRun texts asked.machine (IsRunOf asked.scenario.now settings (IsTranscript only) only asked.strict) status
+    EndsRun texts asked.machine (IsRunOf asked.scenario.now settings (IsTranscript only) only) status
 
 abbrev pub TraceEnds : (List ℕ → Option (List ℕ)) → TraceOptions → Settings → ℕ → Type 0
 TraceEnds texts asked settings status =
-    EndsRun texts asked.machine (IsRunOf asked.scenario.now settings IsTrace None false) status
+    EndsRun texts asked.machine (IsRunOf asked.scenario.now settings IsTrace None) status
 
 abbrev pub AccountsEnd : (List ℕ → Option (List ℕ)) → AccountsOptions → Settings → ℕ → Type 0
 AccountsEnd texts asked settings status =
-    EndsRun texts asked.machine (IsRunOf asked.scenario.now settings IsAccountView None false) status
+    EndsRun texts asked.machine (IsRunOf asked.scenario.now settings IsAccountView None) status
 
 abbrev pub AloneEnds : (List ℕ → Option (List ℕ)) → AloneOptions → List ℕ → Settings → ℕ → Type 0
 AloneEnds texts asked scenario settings status =
     let name = asked.name.now in
-    EndsRun texts asked.machine (IsRunOf scenario settings (IsAloneView name) (Some name) false) status
+    EndsRun texts asked.machine (IsRunOf scenario settings (IsAloneView name) (Some name)) status
 
 -- ---- all scripts alone
 
 -- a line of a text has an error in a run from there on
 abbrev pub text_has_error : RunStart → List ℕ → Bool
-text_has_error start text = nat_lt 0 (errors_of start.only start.world start.awaited (steps_from start (lines_of text)))
+text_has_error start text = nat_lt 0 (errors_of start.list start.only start.world start.awaited (steps_from start (lines_of text)))
 
 -- the status of a comparison: 1 for a fault of the run, 3 if a line has an error or the script has another reply alone
 abbrev pub comparison_status : AloneComparison → ℕ
@@ -209,22 +184,17 @@ AllAloneEnd texts asked settings status =
 
 -- ---- a recording
 
--- 3 exactly if a line can't be parsed
-abbrev pub unread_status : ℕ → ℕ
-unread_status lines = if nat_lt 0 lines then 3 else 0
+-- 3 exactly if a line has an error
+abbrev pub recorded_status : ℕ → ℕ
+recorded_status errors = if nat_lt 0 errors then 3 else 0
 
--- or if there is a warning, with `--strict`
-abbrev pub recorded_status : Listed → Settings → Bool → List ℕ → UnfoldedText → ℕ
-recorded_status list settings strict text lines =
-    warned strict (length (advice_of None list text))
-    (unread_status (length (unread_lines (world_of list) (start_by settings lines.marks) lines.text)))
-
-abbrev pub EndsRecorded : Settings → Bool → Machine → List ℕ → UnfoldedText → ℕ → Type 0
-EndsRecorded settings strict machine text lines status =
-    (list : Listed) × IsListOf machine list × (status ≡ recorded_status list settings strict text lines)
+abbrev pub EndsRecorded : Settings → Machine → UnfoldedText → ℕ → Type 0
+EndsRecorded settings machine lines status =
+    (list : Listed) × IsListOf machine list
+    × (status ≡ recorded_status (length (recording_errors list (world_of list) (start_by settings lines.marks) lines.text)))
 
 -- standard input isn't written
 abbrev pub RecordEnds : (List ℕ → Option (List ℕ)) → RecordOptions → Settings → ℕ → Type 0
 RecordEnds texts asked settings status =
     MatchBool (asked.write && is_input asked.scenario.now) (status ≡ 2)
-    (EndsOnText texts settings asked.machine asked.scenario.now LacksQuota (EndsRecorded settings asked.strict) status)
+    (EndsOnText texts settings asked.machine asked.scenario.now LacksQuota (λ machine text lines ended. EndsRecorded settings machine lines ended) status)

@@ -1,4 +1,3 @@
 pub mod CommandStatus
 pub mod RunEnd
 pub mod RunStatus
-pub mod UnreadReports

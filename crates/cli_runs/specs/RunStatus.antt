@@ -44,7 +44,7 @@ start_of view play = start_on (only_of view) play.start play.list.now
 -- the lines of a run have an error, or none of them is of the component that is asked for
 abbrev pub have_errors : RunView → RunStart → List (List ℕ) → Bool
 have_errors view start lines =
-    has_no_line view (steps_from start lines) || nat_lt 0 (errors_of start.only start.world start.awaited (steps_from start lines))
+    has_no_line view (steps_from start lines) || nat_lt 0 (errors_of start.list start.only start.world start.awaited (steps_from start lines))
 
 -- if no fault stopped a run, its status is 3 exactly if its lines have an error, and else 0; they are all of the input, if that is
 -- known

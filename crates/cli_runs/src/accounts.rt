@@ -65,7 +65,7 @@ fn text_of(
 ) -> Result<Vec<u8>, AllocError> {
     let rows = rows?;
     if json {
-        rows.documents(alloc)
+        rows.records(alloc)?.to_json()
     } else {
         rows.table(alloc)
     }

@@ -42,7 +42,7 @@ pub fn show_alone<'a, H: Host>(
 
 // Returns the run whose replies to the component of a name are shown.
 fn alone_of<'a>(name: &'a str, scenario: &'a str, settings: Settings<'a>) -> RunRequest<'a>
-    ensures { IsRunOf scenario.now settings.entry (IsAloneView name.now) (Some name.now) false result }
+    ensures { IsRunOf scenario.now settings.entry (IsAloneView name.now) (Some name.now) result }
 {
     RunRequest {
         scenario,
@@ -50,7 +50,6 @@ fn alone_of<'a>(name: &'a str, scenario: &'a str, settings: Settings<'a>) -> Run
         viewing: RunView::Alone(name.as_bytes()),
         name: Some(name),
         earlier: NONE_EARLIER,
-        strict: false,
     }
 }
 

@@ -7,12 +7,12 @@
 
 mod accounts;
 mod alone;
+mod line_errors;
 mod record;
 mod run;
 mod run_end;
 mod run_request;
 mod trace;
-mod unread_report;
 mod view;
 
 pub use accounts::list_accounts;

@@ -32,7 +32,7 @@ fn transcript_of<'a>(
     coloring: Coloring,
 ) -> RunRequest<'a>
     ensures { IsRunOf asked.now.scenario.now settings.entry (IsTranscript (option_copied asked.now.only))
-        (option_copied asked.now.only) asked.now.strict result }
+        (option_copied asked.now.only) result }
 {
     let showing = TranscriptOptions {
         only: bytes_of(asked.only),
@@ -45,7 +45,6 @@ fn transcript_of<'a>(
         viewing: RunView::Run(showing, coloring),
         name: asked.only,
         earlier: NONE_EARLIER,
-        strict: asked.strict,
     }
 }
 

@@ -1,19 +1,19 @@
 //! A scenario's run on a machine, over files and the standard streams.
-ghost use Rattle.std.specs.Prelude.{◌≡◌, false, is_some, position, None, Some, IfErr, IfOk, IfSome};
+ghost use Rattle.std.specs.Prelude.{◌≡◌, is_some, position, None, Some, IfErr, IfOk, IfSome};
 ghost use Rattle.std.specs.Str.{bytes_eq};
 ghost use Rattle.cli_base.specs.Files.{IsTooLong, IsUnknown};
 ghost use Rattle.cli_base.specs.Origins.{origin_bytes};
 ghost use Rattle.cli_base.specs.Statuses.{EndsAs};
 ghost use Rattle.cli_base.specs.Unfolding.{EndsUnfolded};
-ghost use Rattle.cli_runs.specs.CommandStatus.{EndsByLine, EndsChosen, EndsLines, EndsNamed, EndsOn, IsRunOf, LacksScenario, RunRefused, is_known, named_status, warnings_of};
+ghost use Rattle.cli_runs.specs.CommandStatus.{EndsByLine, EndsChosen, EndsLines, EndsNamed, EndsOn, IsRunOf, RunRefused, is_known, named_status};
 ghost use Rattle.cli_runs.specs.RunStatus.{EndsFrom, HasStatus, IsUnbooted, start_by, start_of};
 
 use crate::run_end::RunEnd;
 use crate::view::{RunView, view};
 use cli_base::{
     Host, Machine, MachineChoice, Origin, OutputStream, REFUSED, ReadFailure, STANDARD_INPUT,
-    Settings, Spot, Warnings, made_or_status, no_memory, read_whole, report_boot_fault,
-    report_error, unfolded, warned_status, watched_reader, writer,
+    Settings, Spot, no_memory, read_whole, report_boot_fault, report_error, unfolded,
+    watched_reader, writer,
 };
 use line_names::RoundMark;
 use list_parser::StartList;
@@ -40,8 +40,6 @@ pub(crate) struct RunRequest<'a> {
     pub(crate) name: Option<&'a str>,
     /// How many errors and warnings were printed before the run.
     pub(crate) earlier: Counts,
-    /// Whether a warning is a fault.
-    pub(crate) strict: bool,
 }
 
 /// No errors and no warnings.
@@ -57,7 +55,7 @@ impl<'a> RunRequest<'a> {
         settings: Settings<'a>,
         viewing: RunView<'a>,
     ) -> RunRequest<'a>
-        ensures { IsRunOf scenario.now settings.entry (λ view. view ≡ viewing.entry) None false result }
+        ensures { IsRunOf scenario.now settings.entry (λ view. view ≡ viewing.entry) None result }
     {
         RunRequest {
             scenario,
@@ -65,21 +63,16 @@ impl<'a> RunRequest<'a> {
             viewing,
             name: None,
             earlier: NONE_EARLIER,
-            strict: false,
         }
     }
 }
 
 /// Runs a scenario on the machine of the start list that the command line names, of the list next to the scenario, or on the built-in
-/// machine. Returns the exit status. If warnings are faults, refuses a scenario that isn't read whole before its first line, since it
-/// has none.
+/// machine. Returns the exit status.
 pub(crate) fn run_chosen<H: Host>(host: &H, named: Option<&str>, request: RunRequest<'_>) -> u8
     ensures { EndsAs (RunRefused (H.text_at host.now) named.entry request.entry)
         (EndsChosen (H.text_at host.now) named.entry request.entry) result }
 {
-    if request.strict && request.scenario == STANDARD_INPUT {
-        return refuse_strict(host.rt(), request, "expected the path of a file, found `-`");
-    }
     let form = request.settings.form;
     let list = match MachineChoice::of(host, form, named, request.scenario) {
         Ok(list) => list,
@@ -93,7 +86,7 @@ pub(crate) fn run_chosen<H: Host>(host: &H, named: Option<&str>, request: RunReq
 
 // Runs a scenario on a machine. Before the run prints an error if no component has the name that is asked for.
 fn run_named<H: Host>(host: &H, machine: &Machine<'_>, request: RunRequest<'_>) -> u8
-    ensures { EndsAs (LacksScenario (H.text_at host.now) request.entry)
+    ensures { EndsAs (IsUnknown (H.text_at host.now) request.entry.scenario.now)
         (EndsNamed (H.text_at host.now) machine.now request.entry) result }
 {
     let form = request.settings.form;
@@ -117,13 +110,13 @@ fn named_status(known: bool, status: u8) -> u8
     }
 }
 
-// Runs a scenario of a path on a machine. A strict run isn't of standard input: `run_chosen` refuses that.
+// Runs a scenario of a path on a machine.
 fn run_on<H: Host>(host: &H, machine: &Machine<'_>, request: RunRequest<'_>) -> u8
-    ensures { EndsAs (LacksScenario (H.text_at host.now) request.entry)
+    ensures { EndsAs (IsUnknown (H.text_at host.now) request.entry.scenario.now)
         (EndsOn (H.text_at host.now) machine.now request.entry) result }
 {
     let rt = host.rt();
-    if !request.strict && request.scenario == STANDARD_INPUT {
+    if request.scenario == STANDARD_INPUT {
         let origin: Origin<'_, H::File> = Origin::Typed(rt.reader());
         return run_source(rt, machine, request, origin, &[]);
     }
@@ -137,10 +130,10 @@ fn run_on<H: Host>(host: &H, machine: &Machine<'_>, request: RunRequest<'_>) -> 
     }
 }
 
-// Runs the lines of a file that isn't read whole. Refuses a file that can't be opened, and a strict run.
+// Runs the lines of a file that isn't read whole. Refuses a file that can't be opened.
 fn run_long<H: Host>(host: &H, machine: &Machine<'_>, request: RunRequest<'_>) -> u8
     requires { IsTooLong (H.text_at host.now) request.scenario.now }
-    ensures { EndsAs (LacksScenario (H.text_at host.now) request.entry)
+    ensures { EndsAs (IsUnknown (H.text_at host.now) request.entry.scenario.now)
         (EndsByLine (H.text_at host.now) machine.now request.entry) result }
 {
     let rt = host.rt();
@@ -148,10 +141,6 @@ fn run_long<H: Host>(host: &H, machine: &Machine<'_>, request: RunRequest<'_>) -
         Ok(file) => file,
         Err(status) => return status,
     };
-    if request.strict {
-        let why = "expected a file that is read to its end within 64M bytes";
-        return refuse_strict(rt, request, why);
-    }
     run_source(rt, machine, request, Origin::File(file), &[])
 }
 
@@ -177,60 +166,18 @@ fn open_or_status<H: Host>(host: &H, request: RunRequest<'_>) -> Result<H::File,
     }
 }
 
-// Prints why a scenario has no warnings that could be faults, and returns the exit status 2.
-fn refuse_strict(rt: &HostRuntime, request: RunRequest<'_>, why: &str) -> u8
-    ensures { result ≡ 2 }
-{
-    report_error(
-        rt,
-        request.settings.form,
-        Spot::nowhere(),
-        &format_args!("--strict: {why}"),
-    );
-    REFUSED
-}
-
-// Runs a scenario of a text, with its rounds unfolded. Before the run of a transcript prints the warnings about its lines.
+// Runs a scenario of a text, with its rounds unfolded.
 fn run_text<H: Host>(host: &H, machine: &Machine<'_>, request: RunRequest<'_>, text: &[u8]) -> u8
     ensures { EndsAs ⊥ (EndsUnfolded request.entry.settings text.now
-        (EndsLines machine.now request.entry text.now)) result }
+        (EndsLines machine.now request.entry)) result }
 {
     let rt = host.rt();
     let lines = match unfolded(rt, request.scenario, text, request.settings) {
         Ok(lines) => lines,
         Err(status) => return status,
     };
-    let warned = warn(rt, machine.list(), request, text);
-    let warnings = match made_or_status(rt, warned) {
-        Ok(warnings) => warnings,
-        Err(status) => return status,
-    };
-    let earlier = Counts {
-        warnings: warnings as u64,
-        ..request.earlier
-    };
     let origin: Origin<'_, H::File> = Origin::Held(lines.bytes());
-    let request = RunRequest { earlier, ..request };
-    let status = run_source(rt, machine, request, origin, lines.marks());
-    warned_status(request.strict, warnings, status)
-}
-
-// Prints the warnings about the lines of a scenario that are run for a transcript, and returns how many there are. The error is out
-// of memory.
-fn warn(
-    rt: &HostRuntime,
-    list: &StartList,
-    request: RunRequest<'_>,
-    text: &[u8],
-) -> Result<usize, AllocError>
-    ensures { IfOk result (λ count. count ≡ warnings_of request.entry.viewing list.now text.now) }
-{
-    let RunView::Run(options, coloring) = request.viewing else {
-        return Ok(0);
-    };
-    let warnings = Warnings::of(rt, list, options.only, request.scenario, text)?;
-    warnings.report(rt, request.settings.form, coloring.err)?;
-    Ok(warnings.count())
+    run_source(rt, machine, request, origin, lines.marks())
 }
 
 // Runs the lines of a source with these round marks, and prints the fault that stops the run, if one does.

@@ -1,18 +1,22 @@
 -- Files and filters.
-use Rattle.std.proofs.Common.{◌≡◌, inl, inr, ◌||◌, ◌∙◌, ◌<◌, ◌≤◌, ◌+◌, ◌++◌, refl, sym, ap, append_assoc, append-nil, map, ℕ, Bool, false, true≢false, get_or, Global, List, [], ◌∷◌, length, nat_eq, Option, Result, Ok, Err, IfErr, IfOk, IfSome, String, subst, take}
+use Rattle.std.proofs.Common.{◌≡◌, inl, inr, ◌||◌, ◌∙◌, ◌<◌, ◌≤◌, ◌+◌, ◌++◌, refl, sym, ap, append_assoc, append-nil, map, ℕ, Bool, false, true, true≢false, get_or, Global, List, [], ◌∷◌, length, nat_eq, Option, Some, Result, Ok, Err, IfErr, IfOk, IfSome, String, subst, take}
 use Rattle.std.specs.Borrow.{Bor}
 use Rattle.std.specs.Global.{Vec}
 use Rattle.std.specs.List.{list_any}
 use Rattle.std.specs.Prelude.{string_bytes}
 use Rattle.std.specs.Result.{IsErrAnd}
-use Rattle.std.proofs.lemmas.List.{get_or_default, length-map, take_all, take_more}
+use Rattle.std.proofs.lemmas.List.{get_or_default, length-map, map-append, take_all, take_more}
+use Rattle.cli_options.specs.declared.command_options.TestOptions.{TestOptions}
 use Rattle.cli_base.specs.Files.{IsUnknown}
+use Rattle.cli_base.specs.MachineChoice.{list_beside}
+use Rattle.cli_base.specs.Paths.{is_policy}
 use Rattle.cli_base.specs.declared.host.FileKind.TheVariants.{Folder, Other, Regular}
-use Rattle.cli_tests.specs.Outcome.{IsNoInput, IsNoTest, LacksInput, LacksPath, search_lacks_memory}
-use Rattle.cli_tests.specs.Plan.{AreAdded, AreFiles, AreFilesAt, IsPolicyBeside, has_text, is_selected, path_of, with_file}
+use Rattle.cli_tests.specs.Outcome.{IsNoInput, IsNoTest, LacksInput, LacksPath, given_paths, search_lacks_memory}
+use Rattle.cli_tests.specs.Plan.{AreAdded, AreFiles, AreFilesAt, IsCheckedFor, IsPolicyBeside, has_text, is_selected, path_of, with_file}
 use Rattle.cli_tests.specs.declared.file_search.SearchFailure.{SearchFailure}
 use Rattle.cli_tests.specs.declared.file_search.SearchFailure.TheVariants.{NoMemory}
 use Rattle.cli_tests.specs.declared.planned_test.PlannedTest.{PlannedTest}
+use Rattle.cli_tests.specs.declared.planned_test.PlannedTest.TheVariants.{List as ListAlone}
 
 -- a mapped element passes a test if the element passes the mapped test
 pub any_of_map : {X Y : Type 0} (p : X → Bool) (h : Y → X) (ys : List Y) → list_any p (map h ys) ≡ list_any (λ y. p (h y)) ys
@@ -28,6 +32,20 @@ selected_by texts test is_empty found length_is some found_is =
     ap (λ n. nat_eq n 0) (length-map texts (λ (text : Bor (List ℕ)). text.now)) ∙ sym length_is ∙ some in
     found_is ∙ sym (any_of_map (has_text (path_of test)) (λ (text : Bor (List ℕ)). text.now) texts)
     ∙ sym (ap (λ b. b || list_any (has_text (path_of test)) (map (λ (text : Bor (List ℕ)). text.now) texts)) some_mapped)
+
+-- the path of one test more
+pub path_more : (machine : Option (Bor (List ℕ))) (tests : List PlannedTest) (place : ℕ) (other : PlannedTest)
+    (paths all : List (Bor (List ℕ))) (path : Bor (List ℕ)) → place < length tests → all ≡ paths ++ path ∷ []
+    → path.now ≡ path_of (get_or tests place other)
+    → map (λ (p : Bor (List ℕ)). p.now) paths ≡ given_paths machine ++ map path_of (take place tests)
+    → map (λ (p : Bor (List ℕ)). p.now) all ≡ given_paths machine ++ map path_of (take (place + 1) tests)
+path_more machine tests place other paths all path within is same before =
+    ap (map (λ (p : Bor (List ℕ)). p.now)) is ∙ map-append (λ (p : Bor (List ℕ)). p.now) paths (path ∷ [])
+    ∙ ap (λ those. those ++ path.now ∷ []) before ∙ append_assoc (given_paths machine) (map path_of (take place tests)) (path.now ∷ [])
+    ∙ ap (λ those. given_paths machine ++ those)
+    (ap (λ p. map path_of (take place tests) ++ p ∷ []) same
+    ∙ sym (map-append path_of (take place tests) (get_or tests place other ∷ []))
+    ∙ ap (map path_of) (sym (take_more tests place other within)))
 
 -- what is no regular file
 pub no_folder : Folder ≡ Regular → ⊥
@@ -100,13 +118,22 @@ module _ (texts : List ℕ → Option (List ℕ)) where
 
   -- ---- the tests of files
 
+  -- the list that the command line names is that of a scenario without one
+  pub named_list : (asked : TestOptions) (file : List ℕ) (machine : Bor (List ℕ)) (path : String Global) → asked.strict ≡ true
+      → IsUnknown texts (list_beside file) → is_policy file ≡ false → asked.machine ≡ Some machine → string_bytes path ≡ machine.now
+      → IsCheckedFor texts asked file (Some (ListAlone path))
+  named_list asked file machine path strict unknown other is bytes = rw strict (inr (unknown, rw (other, is) (path, refl, bytes)))
+
   -- the tests of a file, and those of the files after it
-  pub added_more : (before after tests : List PlannedTest) (files rest : List (String Global)) (file : String Global) (beside : Option (String Global))
-      → files ≡ file ∷ rest → IsPolicyBeside texts (string_bytes file) beside → after ≡ with_file before file beside
-      → AreAdded texts after rest tests → AreAdded texts before files tests
-  added_more before after tests files rest file beside is next with added =
-      subst (λ those. AreAdded texts before those tests) (sym is) (beside, next, subst (λ those. AreAdded texts those rest tests) with added)
+  pub added_more : (asked : TestOptions) (before after tests : List PlannedTest) (files rest : List (String Global)) (file : String Global)
+      (list beside : Option PlannedTest) → files ≡ file ∷ rest → IsCheckedFor texts asked (string_bytes file) list
+      → IsPolicyBeside texts (string_bytes file) beside → after ≡ with_file before file list beside
+      → AreAdded texts asked after rest tests → AreAdded texts asked before files tests
+  added_more asked before after tests files rest file list beside is listed next with added =
+      subst (λ those. AreAdded texts asked before those tests) (sym is)
+      (list, listed, (beside, next, subst (λ those. AreAdded texts asked those rest tests) with added))
 
   -- no file is left
-  pub added_none : (tests : List PlannedTest) (files : List (String Global)) → files ≡ [] → AreAdded texts tests files tests
-  added_none tests files is = subst (λ those. AreAdded texts tests those tests) (sym is) refl
+  pub added_none : (asked : TestOptions) (tests : List PlannedTest) (files : List (String Global)) → files ≡ []
+      → AreAdded texts asked tests files tests
+  added_none asked tests files is = subst (λ those. AreAdded texts asked tests those tests) (sym is) refl

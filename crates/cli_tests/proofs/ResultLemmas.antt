@@ -1,11 +1,14 @@
 -- What the host tells of a file, and the results of policies and of all tests.
-use Rattle.std.proofs.Common.{inl, inr, ◌<◌, ◌≤◌, ◌+◌, ◌++◌, ◌∷◌, [], get_or, length, take, ◌≡◌, ◌∙◌, ap, sym, subst, refl, ℕ, Bool, false, true, true≢false, ◌≢◌, is_some, List, Option, Some, None, IfOk, IfSome, Result, Ok, Err}
+use Rattle.std.proofs.Common.{◌⊎◌, inl, inr, ◌<◌, ◌≤◌, ◌+◌, ◌==◌, ◌++◌, ◌∷◌, [], get_or, length, take, ◌≡◌, ◌∙◌, ap, sym, subst, refl, ℕ, Bool, false, true, true≢false, ◌≢◌, is_some, List, Option, Some, None, IfOk, IfSome, Result, Ok, Err}
+use Rattle.std.specs.Option.{option_map}
 use Rattle.std.proofs.lemmas.List.{take_all, take_more}
 use Rattle.std.proofs.lemmas.Slice.Zip.{all_zipped_more}
 use Rattle.own_model.specs.Listed.{Listed}
 use Rattle.list_faults.specs.Places.{fault_of}
+use Rattle.list_findings.specs.AllFindings.{all_findings}
+use Rattle.list_findings.specs.declared.finding.Finding.{Finding}
 use Rattle.list_parser.specs.Quota.{quota_fault}
-use Rattle.list_parser.specs.StartText.{list_in}
+use Rattle.list_parser.specs.StartText.{json_in, list_in}
 use Rattle.list_parser.specs.declared.fault.BootFault.{BootFault}
 use Rattle.list_parser.specs.declared.fault.BootFault.TheVariants.{NoMemory}
 use Rattle.cli_base.specs.Files.{HasNoList, IsUnknown}
@@ -18,7 +21,7 @@ use Rattle.cli_options.specs.declared.command_options.TestOptions.{TestOptions}
 use Rattle.view_test_report.specs.declared.test_result.TestResult.{TestResult}
 use Rattle.view_test_report.specs.declared.test_result.TimedResult.{TimedResult}
 use Rattle.cli_tests.specs.Outcome.{AreResults, IsResultOf}
-use Rattle.cli_tests.specs.PolicyTest.{IsKeptBy, IsListResult, IsPolicyResult}
+use Rattle.cli_tests.specs.PolicyTest.{HasNoFindings, IsListResult, IsPolicyResult}
 use Rattle.cli_tests.specs.declared.planned_test.PlannedTest.{PlannedTest}
 
 -- ---- a file
@@ -44,44 +47,60 @@ unopened_unknown (Some text) opened is known = absurd (true≢false (sym known �
 unknown_lacks : (texts : List ℕ → Option (List ℕ)) (settings : Settings) (path : List ℕ) → IsUnknown texts path → HasNoList texts settings path
 unknown_lacks texts settings path unknown = rw unknown tt
 
+-- ---- a list by itself
+
+-- its findings
+pub findings_result : {E : Type 0} (text read : List ℕ) (list : Listed) (findings found : List Finding) (result : Result TestResult E)
+    → read ≡ text → Some found ≡ option_map (λ value. all_findings read value list) (json_in read)
+    → findings ≡ found → IfOk result (λ test. test.passed ≡ (length findings == 0)) → IfOk result (λ test. HasNoFindings text list test.passed)
+findings_result text read list findings found (Ok test) is told same passed =
+    subst (λ t. HasNoFindings t list test.passed) is (found, told, subst (λ those. test.passed ≡ (length those == 0)) same passed)
+findings_result text read list findings found (Err error) is told same passed = tt
+
 -- ---- a policy
 
 -- no list is known
-pub no_list_result : (texts : List ℕ → Option (List ℕ)) (settings : Settings) (policy path : List ℕ) (passed : Bool) → path ≡ list_beside policy
-    → IsUnknown texts path → passed ≡ false → IsPolicyResult texts settings policy passed
-no_list_result texts settings policy path passed is unknown failed =
+pub no_list_result : (texts : List ℕ → Option (List ℕ)) (strict : Bool) (settings : Settings) (policy path : List ℕ) (passed : Bool)
+    → path ≡ list_beside policy → IsUnknown texts path → passed ≡ false → IsPolicyResult texts strict settings policy passed
+no_list_result texts strict settings policy path passed is unknown failed =
     inl (failed, subst (λ p. HasNoList texts settings p) is (unknown_lacks texts settings path unknown))
 
-module _ {E : Type 0} (texts : List ℕ → Option (List ℕ)) (policy : List ℕ) where
+module _ {E : Type 0} (Passes : Listed → Bool → Type 0) where
   -- a list that boots
   pub booted_result : (text read : List ℕ) (list : Listed) (result : Result TestResult E) → read ≡ text → list_in read ≡ Ok list
-      → quota_fault list ≡ None → IfOk result (λ test. IsKeptBy texts policy list test.passed)
-      → IfOk result (λ test. IsListResult texts policy text test.passed)
+      → quota_fault list ≡ None → IfOk result (λ test. Passes list test.passed)
+      → IfOk result (λ test. IsListResult Passes text test.passed)
   booted_result text read list (Ok test) is listed boots kept = inr (list, subst (λ t. list_in t ≡ Ok list) is listed, boots, kept)
   booted_result text read list (Err error) is listed boots kept = tt
 
   -- a list that doesn't boot
   pub unbooted_result : (text read : List ℕ) (fault : BootFault) (result : Result TestResult E) → read ≡ text
       → (fault ≢ NoMemory → fault_of read ≡ Some fault) → IfOk result (λ test. boot_lacks_memory fault ≡ false)
-      → IfOk result (λ test. test.passed ≡ false) → IfOk result (λ test. IsListResult texts policy text test.passed)
+      → IfOk result (λ test. test.passed ≡ false) → IfOk result (λ test. IsListResult Passes text test.passed)
   unbooted_result text read fault (Ok test) is faulty memory failed =
       let found : fault_of read ≡ Some fault = faulty (λ none. true≢false (sym (ap boot_lacks_memory none) ∙ memory)) in
       inl (failed, subst (λ t. is_some (fault_of t) ≡ true) is (ap is_some found))
   unbooted_result text read fault (Err error) is faulty memory failed = tt
 
-  module _ (settings : Settings) (path : List ℕ) (is : path ≡ list_beside policy) where
-    -- a list that is read
-    pub listed_result : (text : List ℕ) (result : Result TestResult E) → IsFilled texts settings path text
-        → IfOk result (λ test. IsListResult texts policy text test.passed) → IfOk result (λ test. IsPolicyResult texts settings policy test.passed)
-    listed_result text (Ok test) filled listed = inr (text, subst (λ p. IsFilled texts settings p text) is filled, listed)
-    listed_result text (Err error) filled listed = tt
+-- the result of a list at a path: it isn't read, or it is by its text
+abbrev pub IsReadResult : (List ℕ → Option (List ℕ)) → Settings → (List ℕ → Listed → Bool → Type 0) → List ℕ → Bool → Type 0
+IsReadResult texts settings Passes at passed =
+    ((passed ≡ false) × HasNoList texts settings at)
+    ⊎ ((text : List ℕ) × IsFilled texts settings at text × IsListResult (Passes text) text passed)
 
-    -- a list that isn't read
-    pub unlisted_result : (failure : StartListFailure) (result : Result TestResult E) → (lacks_memory failure ≡ false → HasNoList texts settings path)
-        → IfOk result (λ test. lacks_memory failure ≡ false) → IfOk result (λ test. test.passed ≡ false)
-        → IfOk result (λ test. IsPolicyResult texts settings policy test.passed)
-    unlisted_result failure (Ok test) lacks memory failed = inl (failed, subst (λ p. HasNoList texts settings p) is (lacks memory))
-    unlisted_result failure (Err error) lacks memory failed = tt
+module _ {E : Type 0} (texts : List ℕ → Option (List ℕ)) (settings : Settings) (Passes : List ℕ → Listed → Bool → Type 0) (path : List ℕ) where
+  -- a list that is read
+  pub listed_result : (at text : List ℕ) (result : Result TestResult E) → path ≡ at → IsFilled texts settings path text
+      → IfOk result (λ test. IsListResult (Passes text) text test.passed) → IfOk result (λ test. IsReadResult texts settings Passes at test.passed)
+  listed_result at text (Ok test) is filled listed = inr (text, subst (λ p. IsFilled texts settings p text) is filled, listed)
+  listed_result at text (Err error) is filled listed = tt
+
+  -- a list that isn't read
+  pub unlisted_result : (at : List ℕ) (failure : StartListFailure) (result : Result TestResult E) → path ≡ at
+      → (lacks_memory failure ≡ false → HasNoList texts settings path) → IfOk result (λ test. lacks_memory failure ≡ false)
+      → IfOk result (λ test. test.passed ≡ false) → IfOk result (λ test. IsReadResult texts settings Passes at test.passed)
+  unlisted_result at failure (Ok test) is lacks memory failed = inl (failed, subst (λ p. HasNoList texts settings p) is (lacks memory))
+  unlisted_result at failure (Err error) is lacks memory failed = tt
 
 -- ---- one test after another
 

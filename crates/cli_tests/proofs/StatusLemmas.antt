@@ -30,7 +30,7 @@ module _ (texts : List ℕ → Option (List ℕ)) (asked : TestOptions) (setting
   results_end threshold tests outcome each short (inr is) = inr (record { outcome = outcome; each = each; short = short; status_is = is })
 
   -- tests that were selected and run
-  pub tests_end : (threshold : Option ℕ) (tests run : List PlannedTest) → run ≡ tests → AreSelected texts asked.paths.items asked.filters.items tests
+  pub tests_end : (threshold : Option ℕ) (tests run : List PlannedTest) → run ≡ tests → AreSelected texts asked tests
       → 0 < length tests → AsksFor asked.threshold threshold → EndsAs ⊥ (HasResults texts asked settings threshold run) status
       → TestsEnd texts asked settings status
   tests_end threshold tests run same selected some asks (inl (inl failed)) = inl (inl failed)
@@ -46,6 +46,6 @@ module _ (texts : List ℕ → Option (List ℕ)) (asked : TestOptions) (setting
       })
 
   -- a search that found no tests
-  pub search_ends : (memory : Bool) → status ≡ (if memory then 1 else 2) → (memory ≡ false → LacksTests texts asked) → TestsEnd texts asked settings status
+  pub search_ends : (memory : Bool) → status ≡ (if memory then 1 else 2) → (memory ≡ false → LacksTests texts asked settings.given.now) → TestsEnd texts asked settings status
   search_ends true is lacks = inl (inl (inl is))
   search_ends false is lacks = inl (inr (is, inr (lacks refl)))

@@ -1,8 +1,8 @@
 -- The outcome of all tests, and the exit status.
-use Rattle.std.specs.Prelude.{◌≡◌, ℕ, ◌<◌, ◌≤◌, ◌||◌, ◌⊎◌, ⊤, Any, Bool, false, true, List, [], count_by, length, nat_lt, string_bytes, if◌then◌else◌, IsSomeAnd, Option, Some, None}
+use Rattle.std.specs.Prelude.{◌≡◌, ℕ, ◌<◌, ◌≤◌, ◌++◌, ◌||◌, ◌⊎◌, ⊤, Any, Bool, false, true, List, [], count_by, length, map, nat_lt, string_bytes, if◌then◌else◌, IsSomeAnd, Option, Some, None}
 use Rattle.std.specs.Borrow.{Bor}
 use Rattle.std.specs.List.{AllZip}
-use Rattle.std.specs.Option.{option_copied}
+use Rattle.std.specs.Option.{option_copied, option_to_list}
 use Rattle.std.specs.Str.Parse.{IsNumeral, digits_value, without_leading_plus}
 use Rattle.view_coverage.specs.Reported.{falls_short, is_covered}
 use Rattle.view_coverage.specs.declared.report.CoverageReport.{CoverageReport}
@@ -10,26 +10,28 @@ use Rattle.view_test_report.specs.Trials.{failed_among}
 use Rattle.view_test_report.specs.declared.test_result.TimedResult.{TimedResult}
 use Rattle.cli_options.specs.declared.command_options.TestOptions.{TestOptions}
 use Rattle.cli_base.specs.Files.{IsUnknown}
+use Rattle.cli_base.specs.Given.{HasUnread}
 use Rattle.cli_base.specs.MachineChoice.{list_beside}
 use Rattle.cli_base.specs.Paths.{is_list}
 use Rattle.cli_base.specs.Statuses.{EndsAs}
 use Rattle.cli_base.specs.declared.settings.Settings.{Settings}
 use Rattle.cli_tests.specs.Plan.{AreFound, AreSelected, path_of}
-use Rattle.cli_tests.specs.PolicyTest.{IsPolicyResult}
+use Rattle.cli_tests.specs.PolicyTest.{IsCheckResult, IsPolicyResult}
 use Rattle.cli_tests.specs.ScenarioTest.{IsScenarioResult}
 use Rattle.cli_tests.specs.declared.file_search.SearchFailure.{SearchFailure}
 use Rattle.cli_tests.specs.declared.file_search.SearchFailure.TheVariants as search
 use Rattle.cli_tests.specs.declared.planned_test.PlannedTest.{PlannedTest}
-use Rattle.cli_tests.specs.declared.planned_test.PlannedTest.TheVariants.{Scenario, Policy}
+use Rattle.cli_tests.specs.declared.planned_test.PlannedTest.TheVariants.{Scenario, Policy, List as ListAlone}
 use Rattle.cli_tests.specs.declared.test.TestOutcome.{TestOutcome}
 
 -- ---- results
 
--- a test passes, or fails, as its scenario or its policy does
+-- a test passes, or fails, as its scenario, its policy or its list does
 abbrev pub IsResultOf : (List ℕ → Option (List ℕ)) → TestOptions → Settings → PlannedTest → Bool → Type 0
 IsResultOf texts asked settings (Scenario path) passed =
-    IsScenarioResult texts asked.strict settings (option_copied asked.machine) (string_bytes path) passed
-IsResultOf texts asked settings (Policy path) passed = IsPolicyResult texts settings (string_bytes path) passed
+    IsScenarioResult texts settings (option_copied asked.machine) (string_bytes path) passed
+IsResultOf texts asked settings (Policy path) passed = IsPolicyResult texts asked.strict settings (string_bytes path) passed
+IsResultOf texts asked settings (ListAlone path) passed = IsCheckResult texts settings (string_bytes path) passed
 
 -- each test has its result, in the order of the tests
 abbrev pub AreResults : (List ℕ → Option (List ℕ)) → TestOptions → Settings → List PlannedTest → List TimedResult → Type 0
@@ -78,7 +80,7 @@ pub record HasResults (texts : List ℕ → Option (List ℕ)) (asked : TestOpti
 -- tests were run with a threshold if one is asked for: those of the files that the filters select, one at least
 pub record HasTested (texts : List ℕ → Option (List ℕ)) (asked : TestOptions) (settings : Settings) (status : ℕ) : Type 0 where
   pub tests : List PlannedTest
-  pub selected : AreSelected texts asked.paths.items asked.filters.items tests
+  pub selected : AreSelected texts asked tests
   pub some : 0 < length tests
   pub threshold : Option ℕ
   pub asks : AsksFor asked.threshold threshold
@@ -92,6 +94,7 @@ search_lacks_memory (search.Irregular path) = false
 search_lacks_memory (search.Replaced path) = false
 search_lacks_memory (search.Nothing path) = false
 search_lacks_memory (search.Unselected filters) = false
+search_lacks_memory (search.Unread argument) = false
 search_lacks_memory search.NoMemory = true
 
 -- a path has no tests: it can't be read, as far as it is known, or is that of a start list
@@ -118,16 +121,21 @@ abbrev pub LacksInput : (List ℕ → Option (List ℕ)) → Option (Bor (List �
 LacksInput texts machine junit tests =
     IsSomeAnd machine (λ path. IsReplaced texts junit path.now) ⊎ Any (λ test. IsNoInput texts junit test) tests
 
--- tests are refused: a path has none, an input of them is refused, or the filters select nothing
-abbrev pub LacksTests : (List ℕ → Option (List ℕ)) → TestOptions → Type 0
-LacksTests texts asked =
+-- the path of a start list that may be named
+abbrev pub given_paths : Option (Bor (List ℕ)) → List (List ℕ)
+given_paths machine = option_to_list (option_copied machine)
+
+-- tests are refused: a path has none, an input of them is refused, the filters select nothing, or none of them reads a name
+abbrev pub LacksTests : (List ℕ → Option (List ℕ)) → TestOptions → List (Bor (List ℕ)) → Type 0
+LacksTests texts asked given =
     LacksPath texts asked.paths.items
-    ⊎ (((tests : List PlannedTest) × AreFound texts asked.paths.items tests × LacksInput texts asked.machine asked.junit tests)
-    ⊎ AreSelected texts asked.paths.items asked.filters.items [])
+    ⊎ (((tests : List PlannedTest) × AreFound texts asked tests × LacksInput texts asked.machine asked.junit tests)
+    ⊎ (AreSelected texts asked []
+    ⊎ ((tests : List PlannedTest) × AreSelected texts asked tests × HasUnread texts (given_paths asked.machine ++ map path_of tests) given)))
 
 -- a threshold that is no percentage is refused, and so is a command without tests
-abbrev pub TestsRefused : (List ℕ → Option (List ℕ)) → TestOptions → Type 0
-TestsRefused texts asked = IsSomeAnd asked.threshold (λ text. IsNoPercentage text.now) ⊎ LacksTests texts asked
+abbrev pub TestsRefused : (List ℕ → Option (List ℕ)) → TestOptions → List (Bor (List ℕ)) → Type 0
+TestsRefused texts asked given = IsSomeAnd asked.threshold (λ text. IsNoPercentage text.now) ⊎ LacksTests texts asked given
 
 abbrev pub TestsEnd : (List ℕ → Option (List ℕ)) → TestOptions → Settings → ℕ → Type 0
-TestsEnd texts asked settings status = EndsAs (TestsRefused texts asked) (HasTested texts asked settings) status
+TestsEnd texts asked settings status = EndsAs (TestsRefused texts asked settings.given.now) (HasTested texts asked settings) status

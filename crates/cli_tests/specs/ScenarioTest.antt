@@ -1,10 +1,8 @@
 -- The result of a scenario's test.
-use Rattle.std.specs.Prelude.{◌≡◌, ℕ, ◌==◌, ◌&&◌, ◌⊎◌, Bool, false, true, codes, not, nat_eq, nat_lt, List, [], ◌∷◌, length, MatchBool, MatchResult, IfErr, IfNone, IfOk, IfSome, Option, Some, None, Result, Ok, Err}
+use Rattle.std.specs.Prelude.{◌≡◌, ℕ, ◌==◌, ◌&&◌, ◌⊎◌, Bool, false, true, codes, not, nat_eq, List, [], ◌∷◌, length, MatchResult, IfErr, IfNone, IfOk, IfSome, Option, Some, None, Result, Ok, Err}
 use Rattle.std.specs.List.{list_any, slice_split, starts_with}
 use Rattle.own_model.specs.Listed.{Listed, start_list_of}
 use Rattle.own_model.specs.StartList.{Boots}
-use Rattle.line_advice.specs.Advice.{Advice, is_newline, scenario_advice}
-use Rattle.line_advice.specs.Services.{kinds_of, services_of}
 use Rattle.line_friendly.specs.Friendly.{trimmed_line}
 use Rattle.line_names.specs.RoundMarks.{RoundMark}
 use Rattle.line_rounds.specs.Unfolding.{UnfoldedText}
@@ -58,7 +56,7 @@ pub record IsRunOf (list : Listed) (first : RunPosition) (text : Option (List �
   pub all : IfNone ending.fault (IfSome text (AreAll given))
   pub counted : IfNone ending.fault (ending.lines ≡ length given)
   pub complained : IfNone ending.fault
-      (ending.complaints ≡ errors_of None (world_of list) nothing_awaited (steps_on None first list given))
+      (ending.complaints ≡ errors_of list None (world_of list) nothing_awaited (steps_on None first list given))
 
 -- the same, unless the machine doesn't boot
 abbrev pub EndsRun : Listed → RunPosition → Option (List ℕ) → Result ScenarioEnd BootFault → Type 0
@@ -77,14 +75,6 @@ PassesBy settings list marks text passed =
 
 -- ---- a text
 
--- there are warnings about a scenario's text, and they count
-abbrev pub warnings_of : Listed → List ℕ → List Advice
-warnings_of list text =
-    scenario_advice (services_of list.entries) (kinds_of list.entries) None 1 (slice_split is_newline text)
-
-abbrev pub is_warned : Bool → List Advice → Bool
-is_warned strict warnings = strict && nat_lt 0 (length warnings)
-
 -- a line is a call: neither blank nor a comment, a directive or an expected log line
 abbrev pub is_call_text : List ℕ → Bool
 is_call_text [] = false
@@ -96,32 +86,30 @@ is_call line = is_call_text (trimmed_line line)
 
 -- a line of a text is one
 abbrev pub has_call : List ℕ → Bool
-has_call text = list_any is_call (slice_split is_newline text)
+has_call text = list_any is_call (slice_split (λ b. b == 10) text)
 
--- the lines that are run are the unfolded ones, one of which is a call; with `--strict` a warning about the text fails the test
-abbrev pub IsUnfoldedResult : Bool → Settings → Listed → List ℕ → UnfoldedText → Bool → Type 0
-IsUnfoldedResult strict settings list text lines passed =
-    (answered : Bool) × PassesBy settings list lines.marks (Some lines.text) answered
-    × (passed ≡ ((answered && has_call lines.text) && not (is_warned strict (warnings_of list text))))
+-- the lines that are run are the unfolded ones, one of which is a call
+abbrev pub IsUnfoldedResult : Settings → Listed → UnfoldedText → Bool → Type 0
+IsUnfoldedResult settings list lines passed =
+    (answered : Bool) × PassesBy settings list lines.marks (Some lines.text) answered × (passed ≡ (answered && has_call lines.text))
 
 -- rounds that don't unfold fail the test
-abbrev pub IsTextResult : Bool → Settings → Listed → List ℕ → Bool → Type 0
-IsTextResult strict settings list text passed =
-    MatchResult (rounds_of settings text) (λ lines. IsUnfoldedResult strict settings list text lines passed) (λ fault. passed ≡ false)
+abbrev pub IsTextResult : Settings → Listed → List ℕ → Bool → Type 0
+IsTextResult settings list text passed =
+    MatchResult (rounds_of settings text) (λ lines. IsUnfoldedResult settings list lines passed) (λ fault. passed ≡ false)
 
 -- ---- a file
 
--- a scenario that isn't read whole is run line by line, without warnings, which `--strict` asks for; one that isn't opened fails
-abbrev pub IsUnreadResult : (List ℕ → Option (List ℕ)) → Bool → Settings → Listed → List ℕ → Bool → Type 0
-IsUnreadResult texts strict settings list scenario passed =
-    MatchBool strict (passed ≡ false) (PassesBy settings list [] (texts scenario) passed)
-    ⊎ (IsUnknown texts scenario × (passed ≡ false))
+-- a scenario that isn't read whole is run line by line; one that isn't opened fails
+abbrev pub IsUnreadResult : (List ℕ → Option (List ℕ)) → Settings → Listed → List ℕ → Bool → Type 0
+IsUnreadResult texts settings list scenario passed =
+    PassesBy settings list [] (texts scenario) passed ⊎ (IsUnknown texts scenario × (passed ≡ false))
 
 -- a scenario is tested on a list by the text of its file
-abbrev pub IsFileResult : (List ℕ → Option (List ℕ)) → Bool → Settings → Listed → List ℕ → Bool → Type 0
-IsFileResult texts strict settings list scenario passed =
-    ((text : List ℕ) × IsTextAt texts scenario text × IsTextResult strict settings list text passed)
-    ⊎ (IsTooLong texts scenario × IsUnreadResult texts strict settings list scenario passed)
+abbrev pub IsFileResult : (List ℕ → Option (List ℕ)) → Settings → Listed → List ℕ → Bool → Type 0
+IsFileResult texts settings list scenario passed =
+    ((text : List ℕ) × IsTextAt texts scenario text × IsTextResult settings list text passed)
+    ⊎ (IsTooLong texts scenario × IsUnreadResult texts settings list scenario passed)
 
 -- ---- the machine
 
@@ -135,15 +123,15 @@ abbrev pub IsListAt : (List ℕ → Option (List ℕ)) → Settings → Option (
 IsListAt texts settings path list = (text : List ℕ) × IsTextFor texts settings path text × (list_in text ≡ Ok list)
 
 -- the test of a scenario on the list at a path; without a list there it fails
-abbrev pub IsResultOn : (List ℕ → Option (List ℕ)) → Bool → Settings → Option (List ℕ) → List ℕ → Bool → Type 0
-IsResultOn texts strict settings path scenario passed =
+abbrev pub IsResultOn : (List ℕ → Option (List ℕ)) → Settings → Option (List ℕ) → List ℕ → Bool → Type 0
+IsResultOn texts settings path scenario passed =
     ((passed ≡ false) × LacksList texts settings path)
-    ⊎ ((list : Listed) × IsListAt texts settings path list × IsFileResult texts strict settings list scenario passed)
+    ⊎ ((list : Listed) × IsListAt texts settings path list × IsFileResult texts settings list scenario passed)
 
 -- a scenario is tested on the list next to it, or else on another one
-abbrev pub IsScenarioResult : (List ℕ → Option (List ℕ)) → Bool → Settings → Option (List ℕ) → List ℕ → Bool → Type 0
-IsScenarioResult texts strict settings other scenario passed =
-    (path : Option (List ℕ)) × IsListFor texts other scenario path × IsResultOn texts strict settings path scenario passed
+abbrev pub IsScenarioResult : (List ℕ → Option (List ℕ)) → Settings → Option (List ℕ) → List ℕ → Bool → Type 0
+IsScenarioResult texts settings other scenario passed =
+    (path : Option (List ℕ)) × IsListFor texts other scenario path × IsResultOn texts settings path scenario passed
 
 -- ---- while it is tested
 
@@ -154,7 +142,7 @@ IsFound texts settings path found =
     × IfErr found (λ failure. lacks_memory failure ≡ false → LacksList texts settings path)
 
 -- the test of a scenario on a machine, if there is one
-abbrev pub IsMachineResult : (List ℕ → Option (List ℕ)) → Bool → Settings → Result Machine StartListFailure → List ℕ → Bool → Type 0
-IsMachineResult texts strict settings (Ok machine) scenario passed =
-    (list : Listed) × (list_in (bytes_of machine.text) ≡ Ok list) × IsFileResult texts strict settings list scenario passed
-IsMachineResult texts strict settings (Err failure) scenario passed = (lacks_memory failure ≡ false) × (passed ≡ false)
+abbrev pub IsMachineResult : (List ℕ → Option (List ℕ)) → Settings → Result Machine StartListFailure → List ℕ → Bool → Type 0
+IsMachineResult texts settings (Ok machine) scenario passed =
+    (list : Listed) × (list_in (bytes_of machine.text) ≡ Ok list) × IsFileResult texts settings list scenario passed
+IsMachineResult texts settings (Err failure) scenario passed = (lacks_memory failure ≡ false) × (passed ≡ false)

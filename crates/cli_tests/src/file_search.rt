@@ -3,9 +3,10 @@ ghost use Rattle.std.specs.Prelude.{◌≡◌, ◌++◌, false, IfErr, IfOk, IfS
 ghost use Rattle.cli_tests.specs.Outcome.{IsNoTest, LacksPath, search_lacks_memory};
 ghost use Rattle.cli_tests.specs.Plan.{AreFiles, AreFilesAt};
 
+use crate::other_files::OtherFiles;
 use cli_base::{
     FileKind, Host, REFUSED, ReadFailure, Spot, is_list, is_policy, is_scenario, no_memory,
-    report_error,
+    refuse_unread, report_error,
 };
 use std::alloc::{AllocError, AllocFailed};
 use std::fs::DirEntry;
@@ -31,6 +32,8 @@ pub(crate) enum SearchFailure<'a> {
     Nothing(&'a str),
     /// The path of no test has one of these texts.
     Unselected(&'a [&'a str]),
+    /// No test reads the name of this argument of `--set`.
+    Unread(&'a str),
     /// The host is out of memory.
     NoMemory,
 }
@@ -101,6 +104,7 @@ impl SearchFailure<'_> {
                 report_error(rt, form, Spot::nowhere(), &UnselectedMessage(texts));
                 REFUSED
             }
+            SearchFailure::Unread(argument) => refuse_unread(rt, form, argument),
             SearchFailure::NoMemory => no_memory(rt),
         }
     }
@@ -122,11 +126,12 @@ impl fmt::Display for UnselectedMessage<'_> {
     }
 }
 
-/// Returns the scenarios and policies of paths in their order, those of a folder sorted by bytes. Errors: a path can't be read or is
-/// that of a start list, a folder has none of them, the host is out of memory.
+/// Returns the scenarios and policies of paths in their order, those of a folder sorted by bytes, and keeps its other files. Errors: a
+/// path can't be read or is that of a start list, a folder has none of them, the host is out of memory.
 pub(crate) fn files_at<'a, H: Host>(
     host: &H,
     paths: &[&'a str],
+    others: &mut OtherFiles,
 ) -> Result<Vec<String>, SearchFailure<'a>>
     ensures found { IfOk result (λ files. AreFiles (H.text_at host.now) paths.now files.items) }
     ensures failed { IfErr result (λ failure. search_lacks_memory failure ≡ false
@@ -134,21 +139,25 @@ pub(crate) fn files_at<'a, H: Host>(
 {
     let mut all = Vec::new(host.rt().alloc());
     for path in paths {
-        let mut found = files_of(host, path)?;
+        let mut found = files_of(host, path, others)?;
         all.append(&mut found)?;
     }
     Ok(all)
 }
 
 // Returns the files of a path.
-fn files_of<'a, H: Host>(host: &H, path: &'a str) -> Result<Vec<String>, SearchFailure<'a>>
+fn files_of<'a, H: Host>(
+    host: &H,
+    path: &'a str,
+    others: &mut OtherFiles,
+) -> Result<Vec<String>, SearchFailure<'a>>
     ensures found { IfOk result (λ files. AreFilesAt (H.text_at host.now) path.now files.items) }
     ensures failed { IfErr result (λ failure. search_lacks_memory failure ≡ false
         → IsNoTest (H.text_at host.now) path.now) }
 {
     let rt = host.rt();
     match host.kind_at(path) {
-        Ok(FileKind::Folder) => files_in(rt, path),
+        Ok(FileKind::Folder) => files_in(rt, path, others),
         Ok(_) if is_list(path) => Err(SearchFailure::List(path)),
         Ok(_) => Ok(vec![in rt.alloc(); String::from_str(rt.alloc(), path)?]?),
         Err(error) => Err(failure_of(path, error)),
@@ -164,11 +173,16 @@ fn failure_of(path: &str, error: io::Error) -> SearchFailure<'_> {
 }
 
 // Returns the scenarios and policies of a folder, sorted by bytes, at least one.
-fn files_in<'a>(rt: &HostRuntime, path: &'a str) -> Result<Vec<String>, SearchFailure<'a>> {
-    match files_below(rt, path) {
+fn files_in<'a>(
+    rt: &HostRuntime,
+    path: &'a str,
+    others: &mut OtherFiles,
+) -> Result<Vec<String>, SearchFailure<'a>> {
+    match files_below(rt, path, others) {
         Ok(found) if found.is_empty() => Err(SearchFailure::Nothing(path)),
         Ok(mut found) => {
             found.sort()?;
+            others.sort()?;
             Ok(found)
         }
         Err(error) => Err(failure_of(path, error)),
@@ -176,7 +190,7 @@ fn files_in<'a>(rt: &HostRuntime, path: &'a str) -> Result<Vec<String>, SearchFa
 }
 
 // Returns the scenarios and policies of a folder and of the folders below it.
-fn files_below(rt: &HostRuntime, folder: &str) -> io::Result<Vec<String>> {
+fn files_below(rt: &HostRuntime, folder: &str, others: &mut OtherFiles) -> io::Result<Vec<String>> {
     let alloc = rt.alloc();
     let mut found = Vec::new(alloc);
     let mut folders = vec![in alloc; String::from_str(alloc, folder)?]?;
@@ -184,7 +198,7 @@ fn files_below(rt: &HostRuntime, folder: &str) -> io::Result<Vec<String>> {
         let Some(folder) = folders.pop() else {
             break;
         };
-        add_entries(rt, folder.as_str(), &mut folders, &mut found)?;
+        add_entries(rt, folder.as_str(), &mut folders, &mut found, others)?;
     }
     if folders.is_empty() {
         Ok(found)
@@ -193,25 +207,33 @@ fn files_below(rt: &HostRuntime, folder: &str) -> io::Result<Vec<String>> {
     }
 }
 
-// Adds the folders, scenarios and policies in a folder, except those whose names begin with a point.
+// Adds the folders, scenarios and policies in a folder, except those whose names begin with a point. Keeps that a name isn't UTF-8.
 fn add_entries(
     rt: &HostRuntime,
     folder: &str,
     folders: &mut Vec<String>,
     found: &mut Vec<String>,
+    others: &mut OtherFiles,
 ) -> io::Result<()> {
     for entry in fs::read_dir(rt, folder)? {
-        add_entry(rt, &entry?, folders, found)?;
+        match entry {
+            Ok(entry) => add_entry(rt, &entry, folders, found, others)?,
+            Err(error) if error.kind() == ErrorKind::InvalidFilename => {
+                others.add_unnamed(rt.alloc(), folder)?;
+            }
+            Err(error) => return Err(error),
+        }
     }
     Ok(())
 }
 
-// Adds an entry of a folder if it is a folder, a scenario or a policy.
+// Adds an entry of a folder if it is a folder, a scenario or a policy, and keeps it if it is a start list.
 fn add_entry(
     rt: &HostRuntime,
     entry: &DirEntry<HostRuntime>,
     folders: &mut Vec<String>,
     found: &mut Vec<String>,
+    others: &mut OtherFiles,
 ) -> io::Result<()> {
     if entry.file_name().starts_with('.') {
         return Ok(());
@@ -221,6 +243,8 @@ fn add_entry(
         folders.push(path)?;
     } else if is_scenario(path.as_str()) || is_policy(path.as_str()) {
         found.push(path)?;
+    } else if is_list(path.as_str()) {
+        others.add_list(path)?;
     }
     Ok(())
 }

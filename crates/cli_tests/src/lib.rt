@@ -8,6 +8,8 @@ mod coverage_printer;
 mod file_presence;
 mod file_search;
 mod input_check;
+mod list_test;
+mod other_files;
 mod planned_test;
 mod policy_test;
 mod scenario_run;

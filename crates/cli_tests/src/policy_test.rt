@@ -7,24 +7,26 @@ ghost use Rattle.cli_tests.specs.PolicyTest.{IsKeptBy, IsListResult, IsPolicyRes
 use crate::file_presence::may_exist;
 use crate::scenario_test::lacks_memory;
 use cli_base::{
-    Host, ListFaultMessage, Machine, PolicyDiagnostic, PolicyVerdict, Settings, Spot,
-    StartListFailure, check_policy, error_line, fault_spot, machine_path,
+    Host, Machine, PolicyDiagnostic, PolicyRemark, PolicyVerdict, Settings, Spot, StartListFailure,
+    check_policy, diagnostic_line, error_line, fault_spot, machine_path,
 };
 use list_parser::BootFault;
-use list_review::{ListFault, Review};
+use list_review::{PlacedFault, Review};
 use std::alloc::AllocError;
 use std::fmt::Display;
 use view_test_report::TestResult;
 
 /// Checks the start list next to a policy against it: `NAME.json` for `NAME.policy`. The test fails if there is no such list, the
 /// list doesn't boot, the policy has a fault or isn't read, or the list breaks a line. The error is out of memory.
+/// If findings count, a line that speaks of nothing does.
 pub(crate) fn test_policy<H: Host>(
     host: &H,
     policy: &str,
+    strict: bool,
     settings: Settings<'_>,
 ) -> Result<TestResult, AllocError>
     ensures { IfOk result (λ test.
-        IsPolicyResult (H.text_at host.now) settings.entry policy.now test.passed) }
+        IsPolicyResult (H.text_at host.now) strict settings.entry policy.now test.passed) }
 {
     let rt = host.rt();
     let list = machine_path(rt.alloc(), policy)?;
@@ -37,13 +39,13 @@ pub(crate) fn test_policy<H: Host>(
         return Ok(unchecked(name, report));
     }
     match Machine::find(host, Some(list.as_str()), settings) {
-        Ok(machine) => test_list(host, name, policy, &machine),
+        Ok(machine) => test_list(host, name, policy, strict, &machine),
         Err(failure) => without_list(rt, name, &failure),
     }
 }
 
-// Returns the result of a test whose list isn't read. Fails if the host was out of memory for the list.
-fn without_list(
+/// Returns the result of a test whose list isn't read. Fails if the host was out of memory for the list.
+pub(crate) fn without_list(
     rt: &HostRuntime,
     name: String,
     failure: &StartListFailure<'_>,
@@ -63,24 +65,25 @@ fn test_list<H: Host>(
     host: &H,
     name: String,
     policy: &str,
+    strict: bool,
     machine: &Machine<'_>,
 ) -> Result<TestResult, AllocError>
-    ensures { IfOk result (λ test.
-        IsListResult (H.text_at host.now) policy.now (bytes_of machine.now.text) test.passed) }
+    ensures { IfOk result (λ test. IsListResult (IsKeptBy (H.text_at host.now) strict policy.now)
+        (bytes_of machine.now.text) test.passed) }
 {
     let rt = host.rt();
     match Review::read(rt.alloc(), machine.text()) {
-        Ok(review) => checked(host, name, policy, &review),
+        Ok(review) => checked(host, name, policy, strict, &review),
         Err(fault) => unbooted(rt, name, machine, &fault),
     }
 }
 
-// Returns the result of a test whose list doesn't boot. Fails if the host was out of memory for the boot.
-fn unbooted(
+/// Returns the result of a test whose list doesn't boot. Fails if the host was out of memory for the boot.
+pub(crate) fn unbooted(
     rt: &HostRuntime,
     name: String,
     machine: &Machine<'_>,
-    fault: &ListFault,
+    fault: &PlacedFault,
 ) -> Result<TestResult, AllocError>
     ensures memory { IfOk result (λ test. boot_lacks_memory fault.now.fault ≡ false) }
     ensures failed { IfOk result (λ test. test.passed ≡ false) }
@@ -89,7 +92,7 @@ fn unbooted(
         return Err(AllocError);
     }
     let spot = fault_spot(machine.path().unwrap_or(""), fault);
-    let report = error_line(rt, spot, &ListFaultMessage(fault))?;
+    let report = error_line(rt, spot, fault)?;
     Ok(unchecked(name, report))
 }
 
@@ -109,28 +112,29 @@ fn checked<H: Host>(
     host: &H,
     name: String,
     policy: &str,
+    strict: bool,
     review: &Review,
 ) -> Result<TestResult, AllocError>
     ensures { IfOk result (λ test.
-        IsKeptBy (H.text_at host.now) policy.now review.now.list test.passed) }
+        IsKeptBy (H.text_at host.now) strict policy.now review.now.list test.passed) }
 {
     let verdict = check_policy(host, review.list(), policy)?;
     let report = verdict_lines(host.rt(), policy, &verdict)?;
-    Ok(result_of(name, &verdict, report))
+    Ok(result_of(name, strict, &verdict, report))
 }
 
 // Returns the result of a check, with its report.
-fn result_of(name: String, verdict: &PolicyVerdict, report: Vec<u8>) -> TestResult
-    ensures { result.passed ≡ is_kept verdict.now }
+fn result_of(name: String, strict: bool, verdict: &PolicyVerdict, report: Vec<u8>) -> TestResult
+    ensures { result.passed ≡ is_kept strict verdict.now }
 {
     TestResult {
         name,
-        passed: verdict.exit_status() == 0,
+        passed: verdict.exit_status(strict) == 0,
         told: report,
     }
 }
 
-// Returns the errors of a check against the policy of a path.
+// Returns the diagnostics of a check against the policy of a path.
 fn verdict_lines(
     rt: &HostRuntime,
     policy: &str,
@@ -138,24 +142,44 @@ fn verdict_lines(
 ) -> Result<Vec<u8>, AllocError> {
     let mut report = Vec::new(rt.alloc());
     match verdict {
-        PolicyVerdict::Held(notes) | PolicyVerdict::Faulty(notes) => {
-            for noted in notes.as_slice() {
-                add_note(rt, policy, noted, &mut report)?;
+        PolicyVerdict::Held(found) => {
+            for remark in found.remarks.as_slice() {
+                add_remark(rt, &mut report, policy, remark)?;
             }
+            add_notes(rt, &mut report, policy, found.broken.as_slice())?;
         }
+        PolicyVerdict::Faulty(notes) => add_notes(rt, &mut report, policy, notes.as_slice())?,
         PolicyVerdict::ReadFailure(why) => add_error(rt, &mut report, Spot::nowhere(), why)?,
     }
     Ok(report)
 }
 
-// Adds the diagnostic of a policy's line.
-fn add_note(
+// Adds a remark on a policy's line, unless it is about a part of the line's pairs.
+fn add_remark(
     rt: &HostRuntime,
-    policy: &str,
-    noted: &PolicyDiagnostic,
     report: &mut Vec<u8>,
+    policy: &str,
+    remark: &PolicyRemark,
 ) -> Result<(), AllocError> {
-    add_error(rt, report, noted.spot(policy), &noted.text)
+    if remark.is_partial {
+        return Ok(());
+    }
+    let noted = &remark.diagnostic;
+    let line = diagnostic_line(rt, remark.severity, noted.spot(policy), &noted.text)?;
+    report.extend_from_slice(line.as_slice())
+}
+
+// Adds errors of a policy.
+fn add_notes(
+    rt: &HostRuntime,
+    report: &mut Vec<u8>,
+    policy: &str,
+    notes: &[PolicyDiagnostic],
+) -> Result<(), AllocError> {
+    for noted in notes {
+        add_error(rt, report, noted.spot(policy), &noted.text)?;
+    }
+    Ok(())
 }
 
 /// Adds an error to the report of a test. The error is out of memory.

@@ -6,8 +6,8 @@ ghost use Rattle.cli_tests.specs.ScenarioTest.{EndsRun, PassesBy, fault_lacks_me
 use crate::coverage_printer::CoveragePrinter;
 use crate::policy_test::add_error;
 use cli_base::{
-    ListFaultMessage, Machine, Origin, OutputStream, Settings, Spot, StopMessage, fault_spot,
-    plain_writer, silent_reader, spot_of, text_of,
+    Machine, Origin, OutputStream, Settings, Spot, StopMessage, fault_spot, plain_writer,
+    silent_reader, spot_of, text_of,
 };
 use line_names::RoundMark;
 use list_parser::{BootFault, StartList};
@@ -38,8 +38,6 @@ pub(crate) struct TestCase<'a> {
     pub(crate) list: &'a StartList,
     /// The settings of the command line.
     pub(crate) settings: Settings<'a>,
-    /// Whether a warning fails the test.
-    pub(crate) strict: bool,
 }
 
 // A run whose diagnostics are kept.
@@ -190,12 +188,7 @@ fn add_unbooted(
 ) -> Result<(), AllocError> {
     if let Some(path) = machine.path() {
         if let Err(fault) = Review::read(rt.alloc(), machine.text()) {
-            return add_error(
-                rt,
-                report,
-                fault_spot(path, &fault),
-                &ListFaultMessage(&fault),
-            );
+            return add_error(rt, report, fault_spot(path, &fault), &fault);
         }
     }
     add_error(rt, report, Spot::nowhere(), &format_args!("boot: {fault}"))

@@ -1,29 +1,29 @@
 //! Scenarios that are run as tests, each on its machine.
-ghost use Rattle.std.specs.Prelude.{◌≡◌, ◌&&◌, false, map, not, ℕ, List, IfOk};
+ghost use Rattle.std.specs.Prelude.{◌≡◌, ◌&&◌, ◌==◌, false, map, ℕ, List, IfOk};
 ghost use Rattle.std.specs.Borrow.{Bor};
 ghost use Rattle.std.specs.List.{list_any, slice_split};
 ghost use Rattle.std.specs.Option.{option_copied};
-ghost use Rattle.line_advice.specs.Advice.{is_newline};
 ghost use Rattle.line_rounds.specs.Views.{whole_view};
 ghost use Rattle.cli_base.specs.ListFailures.{lacks_memory};
-ghost use Rattle.cli_tests.specs.ScenarioTest.{IsFileResult, IsFound, IsMachineResult, IsScenarioResult, IsTextResult, IsUnfoldedResult, IsUnreadResult, has_call, is_call, is_warned};
+ghost use Rattle.cli_tests.specs.ScenarioTest.{IsFileResult, IsFound, IsMachineResult, IsScenarioResult, IsTextResult, IsUnfoldedResult, IsUnreadResult, has_call, is_call};
 
 use crate::coverage_printer::CoveragePrinter;
 use crate::file_presence::may_exist;
 use crate::policy_test::add_error;
 use crate::scenario_run::{TestCase, failed, test_lines};
 use cli_base::{
-    Host, Machine, Origin, ReadFailure, Settings, Spot, StartListFailure, UNWRITTEN, Warnings,
-    error_line, machine_path, read_whole, rounds_spot, rounds_token,
+    Host, Machine, Origin, ReadFailure, Settings, Spot, StartListFailure, UNWRITTEN,
+    diagnostic_line, error_line, machine_path, read_whole, rounds_spot, rounds_token,
 };
 use cli_options::TestOptions;
 use line_friendly::trimmed_line;
 use line_rounds::{UnfoldError, UnfoldedText, unfold};
 use std::alloc::{AllocError, Global};
+use view_diagnostics::Severity;
 use view_test_report::TestResult;
 
-/// The error of a scenario that has no warnings since it isn't read whole, where a warning is a fault.
-const UNWARNED: &str = "--strict: expected a file that is read to its end within 64M bytes";
+/// The note on a scenario that runs on the built-in machine.
+const BUILT_IN: &str = "no start list is next to this scenario, so it runs on the built-in machine";
 
 /// What all tests have in common.
 #[derive(Clone, Copy)]
@@ -46,15 +46,45 @@ pub(crate) fn test_scenario<H: Host>(
 ) -> Result<TestResult, AllocError>
     requires { IsFound (H.text_at host.now) conditions.settings
         (option_copied conditions.asked.now.machine) conditions.other.now }
-    ensures { IfOk result (λ test. IsScenarioResult (H.text_at host.now) conditions.entry.asked.now.strict
-        conditions.entry.settings (option_copied conditions.entry.asked.now.machine) scenario.now test.passed) }
+    ensures { IfOk result (λ test. IsScenarioResult (H.text_at host.now) conditions.entry.settings
+        (option_copied conditions.entry.asked.now.machine) scenario.now test.passed) }
 {
     let list = machine_path(host.rt().alloc(), scenario)?;
     if !may_exist(host, list.as_str()) {
-        return test_on(host, scenario, conditions.other, conditions, coverings);
+        let trial = test_on(host, scenario, conditions.other, conditions, coverings)?;
+        return noted(host.rt(), conditions.asked.machine, trial);
     }
     let machine = Machine::find(host, Some(list.as_str()), conditions.settings);
     test_on(host, scenario, &machine, conditions, coverings)
+}
+
+// Returns the result of a scenario without a start list next to it, with a note if the command line names none.
+fn noted(
+    rt: &HostRuntime,
+    machine: Option<&str>,
+    trial: TestResult,
+) -> Result<TestResult, AllocError>
+    ensures { IfOk result (λ test. test.passed ≡ trial.passed) }
+{
+    if machine.is_some() {
+        return Ok(trial);
+    }
+    let told = noted_report(rt, &trial)?;
+    Ok(TestResult {
+        name: trial.name,
+        passed: trial.passed,
+        told,
+    })
+}
+
+// Returns the report on a run, and the note that it is one on the built-in machine.
+fn noted_report(rt: &HostRuntime, trial: &TestResult) -> Result<Vec<u8>, AllocError> {
+    let mut report = Vec::new(rt.alloc());
+    report.extend_from_slice(trial.told.as_slice())?;
+    let spot = Spot::file(trial.name.as_str());
+    let note = diagnostic_line(rt, Severity::Note, spot, &BUILT_IN)?;
+    report.extend_from_slice(note.as_slice())?;
+    Ok(report)
 }
 
 // Runs a scenario on a machine. The test fails if the machine's start list has a fault.
@@ -65,8 +95,8 @@ fn test_on<H: Host>(
     conditions: TestConditions<'_>,
     coverings: &mut CoveragePrinter,
 ) -> Result<TestResult, AllocError>
-    ensures { IfOk result (λ test. IsMachineResult (H.text_at host.now) conditions.entry.asked.now.strict
-        conditions.entry.settings machine.now scenario.now test.passed) }
+    ensures { IfOk result (λ test. IsMachineResult (H.text_at host.now) conditions.entry.settings
+        machine.now scenario.now test.passed) }
 {
     match machine {
         Ok(machine) => {
@@ -75,7 +105,6 @@ fn test_on<H: Host>(
                 machine,
                 list: machine.list(),
                 settings: conditions.settings,
-                strict: conditions.asked.strict,
             };
             test_file(host, case, coverings)
         }
@@ -110,7 +139,7 @@ fn test_file<H: Host>(
     case: TestCase<'_>,
     coverings: &mut CoveragePrinter,
 ) -> Result<TestResult, AllocError>
-    ensures { IfOk result (λ test. IsFileResult (H.text_at host.now) case.entry.strict case.entry.settings
+    ensures { IfOk result (λ test. IsFileResult (H.text_at host.now) case.entry.settings
         case.entry.list.now case.entry.scenario.now test.passed) }
 {
     match read_whole(host, case.scenario)? {
@@ -119,19 +148,18 @@ fn test_file<H: Host>(
     }
 }
 
-// Runs the lines of a file that isn't read whole, without its rounds unfolded. The test fails if its warnings are asked for.
+// Runs the lines of a file that isn't read whole, without its rounds unfolded.
 fn test_unread<H: Host>(
     host: &H,
     case: TestCase<'_>,
     coverings: &mut CoveragePrinter,
 ) -> Result<TestResult, AllocError>
-    ensures { IfOk result (λ test. IsUnreadResult (H.text_at host.now) case.entry.strict case.entry.settings
+    ensures { IfOk result (λ test. IsUnreadResult (H.text_at host.now) case.entry.settings
         case.entry.list.now case.entry.scenario.now test.passed) }
 {
     let rt = host.rt();
     let scenario = case.scenario;
     match host.open(scenario) {
-        Ok(_) if case.strict => failed(rt, scenario, error_line(rt, Spot::nowhere(), &UNWARNED)?),
         Ok(file) => test_lines(rt, case, Origin::File(file), &[], coverings),
         Err(error) => {
             let unread = ReadFailure::Closed(error);
@@ -149,13 +177,13 @@ fn test_text<H: Host>(
     text: &[u8],
     coverings: &mut CoveragePrinter,
 ) -> Result<TestResult, AllocError>
-    ensures { IfOk result (λ test. IsTextResult case.entry.strict case.entry.settings case.entry.list.now
+    ensures { IfOk result (λ test. IsTextResult case.entry.settings case.entry.list.now
         text.now test.passed) }
 {
     let rt = host.rt();
     let scenario = case.scenario;
     match unfold(rt.alloc(), text, case.settings.known(rt.alloc())?) {
-        Ok(lines) => test_unfolded(host, case, text, &lines, coverings),
+        Ok(lines) => test_unfolded(host, case, &lines, coverings),
         Err(UnfoldError::Fault(fault)) => {
             let token = rounds_token(rt, text, fault)?;
             let message = fault.reason.about(token.as_str());
@@ -166,23 +194,20 @@ fn test_text<H: Host>(
     }
 }
 
-// Runs the unfolded lines of a scenario's text, after its warnings.
-fn test_unfolded<'a, H: Host>(
+// Runs the unfolded lines of a scenario's text.
+fn test_unfolded<H: Host>(
     host: &H,
-    case: TestCase<'a>,
-    text: &'a [u8],
+    case: TestCase<'_>,
     lines: &UnfoldedText<'_>,
     coverings: &mut CoveragePrinter,
 ) -> Result<TestResult, AllocError>
-    ensures { IfOk result (λ test. IsUnfoldedResult case.entry.strict case.entry.settings case.entry.list.now
-        text.now (whole_view lines.now) test.passed) }
+    ensures { IfOk result (λ test. IsUnfoldedResult case.entry.settings case.entry.list.now
+        (whole_view lines.now) test.passed) }
 {
     let rt = host.rt();
-    let warnings = Warnings::of(rt, case.list, None, case.scenario, text)?;
     let origin: Origin<'_, H::File> = Origin::Held(lines.bytes());
     let run = test_lines(rt, case, origin, lines.marks(), coverings)?;
-    let called = with_call(rt, lines.bytes(), run)?;
-    warned(rt, &warnings, case.strict, called)
+    with_call(rt, lines.bytes(), run)
 }
 
 // Returns the result of a scenario of unfolded lines. The test fails if no line is a call.
@@ -219,7 +244,7 @@ fn has_call(alloc: Global, text: &[u8]) -> Result<bool, AllocError>
 
 // Returns the lines of a text, without newlines. The error is out of memory.
 fn lines_of(alloc: Global, text: &[u8]) -> Result<Vec<&[u8]>, AllocError>
-    ensures { IfOk result (λ lines. map (λ line. line.now) lines.items ≡ slice_split is_newline text.now) }
+    ensures { IfOk result (λ lines. map (λ line. line.now) lines.items ≡ slice_split (λ b. b == 10) text.now) }
 {
     text.split(|byte| *byte == b'\n').collect(alloc)
 }
@@ -240,22 +265,4 @@ fn is_call(line: &[u8]) -> bool
         None | Some(b'#' | b'@' | b'\r') => false,
         Some(_) => !text.starts_with(b"=> "),
     }
-}
-
-// Returns a result with warnings before its diagnostics. With `strict` the test fails by them.
-fn warned(
-    rt: &HostRuntime,
-    warnings: &Warnings<'_>,
-    strict: bool,
-    trial: TestResult,
-) -> Result<TestResult, AllocError>
-    ensures { IfOk result (λ test. test.passed ≡ (trial.passed && not (is_warned strict warnings.now))) }
-{
-    let mut report = warnings.lines(rt)?;
-    report.extend_from_slice(trial.told.as_slice())?;
-    Ok(TestResult {
-        name: trial.name,
-        passed: trial.passed && !(strict && warnings.count() > 0),
-        told: report,
-    })
 }

@@ -1,23 +1,26 @@
 //! The command `test`: scenarios are run and policies are checked as tests, and their results are printed.
-ghost use Rattle.std.specs.Prelude.{◌≡◌, ◌⊎◌, ◌<◌, false, length, IfErr, IfNone, IfOk, IfSome, IsSomeAnd, OnErr, OnOk};
+ghost use Rattle.std.specs.Prelude.{◌≡◌, ◌⊎◌, ◌<◌, ◌++◌, false, length, map, IfErr, IfNone, IfOk, IfSome, IsSomeAnd, OnErr, OnOk};
 ghost use Rattle.std.specs.Option.{option_copied};
+ghost use Rattle.cli_base.specs.Given.{HasUnread};
 ghost use Rattle.cli_base.specs.Statuses.{EndsAs};
-ghost use Rattle.cli_tests.specs.Outcome.{AreResults, AsksFor, HasResults, IsNoPercentage, IsPercentage, IsResultOf, IsShortBy, LacksTests, TestsEnd, outcome_status, search_lacks_memory};
-ghost use Rattle.cli_tests.specs.Plan.{AreSelected};
+ghost use Rattle.cli_tests.specs.Outcome.{AreResults, AsksFor, HasResults, IsNoPercentage, IsPercentage, IsResultOf, IsShortBy, LacksTests, TestsEnd, given_paths, outcome_status, search_lacks_memory};
+ghost use Rattle.cli_tests.specs.Plan.{AreSelected, path_of};
 ghost use Rattle.cli_tests.specs.ScenarioTest.{IsFound};
 
 use crate::coverage_printer::CoveragePrinter;
 use crate::file_search::{SearchFailure, files_at};
 use crate::input_check::check_inputs;
+use crate::list_test::test_list;
+use crate::other_files::OtherFiles;
 use crate::planned_test::{PlannedTest, planned_tests, select_tests};
 use crate::policy_test::test_policy;
 use crate::scenario_test::{TestConditions, test_scenario};
 use cli_base::{
     Host, Machine, REFUSED, Settings, Spot, UNWRITTEN, report_error, report_write_failure,
-    status_of, write_file,
+    status_of, unread_argument, write_file,
 };
 use cli_options::TestOptions;
-use std::alloc::AllocError;
+use std::alloc::{AllocError, Global};
 use std::io;
 use std::io::{IsTerminal, Write};
 use std::time::{Duration, Instant};
@@ -39,6 +42,8 @@ struct TestSettings<'a> {
     colored: bool,
     // The percentage of rules and session requests that scenarios must cover, or none.
     threshold: Option<u8>,
+    // The files of folders that no test uses.
+    others: &'a OtherFiles,
 }
 
 // The results of all tests, and whether scenarios cover less than the options ask for.
@@ -82,13 +87,15 @@ pub fn run_tests<'a, H: Host>(
         Ok(threshold) => threshold,
         Err(status) => return status,
     };
-    match tests_at(host, asked) {
+    let mut others = OtherFiles::new(rt.alloc());
+    match tests_at(host, asked, settings.given, &mut others) {
         Ok(tests) => {
             let options = TestSettings {
                 asked,
                 settings,
                 colored,
                 threshold,
+                others: &others,
             };
             run_selected(host, tests.as_slice(), options)
         }
@@ -152,25 +159,72 @@ fn refuse_threshold(rt: &HostRuntime, form: DiagnosticForm, text: &str) -> u8
     REFUSED
 }
 
-// Returns the tests of the paths that the filters select. Errors: those of the search and of the inputs, the filters select none.
+// Returns the tests of the paths that the filters select, and keeps the files of folders that none of the tests uses. Errors: those
+// of the search and of the inputs; the filters select none; no test reads a name that an argument of `--set` gives.
 fn tests_at<'a, H: Host>(
     host: &H,
     asked: &'a TestOptions<'a>,
+    given: &'a [&'a str],
+    others: &mut OtherFiles,
 ) -> Result<Vec<PlannedTest>, SearchFailure<'a>>
-    ensures selected { IfOk result (λ tests. AreSelected (H.text_at host.now) asked.now.paths.items
-        asked.now.filters.items tests.items) }
+    ensures selected { IfOk result (λ tests. AreSelected (H.text_at host.now) asked.now tests.items) }
     ensures some { IfOk result (λ tests. 0 < length tests.items) }
     ensures failed { IfErr result (λ failure. search_lacks_memory failure ≡ false
-        → LacksTests (H.text_at host.now) asked.now) }
+        → LacksTests (H.text_at host.now) asked.now given.now) }
 {
-    let files = files_at(host, asked.paths.as_slice())?;
-    let mut tests = planned_tests(host, files)?;
+    let files = files_at(host, asked.paths.as_slice(), others)?;
+    let mut tests = planned_tests(host, asked, files)?;
+    others.leave_unused(tests.as_slice(), asked.machine);
     check_inputs(host, tests.as_slice(), asked.machine, asked.junit)?;
     select_tests(&mut tests, asked.filters.as_slice());
     if tests.is_empty() {
         return Err(SearchFailure::Unselected(asked.filters.as_slice()));
     }
+    check_names(host, tests.as_slice(), asked.machine, given)?;
     Ok(tests)
+}
+
+// Refuses an argument of `--set` whose name none of the tests reads, nor the start list that the command line names.
+fn check_names<'a, H: Host>(
+    host: &H,
+    tests: &[PlannedTest],
+    machine: Option<&str>,
+    given: &'a [&'a str],
+) -> Result<(), SearchFailure<'a>>
+    ensures { IfErr result (λ failure. search_lacks_memory failure ≡ false
+        → HasUnread (H.text_at host.now) (given_paths machine.entry ++ map path_of tests.now) given.now) }
+{
+    let paths = paths_of(host.rt().alloc(), tests, machine)?;
+    match unread_argument(host, given, paths.as_slice()) {
+        Some(argument) => Err(SearchFailure::Unread(argument)),
+        None => Ok(()),
+    }
+}
+
+// Returns the path of the start list that the command line names, if it names one, and those of tests.
+fn paths_of<'a>(
+    alloc: Global,
+    tests: &'a [PlannedTest],
+    machine: Option<&'a str>,
+) -> Result<Vec<&'a str>, AllocError>
+    ensures { IfOk result (λ paths. map (λ path. path.now) paths.items
+        ≡ given_paths machine.entry ++ map path_of tests.now) }
+{
+    let mut paths = named_path(alloc, machine)?;
+    for test in tests {
+        paths.push(test.path())?;
+    }
+    Ok(paths)
+}
+
+// Returns the path of the start list that the command line names, if it names one.
+fn named_path(alloc: Global, machine: Option<&str>) -> Result<Vec<&str>, AllocError>
+    ensures { IfOk result (λ paths. map (λ path. path.now) paths.items ≡ given_paths machine.entry) }
+{
+    match machine {
+        Some(machine) => Ok(vec![in alloc; machine]?),
+        None => Ok(Vec::new(alloc)),
+    }
 }
 
 // Writes the JUnit document if one is asked for, and returns the exit status.
@@ -215,6 +269,7 @@ fn run_all<H: Host>(
         other: &other,
     };
     let trials = run_each(host, tests, conditions, printer, &mut coverings)?;
+    printer.print(rt, options.others.notes(rt)?.as_slice())?;
     coverings.print(rt)?;
     let falls_short = coverings.falls_short(rt, options.settings.form, options.threshold);
     Ok(TestOutcome {
@@ -281,7 +336,13 @@ fn run_test<H: Host>(
 {
     match test {
         PlannedTest::Scenario(path) => test_scenario(host, path.as_str(), conditions, coverings),
-        PlannedTest::Policy(path) => test_policy(host, path.as_str(), conditions.settings),
+        PlannedTest::Policy(path) => test_policy(
+            host,
+            path.as_str(),
+            conditions.asked.strict,
+            conditions.settings,
+        ),
+        PlannedTest::List(path) => test_list(host, path.as_str(), conditions),
     }
 }
 

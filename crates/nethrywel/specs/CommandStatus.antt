@@ -1,5 +1,5 @@
 -- The exit status of each command, and of a command line.
-use Rattle.std.specs.Prelude.{◌≡◌, ℕ, ◌||◌, ◌&&◌, Bool, false, true, List, [], ◌∷◌, codes, is_none, is_some, MatchBool, Option, Some, None, Result, Ok, Err}
+use Rattle.std.specs.Prelude.{◌≡◌, ◌⊎◌, ℕ, ◌||◌, ◌&&◌, Bool, false, true, List, [], ◌∷◌, codes, is_none, is_some, MatchBool, Option, Some, None, Result, Ok, Err}
 use Rattle.std.specs.Borrow.{Bor}
 use Rattle.std.specs.Option.{option_map_or}
 use Rattle.std.specs.Str.{bytes_eq}
@@ -7,7 +7,7 @@ use Rattle.clap.specs.Words.{HasKind, Text, fault_of, kind_of, subcommand_of}
 use Rattle.clap.specs.declared.error.Error.{Error}
 use Rattle.clap.specs.declared.error.kind.ErrorKind.{ErrorKind}
 use Rattle.clap.specs.declared.error.kind.ErrorKind.TheVariants.{DisplayHelp, DisplayVersion, OutOfMemory}
-use Rattle.cli_options.specs.Inputs.{reads_twice}
+use Rattle.cli_options.specs.Inputs.{files_read, reads_twice}
 use Rattle.cli_options.specs.Line.{AsksAs, program}
 use Rattle.cli_options.specs.declared.command.Command.{Command}
 use Rattle.cli_options.specs.declared.command.Command.TheVariants as command
@@ -18,7 +18,7 @@ use Rattle.cli_options.specs.declared.command_options.RunOptions.{RunOptions}
 use Rattle.cli_options.specs.declared.command_options.TestOptions.{TestOptions}
 use Rattle.line_names.specs.NameTable.{nothing}
 use Rattle.cli_base.specs.Statuses.{EndsAs, IsZero}
-use Rattle.cli_base.specs.Given.{given_by_all, names_of, HasNoSetting}
+use Rattle.cli_base.specs.Given.{given_by_all, names_of, HasNoSetting, HasUnread}
 use Rattle.cli_base.specs.declared.settings.Settings.{Settings}
 use Rattle.cli_budgets.specs.BudgetStatus.{BudgetsEnd}
 use Rattle.cli_lists.specs.Comparison.{DiffEnds}
@@ -99,14 +99,14 @@ AnswersBy texts (command.Help topic) settings status = HelpEnds topic status
 
 -- names have the values that arguments give
 abbrev pub AreGiven : List (Bor (List ℕ)) → Settings → Type 0
-AreGiven given settings = names_of settings ≡ given_by_all nothing given
+AreGiven given settings = (names_of settings ≡ given_by_all nothing given) × (settings.given.now ≡ given)
 
--- a request is refused if two of its files are standard input, or an argument gives no name a value; else its command ends so, with
--- the values of names that it gives
+-- a request is refused if two of its files are standard input, an argument gives no name a value, or none of its files reads a name;
+-- else its command ends so, with the values of names that it gives
 abbrev pub AnswersRequest : (List ℕ → Option (List ℕ)) → CommandLine → ℕ → Type 0
 AnswersRequest texts request status =
     MatchBool (reads_twice request.command) (status ≡ 2)
-    (EndsAs (HasNoSetting request.given.items)
+    (EndsAs (HasNoSetting request.given.items ⊎ HasUnread texts (files_read request.command) request.given.items)
     (λ ended. (settings : Settings) × AreGiven request.given.items settings × AnswersBy texts request.command settings ended) status)
 
 -- arguments are refused; or they are read as a request, or as none, or with an error

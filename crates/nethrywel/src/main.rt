@@ -5,14 +5,16 @@
 ghost use Rattle.std.specs.Prelude.{◌≡◌, ◌≢◌, ◌⊎◌, ◌&&◌, ℕ, List, IfSome, is_none, is_some, map, string_bytes};
 ghost use Rattle.std.specs.Process.{exit_status};
 ghost use Rattle.clap.specs.Words.{kind_of};
+ghost use Rattle.cli_base.specs.Given.{HasUnread};
 ghost use Rattle.cli_base.specs.Statuses.{EndsAs, IsZero};
+ghost use Rattle.cli_options.specs.Inputs.{files_read};
 ghost use Rattle.nethrywel.specs.CommandStatus.{AloneAnswers, AnswersBy, AnswersRequest, AnswersWords, DiffAnswers, HelpEnds, Helps, RefusesBy, RunAnswers, TestAnswers, lacks_scenario};
 
 use clap::Error;
 use clap::error::ErrorKind;
 use cli_base::{
-    Coloring, Host, REFUSED, Settings, Spot, UNWRITTEN, names_given, print_refusal, report_error,
-    status_of,
+    Coloring, Host, REFUSED, Settings, Spot, UNWRITTEN, made_or_status, names_given, print_refusal,
+    refuse_unread, report_error, status_of, unread_argument,
 };
 use cli_budgets::print_minimum_budgets;
 use cli_lists::{check_list, compare_lists, show_reach, show_route, show_tree};
@@ -50,7 +52,7 @@ fn answer_arguments<H: Host>(host: &H) -> u8
 {
     match host.arguments() {
         Ok(words) => answer_words(host, words.as_slice()),
-        Err(error) => refuse(host.rt(), &error),
+        Err(error) => refuse(host.rt(), &[], &error),
     }
 }
 
@@ -62,15 +64,15 @@ fn answer_words<H: Host>(host: &H, words: &[String]) -> u8
     match CommandLine::read(rt.alloc(), words) {
         Ok(Some(request)) => answer_request(host, &request),
         Ok(None) => refuse_words(rt, missing_command_error(rt.alloc())),
-        Err(error) => refuse(rt, &error),
+        Err(error) => refuse(rt, words, &error),
     }
 }
 
-// Prints why the command line is refused, or the help that it asks for, and returns the exit status.
-fn refuse(rt: &HostRuntime, error: &Error) -> u8
+// Prints why these arguments are refused, or the help that they ask for, and returns the exit status.
+fn refuse(rt: &HostRuntime, words: &[String], error: &Error) -> u8
     ensures { RefusesBy error.now result }
 {
-    let printed = print_refusal(rt, error);
+    let printed = print_refusal(rt, words, error);
     match error.kind() {
         ErrorKind::DisplayHelp | ErrorKind::DisplayVersion => status_of(rt, printed),
         ErrorKind::OutOfMemory => UNWRITTEN,
@@ -106,7 +108,29 @@ fn answer_request<H: Host>(host: &H, request: &CommandLine<'_>) -> u8
         return REFUSED;
     }
     match names_given(rt, request.given.as_slice(), form) {
-        Ok(known) => answer(host, &request.command, Settings::new(&known, form)),
+        Ok(known) => {
+            let given = request.given.as_slice();
+            answer_named(host, &request.command, Settings::new(&known, given, form))
+        }
+        Err(status) => status,
+    }
+}
+
+// Runs a command, unless no file that the command line names reads a name that it gives a value. Returns the exit status. `test` finds
+// its files by itself.
+fn answer_named<'a, H: Host>(host: &H, command: &'a Command<'a>, settings: Settings<'a>) -> u8
+    ensures { EndsAs (HasUnread (H.text_at host.now) (files_read command.now) settings.entry.given.now)
+        (AnswersBy (H.text_at host.now) command.now settings.entry) result }
+{
+    if let Command::Test(_) = command {
+        return answer(host, command, settings);
+    }
+    let rt = host.rt();
+    match made_or_status(rt, command.paths_read(rt.alloc())) {
+        Ok(paths) => match unread_argument(host, settings.given, paths.as_slice()) {
+            Some(argument) => refuse_unread(rt, settings.form, argument),
+            None => answer(host, command, settings),
+        },
         Err(status) => status,
     }
 }
@@ -149,7 +173,7 @@ fn print_help_of(rt: &HostRuntime, arguments: &[&str]) -> u8
 {
     match CommandLine::read(rt.alloc(), arguments) {
         Ok(_) => 0,
-        Err(error) => refuse(rt, &error),
+        Err(error) => refuse(rt, &[], &error),
     }
 }
 

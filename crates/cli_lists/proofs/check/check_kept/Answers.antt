@@ -10,6 +10,6 @@ pub returns-in-Ok : goal.returns-in-Ok
 returns-in-Ok g c =
     let texts = g.H.Host.text_at c.args.host.now in
     let verdict = c.in-Ok.verdict in
-    ends_by ⊥ ⊥ (λ ended. ended ≡ verdict_status verdict) (EndsVerdict texts c.args.path.now c.args.review.now.list) (λ no. no)
+    ends_by ⊥ ⊥ (λ ended. ended ≡ verdict_status c.args.strict verdict) (EndsVerdict texts c.args.strict c.args.path.now c.args.review.now.list) (λ no. no)
     (λ ended is. (verdict, subst (λ (l : Listed). IsVerdictAt texts c.args.path.now l verdict) c.list.ensures c.in-Ok.ensures, is))
     c.print_ok.result c.print_ok.ensures

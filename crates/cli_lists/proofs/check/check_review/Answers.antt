@@ -18,7 +18,7 @@ returns-in-Some g c =
     let review = c.args.review.now in
     let kept : is_refused asked.strict review ≡ false =
     sym (c.if-is_refused.ensures ∙ ap (λ (fs : List Finding). asked.strict && nat_lt 0 (length fs)) c.findings.ensures) in
-    ends_by ⊥ (HasRefused asked review) (EndsVerdict texts c.in-Some.policy.now review.list) (EndsKept texts asked review) (λ no. absurd no)
+    ends_by ⊥ (HasRefused asked review) (EndsVerdict texts asked.strict c.in-Some.policy.now review.list) (EndsKept texts asked review) (λ no. absurd no)
     (λ ended verdict. (kept, rw c.in-Some.is verdict)) c.check_kept.result c.check_kept.ensures
 
 pub returns-in-None : goal.returns-in-None

@@ -1,4 +1,4 @@
--- By the review of the list after.
+-- By the list after.
 use Rattle.std.proofs.Common.{inl, inr}
 use Rattle.cli_base.specs.Files.{HasNoBoot}
 use Rattle.cli_lists.specs.ComparedRuns.{HasFaultIn}
@@ -12,10 +12,10 @@ returns-in-Ok g c =
     let asked = c.args.asked.now in
     let before = c.args.before.now in
     let after = c.in-Ok.after in
-    ends_more (PairRefused texts asked after.list) (AfterRefused texts asked c.args.settings) (OfScenarios (HasFaultIn texts c.args.settings) asked)
-    (PairDiffers texts asked c.args.settings before after.list) (AfterDiffers texts asked c.args.settings before)
-    (λ refused. inr (after, c.in-Ok.ensures.reviewed, refused)) (λ changed differ. (after, c.in-Ok.ensures.reviewed, differ))
-    c.compare_both.result (rw c.list.ensures at c.compare_both.ensures)
+    ends_more (PairRefused texts asked after) (AfterRefused texts asked c.args.settings) (OfScenarios (HasFaultIn texts c.args.settings) asked)
+    (PairDiffers texts asked c.args.settings before after) (AfterDiffers texts asked c.args.settings before)
+    (λ refused. inr (after, c.in-Ok.ensures.read, refused)) (λ changed differ. (after, c.in-Ok.ensures.read, differ))
+    c.compare_both.result c.compare_both.ensures
 
 pub returns-in-Err : goal.returns-in-Err
 returns-in-Err g c =

@@ -1,4 +1,4 @@
--- By the reviews of both lists.
+-- By both lists.
 use Rattle.std.proofs.Common.{inl, inr}
 use Rattle.cli_base.specs.Files.{HasNoBoot}
 use Rattle.cli_lists.specs.ComparedRuns.{HasFaultIn}
@@ -11,9 +11,9 @@ returns-in-Ok g c =
     let texts = g.H.Host.text_at c.args.host.now in
     let asked = c.args.asked.now in
     ends_more (AfterRefused texts asked c.args.settings) (DiffRefused texts asked c.args.settings)
-    (OfScenarios (HasFaultIn texts c.args.settings) asked) (AfterDiffers texts asked c.args.settings c.in-Ok.before.list)
+    (OfScenarios (HasFaultIn texts c.args.settings) asked) (AfterDiffers texts asked c.args.settings c.in-Ok.before)
     (ListsDiffer texts asked c.args.settings) (λ refused. inr refused)
-    (λ changed differ. (c.in-Ok.before, c.in-Ok.ensures.reviewed, differ)) c.compare_before.result (rw c.list.ensures at c.compare_before.ensures)
+    (λ changed differ. (c.in-Ok.before, c.in-Ok.ensures.read, differ)) c.compare_before.result c.compare_before.ensures
 
 pub returns-in-Err : goal.returns-in-Err
 returns-in-Err g c =

@@ -1,12 +1,11 @@
 -- The scenario is read and unfolded, and then run on the list after.
-use Rattle.std.proofs.Common.{Bool}
 use Rattle.line_rounds.specs.Unfolding.{UnfoldedText}
 use Rattle.line_rounds.specs.Views.{whole_view}
 use Rattle.std.proofs.lemmas.Result.{err_from_is_err_and}
 use Rattle.cli_base.specs.Files.{IsUnknown}
 use Rattle.cli_base.specs.Unfolding.{HasRoundsFault}
 use Rattle.cli_lists.specs.ComparedRuns.{AreLinesAt, HasFaultAt}
-use Rattle.cli_lists.specs.Comparison.{LinesDiffer}
+use Rattle.cli_lists.specs.Comparison.{Compared, LinesDiffer}
 use Rattle.cli_lists.proofs.ChangeLemmas.{fault_at_path, fault_stops, lines_at, ok_as, one_stops, refusal_stops}
 use Rattle.cli_lists.proofs.diff.compare_other.Goals as goal
 
@@ -37,7 +36,7 @@ returns-clause-ended g c =
     let lines = whole_view c.in_ok-lines.lines in
     let was = whole_view c.args.was.lines.now in
     ok_as (LinesDiffer c.args.settings c.args.was.file.list.now was c.args.pair.lists.after.list.now lines c.args.pair.breaches.now)
-    (λ (changed : Bool). (now : UnfoldedText) × AreLinesAt texts c.args.settings path now
+    (λ (changed : Compared). (now : UnfoldedText) × AreLinesAt texts c.args.settings path now
     × LinesDiffer c.args.settings c.args.was.file.list.now was c.args.pair.lists.after.list.now now c.args.pair.breaches.now changed)
     (λ b differ. (
       lines,

@@ -1,17 +1,17 @@
--- By the review of the list.
-use Rattle.list_review.specs.declared.review.Review.{Review}
-use Rattle.cli_lists.specs.ListStatus.{EndsNamed, NamesNone}
-use Rattle.cli_lists.proofs.ReviewLemmas.{on_list, unreviewed}
+-- By the list of the file.
+use Rattle.own_model.specs.Listed.{Listed}
+use Rattle.cli_lists.specs.ListStatus.{EndsNamed, IsListOf, NamesNone}
+use Rattle.cli_lists.proofs.ReviewLemmas.{not_booted, on_read}
 use Rattle.cli_lists.proofs.reach_command.show_reach.Goals as goal
 
 pub returns-in-Ok : goal.returns-in-Ok
 returns-in-Ok g c =
     let asked = c.args.asked.now in
-    on_list (g.H.Host.text_at c.args.host.now) c.args.settings asked.list.now (NamesNone asked) (EndsNamed asked) c.in-Ok.review c.list.result.now
-    c.reach_in.result c.in-Ok.ensures.reviewed c.list.ensures c.reach_in.ensures
+    on_read (g.H.Host.text_at c.args.host.now) c.args.settings asked.list.now Listed IsListOf (NamesNone asked) (EndsNamed asked) c.in-Ok.list
+    c.reach_in.result c.in-Ok.ensures.read c.reach_in.ensures
 
 pub returns-in-Err : goal.returns-in-Err
 returns-in-Err g c =
     let asked = c.args.asked.now in
-    unreviewed (g.H.Host.text_at c.args.host.now) c.args.settings asked.list.now (λ (review : Review). NamesNone asked review.list)
-    (λ (review : Review). EndsNamed asked review.list) c.in-Err.status c.in-Err.ensures.failed
+    not_booted (g.H.Host.text_at c.args.host.now) c.args.settings asked.list.now Listed IsListOf (NamesNone asked) (EndsNamed asked)
+    c.in-Err.status c.in-Err.ensures.failed

@@ -1,17 +1,19 @@
 -- The review of the text of the file.
+use Rattle.list_review.specs.declared.review.Review.{Review}
 use Rattle.cli_base.specs.Files.{HasNoBoot, HasNoList}
-use Rattle.cli_lists.proofs.ReviewLemmas.{no_list_boots, no_review_at, refused_as, review_at}
+use Rattle.cli_lists.specs.ListStatus.{IsReviewOf}
+use Rattle.cli_lists.proofs.ReviewLemmas.{no_list_boots, not_read_at, read_at, refused_as}
 use Rattle.cli_lists.proofs.review.review.Goals as goal
 
 pub returns-in-Ok-clause-reviewed : goal.returns-in-Ok-clause-reviewed
 returns-in-Ok-clause-reviewed g c =
-    review_at (g.H.Host.text_at c.args.host.now) c.args.settings c.args.path.now c.in-Ok.text.items c.as_slice.result.now c.review_of.result
-    c.in-Ok.ensures.text c.as_slice.ensures.value c.review_of.ensures.reviewed
+    read_at (g.H.Host.text_at c.args.host.now) c.args.settings c.args.path.now Review IsReviewOf c.in-Ok.text.items c.as_slice.result.now
+    c.review_of.result c.in-Ok.ensures.text c.as_slice.ensures.value c.review_of.ensures.reviewed
 
 pub returns-in-Ok-clause-failed : goal.returns-in-Ok-clause-failed
 returns-in-Ok-clause-failed g c =
-    no_review_at (g.H.Host.text_at c.args.host.now) c.args.settings c.args.path.now c.in-Ok.text.items c.as_slice.result.now c.review_of.result
-    c.in-Ok.ensures.text c.as_slice.ensures.value c.review_of.ensures.failed
+    not_read_at (g.H.Host.text_at c.args.host.now) c.args.settings c.args.path.now Review c.in-Ok.text.items c.as_slice.result.now
+    c.review_of.result c.in-Ok.ensures.text c.as_slice.ensures.value c.review_of.ensures.failed
 
 pub returns-in-Err-clause-failed : goal.returns-in-Err-clause-failed
 returns-in-Err-clause-failed g c =

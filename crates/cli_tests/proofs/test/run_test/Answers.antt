@@ -1,6 +1,6 @@
 -- By the test's file.
 use Rattle.std.proofs.Common.{IfOk, List, option_copied, subst, ℕ}
-use Rattle.cli_tests.specs.PolicyTest.{IsPolicyResult}
+use Rattle.cli_tests.specs.PolicyTest.{IsCheckResult, IsPolicyResult}
 use Rattle.cli_tests.specs.ScenarioTest.{IsScenarioResult}
 use Rattle.cli_tests.proofs.test.run_test.Goals as goal
 
@@ -11,7 +11,7 @@ returns-in-Scenario g c =
     rw c.in-Scenario.is
     (subst
     (λ (path : List ℕ). IfOk c.test_scenario.result
-    (λ trial. IsScenarioResult texts asked.strict c.args.conditions.settings (option_copied asked.machine) path trial.passed))
+    (λ trial. IsScenarioResult texts c.args.conditions.settings (option_copied asked.machine) path trial.passed))
     c.as_str.ensures.value c.test_scenario.ensures)
 
 pub returns-in-Policy : goal.returns-in-Policy
@@ -19,5 +19,13 @@ returns-in-Policy g c =
     rw c.in-Policy.is
     (subst
     (λ (path : List ℕ). IfOk c.test_policy.result
-    (λ trial. IsPolicyResult (g.H.Host.text_at c.args.host.now) c.args.conditions.settings path trial.passed))
+    (λ trial. IsPolicyResult (g.H.Host.text_at c.args.host.now) c.args.conditions.asked.now.strict c.args.conditions.settings path trial.passed))
     c.as_str-in-Policy.ensures.value c.test_policy.ensures)
+
+pub returns-in-List : goal.returns-in-List
+returns-in-List g c =
+    rw c.in-List.is
+    (subst
+    (λ (path : List ℕ). IfOk c.test_list.result
+    (λ trial. IsCheckResult (g.H.Host.text_at c.args.host.now) c.args.conditions.settings path trial.passed))
+    c.as_str-in-List.ensures.value c.test_list.ensures)

@@ -13,7 +13,7 @@ returns-in-Ok-tests_at g c =
     c.in-Ok-tests_at.tests.items c.as_slice.result.now c.as_slice.ensures.value c.in-Ok-tests_at.ensures.selected c.in-Ok-tests_at.ensures.some
     c.in-Ok.ensures.ok c.run_selected.ensures
 
-pub returns-in-Err-tests_at : goal.returns-in-Err-tests_at
-returns-in-Err-tests_at g c =
+pub returns : goal.returns
+returns g c =
     search_ends (g.H.Host.text_at c.args.host.now) c.args.asked.now c.args.settings c.report.result
     (search_lacks_memory c.in-Err-tests_at.failure) c.report.ensures c.in-Err-tests_at.ensures.failed

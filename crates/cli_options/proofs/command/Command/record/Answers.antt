@@ -11,6 +11,5 @@ returns c = (
   c.is_set.ensures,
   c.is_set-2.ensures,
   c.is_set-3.ensures,
-  c.is_set-4.ensures,
   c.path.ensures,
 )

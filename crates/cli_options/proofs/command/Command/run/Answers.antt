@@ -11,8 +11,7 @@ returns c = (
   c.get_str-2.ensures ∙ first_value-rows (found_of c.args.found.now) (codes "only"),
   c.is_set.ensures,
   c.is_set-2.ensures,
-  c.is_set-3.ensures,
   c.colored.ensures,
-  c.is_set-4.ensures,
+  c.is_set-3.ensures,
   c.path.ensures,
 )
