@@ -92,13 +92,14 @@ def drawn_route(draw, parent, tag, within):
 
 
 def drawn_config(draw, parent, depth):
-    """Fills a node `config`, and returns the names of its components."""
-    names = []
-    provided = XML.SubElement(parent, "parent-provides")
+    """Fills a node `config`, some elements of which are given twice, and returns the names of its components."""
+    names, times = [], lambda: range(draw.choice((1, 1, 1, 1, 2)))
+    provided = [XML.SubElement(parent, "parent-provides") for _ in times()]
     for service in SERVICES:
         if draw.random() < 0.5:
-            XML.SubElement(provided, "service", name=service)
-    XML.SubElement(parent, "alias", name="other", child=draw.choice(NAMES))
+            XML.SubElement(draw.choice(provided), "service", name=service)
+    for _ in times():
+        XML.SubElement(parent, "alias", name="other", child=draw.choice(NAMES))
     for name in draw.sample(("alice", "bob", "gui", "log", "files", "sub"), draw.randrange(2, 7)):
         start = XML.SubElement(parent, "start", name=name, caps="1", ram="4K")
         names.append(name)
@@ -110,10 +111,11 @@ def drawn_config(draw, parent, depth):
         else:
             within = []
             own = {"log": ["LOG"], "files": ["File_system"], "gui": ["Gui"]}
-            provides_of = XML.SubElement(start, "provides")
+            provides_of = [XML.SubElement(start, "provides") for _ in times()]
             for service in own.get(name) or draw.sample(SERVICES, draw.choice((0, 0, 0, 1, 2))):
-                XML.SubElement(provides_of, "service", name=service)
-        if draw.random() < 0.5:
+                XML.SubElement(draw.choice(provides_of), "service", name=service)
+        for _ in times() if draw.random() < 0.5 else ():
             drawn_route(draw, start, "route", within)
-    drawn_route(draw, parent, "default-route", [])
+    for _ in times():
+        drawn_route(draw, parent, "default-route", [])
     return names

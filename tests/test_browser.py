@@ -50,7 +50,7 @@ def opened(page, path):
 SHOWN = {
     "strange": lambda page, _: SCRIPT in page.text(),
     "long": lambda page, took: "lines are shown, and" in page.text() and took < 20,
-    "none": lambda page, _: any("no budget serves: even the largest" in it for it in page.texts("#verdict .bad")),
+    "none": lambda page, _: any("no budget suffices: even the largest" in it for it in page.texts("#verdict .bad")),
     "tenants": lambda page, _: any("acme/batch: given 48K and 10: " in it for it in page.texts("#verdict .bad"))
     and page.texts("#policy-kept") == ["✓ the policy is kept"],
     "crawler": lambda page, _: page.call("isSplit"),

@@ -1,8 +1,9 @@
 """The cases of cases/, and the examples: both programs and the tools print what the files say."""
 import re
+import subprocess
 
 import pytest
-from commands import CASES, ENGINE_CASES, EXAMPLES, PYTHON, TOP, Program, machine_of, run, tool
+from commands import CASES, ENGINE_CASES, EXAMPLES, PYTHON, TOP, Program, environment, machine_of, run, tool
 
 KINDS = (".stdout", ".args", ".status", ".stderr")
 FOLDERS = [it for root in ("engine", "nethrywel", "tools") for it in sorted((CASES / root).iterdir()) if it.is_dir()]
@@ -26,13 +27,13 @@ def cases():
     return [pytest.param(folder / name, marks=[pytest.mark.slow] * (name in SLOW)) for folder, name in found]
 
 
-def check(program, case):
+def check(program, case, **options):
     """Compares what a program prints for a case with the case's files."""
     files = {kind: case.with_name(case.name + kind) for kind in KINDS}
     parts = {kind: path.read_bytes() if path.exists() else b"" for kind, path in files.items()}
     args = parts[".args"].removesuffix(b"\n")
     with case.open("rb") as stdin:
-        ran = run(program.path, *(args.split(b"\n") if args else ()), stdin=stdin, cwd=case.parent)
+        ran = run(program.path, *(args.split(b"\n") if args else ()), stdin=stdin, cwd=case.parent, **options)
     assert ran == (int(parts[".status"] or 0), *(parts[it].decode(errors="surrogateescape") for it in (".stdout", ".stderr")))
 
 
@@ -41,6 +42,19 @@ def test_case(request, case):
     """The first folder of a case is its program, or has folders of the tools' names."""
     of = case.relative_to(CASES).parts[0]
     check(tool(f"tools/{case.parent.name}") if of == "tools" else request.getfixturevalue(of), case)
+
+
+@pytest.mark.slow
+@pytest.mark.parametrize("size", [1, 7])
+def test_pieces(engine, tmp_path, size):
+    """Each case of the engine prints the same if each read takes at most this number of bytes (pieces.c). If none takes any, the
+    input is empty."""
+    library = tmp_path / "pieces.so"
+    subprocess.run(["cc", "-O1", "-shared", "-fPIC", "-o", library, TOP / "tests/pieces.c"], check=True)
+    assert engine(stdin="alice quota\n", env=environment(LD_PRELOAD=library, PIECES=0)) == (0, "", "")
+    for folder in FOLDERS:
+        for name in names_in(folder) if folder.parent == ENGINE_CASES else ():
+            check(engine, folder / name, env=environment(LD_PRELOAD=library, PIECES=size))
 
 
 def test_second_build(engine, tmp_path):
@@ -127,8 +141,8 @@ def test_shown(nethrywel, file):
 
 
 @pytest.mark.slow
-@pytest.mark.parametrize("script, count", [("reach", 100), ("needs", 50), ("least", 20)])
+@pytest.mark.parametrize("script, count", [("reach", 100), ("policies", 100), ("needs", 50), ("least", 20)])
 def test_budgets_and_routes(nethrywel, script, count):
-    """bench/reach.py, bench/needs.py and bench/least.py compare reach, needs and least with many runs of drawn lists and
-    scenarios."""
+    """bench/reach.py, bench/policies.py, bench/needs.py and bench/least.py compare reach, policies, needs and least with second
+    readings, or many runs, of drawn lists and scenarios."""
     run(PYTHON, TOP / f"bench/{script}.py", nethrywel.path, str(count), timeout=900).ok()

@@ -98,7 +98,7 @@ def test_edits(client):
     client.expect(200, "ram 0/65536 caps 0/16", "/run", SMALL)
     edit = client.read("/run", {**SMALL, "scenario": "alice alloc 4K\n"})["edit"]
     client.expect(200, "ram from 4K, caps from 1", "/rest", {"edit": edit, "what": "least"})
-    client.expect(200, "1 lines of alice: the same alone", "/rest", {"edit": edit, "what": "alone"})
+    client.expect(200, "1 line of alice: the same alone", "/rest", {"edit": edit, "what": "alone"})
     client.expect(409, "a later edit", "/rest", {"edit": edit - 1, "what": "least"})
 
 

@@ -1,4 +1,4 @@
-"""A line with a misspelt component, request or kind is never a passed test, whatever it expects."""
+"""A line with a misspelt component, service, key, request or kind is never a passed test, whatever it expects."""
 import string
 
 from commands import CASES
@@ -8,6 +8,7 @@ from hypothesis import strategies as st
 MACHINE = ("--machine", CASES / "nethrywel/declared/files/windows.json")
 OPENED = "gina open Gui ram_quota=32K, cap_quota=5 => cap 1\n"
 SCRIPTS, KINDS = ("gina", "hugo"), ("view", "surface")
+SERVICES, KEYS = ("Gui", "LOG"), ("ram_quota", "cap_quota", "label")
 REQUESTS = "MAKE RESIZE DROP COUNT NAME STAT BUFFER UNBUFFER".split()
 # Lines that pass: what is before a name, the name, what is after it, and the other names that could be there.
 LINES = (
@@ -17,8 +18,16 @@ LINES = (
     ("gina call 1 ", "MAKE", " view main", REQUESTS),
     ("gina call 1 MAKE ", "view", " main", KINDS),
     ("gina call 1 COUNT ", "surface", "", KINDS),
+    ("hugo open ", "LOG", " ram_quota=4K, cap_quota=2", SERVICES),
+    ("gina open ", "Gui", "", SERVICES),
+    ("hugo open LOG ", "ram_quota", "=4K, cap_quota=2", KEYS),
+    ('hugo open LOG ram_quota=4K, cap_quota=2, ', "label", '="a, b=1"', KEYS),
+    ("gina upgrade 1 ", "cap_quota", "=1, ram_quota=1", KEYS),
+    ("gina upgrade 7 ", "ram_quota", "=4K", KEYS),
+    ("gina request ", "ram_quota", "=4K", KEYS),
+    ("gina yield ram_quota=4K, ", "cap_quota", "=1", KEYS),
 )
-EXPECTED = ("", " => granted", " => refused", " => *", " => ERR *", " => $reply", " => Gone")
+EXPECTED = ("", " => granted", " => refused", " => *", " => ERR *", " => $reply", " => Gone", " => ok", " => Service_denied")
 
 
 @st.composite

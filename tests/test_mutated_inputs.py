@@ -6,6 +6,7 @@ import csv
 import importlib.machinery
 import importlib.util
 import io
+import itertools
 import json
 import random
 import re
@@ -19,6 +20,7 @@ import start_list_reading
 from commands import CASES, COMMANDS, EXAMPLES, TOP, forms_of, needs
 from hypothesis import settings
 from nethrywel_tools.command_line import Fault
+from nethrywel_tools.page_data import PageData
 
 pytestmark = pytest.mark.slow
 # How often a command is run; ten times as often with --random.
@@ -137,6 +139,24 @@ def test_command(request, tmp_path, command):
             well_formed(command, words, ran)
         except (AssertionError, ValueError, csv.Error) as fault:
             raise AssertionError(shown) from fault
+
+
+def test_page(nethrywel, tmp_path):
+    """Report and desk show something of any list, policy and scenario."""
+    booted = 0
+    for draw in itertools.islice(rounds("page"), 0, None, 8):
+        texts = {"list.json": draw.choice((mutated(draw, "json"), draw.choice(SEEDS["json"]))), "before.json": mutated(draw, "json")}
+        texts |= {it: mutated(draw, it) for it in ("policy", "scenario")}
+        for name, text in texts.items():
+            (tmp_path / name).write_bytes(text)
+        machine, policy, scenario = (texts[it].decode(errors="replace") for it in ("list.json", "policy", "scenario"))
+        given = draw.choice(((None, None), (machine, None), (machine, policy)))
+        data = PageData(lambda words: tuple(nethrywel(*words, cwd=tmp_path, timeout=120)), *given, scenario)
+        found = [data.first(), data.diff("before.json")]
+        found += [data.least(), data.alone(), data.routes(found[0]["reach"])] if found[0]["boots"] else []
+        assert json.dumps(found) and (data.missing == {} or re.search(FAULTS, str(data.missing))), (texts, data.missing)
+        booted += found[0]["boots"]
+    assert booted > ROUNDS // 80
 
 
 @needs("defusedxml")

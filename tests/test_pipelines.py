@@ -29,7 +29,7 @@ def test_junit(nethrywel, tmp_path):
     assert all(re.fullmatch(r"\d+\.\d{3}", it) for it in times)
     assert Decimal(times[0]) == sum(Decimal(it) for it in times[1:])
     faults = [it[2:] for it in ran.out.splitlines() if it.startswith(f"# {name}:")]
-    assert len(faults) == 3 and tests[2].get("name") == name
+    assert len(faults) == 4 and " note: " in faults[3] and tests[2].get("name") == name
     assert (failures[0].get("message"), failures[0].text.strip().splitlines()) == (faults[0], faults)
 
 
@@ -113,8 +113,8 @@ def ram_of(text):
 def figures_of(it):
     """Returns what a document of `accounts --json` has for the columns of the table."""
     if it["kind"] in ("reserve", "total"):
-        return [None, None, it["ram"], None, None, it["caps"]]
-    return [it.get(f"{kind}_{part}") for kind in ("ram", "caps") for part in ("used", "peak", "limit")]
+        return [None, None, None, it["ram"], None, None, None, it["caps"]]
+    return [it.get(f"{kind}_{part}") for kind in ("ram", "caps") for part in ("used", "peak", "need", "limit")]
 
 
 def title_of(it):
@@ -131,12 +131,12 @@ def test_accounts_table(nethrywel, words):
     equally long."""
     found = documents(nethrywel, "accounts", *words)
     lines = nethrywel("accounts", *words).ok().splitlines()
-    rows = [re.fullmatch(r"(.*?) +(\S+) +(\S+) +(\S+) +(\S+) +(\S+) +(\S+)", it).groups() for it in lines[1:]]
+    rows = [re.fullmatch(r"(.*?)" + r" +(\S+)" * 8, it).groups() for it in lines[1:]]
     assert {len(it) for it in lines} == {len(lines[0])} and all(not it.endswith(" ") for it in lines)
     owners = [it for it in found if it["kind"] in ("account", "total")]
     parts = [one for kind in ("reserve", "session") for one in found if one["kind"] == kind]
     wanted = [one for it in owners for one in (it, *(part for part in parts if part["name"] == it.get("name")))]
-    shown = [(name, *map(ram_of, row[:3]), *(None if it == "-" else int(it) for it in row[3:])) for name, *row in rows]
+    shown = [(name, *map(ram_of, row[:4]), *(None if it == "-" else int(it) for it in row[4:])) for name, *row in rows]
     assert shown == [(title_of(it), *figures_of(it)) for it in wanted]
 
 

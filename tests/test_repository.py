@@ -3,16 +3,15 @@ import re
 import shutil
 
 import pytest
-from commands import CASES, EXAMPLES, PAGES, PYTHON, TOP, environment, needs, on_terminal, run, script, tool
-from test_pictures import CALL
+from commands import COMMANDS, EXAMPLES, PAGES, PYTHON, TOP, environment, needs, on_terminal, run, script, tool
 from test_sweep import small
 
 # Tools that take no argument, or only names that are known.
-CLOSED = [*(f"dev/{it}" for it in "attack check-documents crate-graph schema setup steps theorems tour".split()), "tools/sweep"]
+CLOSED = [*(f"dev/{it}" for it in "attack check-documents crate-graph setup steps theorems tour".split()), "tools/sweep"]
 TOOLS = [*CLOSED, *(f"dev/{it}" for it in ("package", "pictures")),
-         *(f"tools/{it}" for it in ("desk", "from-genode", "graph", "install", "picture", "report")),
+         *(f"tools/{it}" for it in ("desk", "from-genode", "install", "report")),
          "tests/run", "examples/statuses", "examples/compare", "bench/measure",
-         *(f"bench/{it}" for it in "browse declared.py generate.py least.py needs.py profile reach.py reach_worst.py release.py".split())]
+         *(f"bench/{it}" for it in "declared.py generate.py least.py needs.py policies.py profile reach.py reach_worst.py".split())]
 NOTES = "friendly/notes.scenario"
 
 
@@ -22,7 +21,12 @@ def documents():
 
 @pytest.mark.parametrize("name", TOOLS)
 def test_help(name):
-    assert name.split("/")[-1] in tool(name)("--help").ok().lower()
+    """A help has what the tool does, then its usage, its arguments and its options. One that can't be written is reported."""
+    parts = rf"(?!Usage)[A-Z].*(\n.*)*?\n\nUsage: {name}( .*)?\n(\nArguments:\n( .*\n)+)?(\nOptions:\n( .*\n)+)?"
+    assert re.fullmatch(parts, tool(name)("--help").ok())
+    with open("/dev/full", "w") as full:
+        ran = tool(name)("--help", stdout=full)
+    assert ran.status == 1 and re.fullmatch(r"[\w.-]+: .*standard output.*\n", ran.err), ran
 
 
 @pytest.mark.parametrize("name, word", [*((name, "--frob") for name in TOOLS), *((name, "frob") for name in CLOSED)])
@@ -42,33 +46,36 @@ def test_nethrywel_tool(nethrywel):
     assert tool("tools/nethrywel")("check", "/missing").status == 2
 
 
-@needs(*PAGES, "matplotlib")
-@pytest.mark.parametrize("name, package", [("report", "jinja2"), ("report", "tqdm"), ("desk", "jinja2"),
-                                           ("desk", "waitress"), ("picture", "matplotlib"), ("picture", "tqdm")])
+@needs(*PAGES)
+@pytest.mark.parametrize("name, package", [("report", "jinja2"), ("report", "tqdm"), ("desk", "jinja2"), ("desk", "waitress")])
 def test_missing_package(tmp_path, name, package):
     """Without a package a tool says what to do, and writes nothing."""
     (tmp_path / f"{package}.py").write_text("raise ModuleNotFoundError(name=__name__)\n")
-    words = {"desk": [NOTES], "picture": [], "report": ["-o", tmp_path / "page.html", NOTES]}
-    ran = tool(f"tools/{name}")(*words[name], stdin=CALL, env=environment(PYTHONPATH=tmp_path))
+    words = {"desk": [NOTES], "report": ["-o", tmp_path / "page.html", NOTES]}
+    ran = tool(f"tools/{name}")(*words[name], env=environment(PYTHONPATH=tmp_path))
     assert ran == (1, "", f"{name}: python3-{package} isn't here; run dev/setup\n")
     assert not (tmp_path / "page.html").exists()
 
 
-@needs(*PAGES, "matplotlib", "parallel")
-@pytest.mark.parametrize("name, shown", [("report", r"report: 00:0\d, nethrywel trace --json scenario"),
-                                         ("picture", r"picture: 00:0\d, 1 lines, drawing"), ("sweep", "100%")],
-                         ids=["report", "picture", "sweep"])
+@needs(*PAGES, "parallel")
+@pytest.mark.parametrize("name, shown", [("report", r"report: 00:0\d, nethrywel trace --json scenario"), ("sweep", "100%")],
+                         ids=["report", "sweep"])
 def test_progress(nethrywel, tmp_path, name, shown):
     """A tool shows its progress on a terminal, whose line is empty at the end, and nothing elsewhere."""
     script(tmp_path / "nethrywel", f'sleep 0.7\nexec "{nethrywel.path}" "$@"')
-    (tmp_path / "trace").write_text(CALL)
-    words = {"report": [NOTES, "--seconds", "600", "-o", tmp_path / "page.html"], "picture": [tmp_path / "trace"]}
+    words = {"report": [NOTES, "--seconds", "600", "-o", tmp_path / "page.html"]}
     settings = {"cwd": EXAMPLES, "env": environment(PROGRAMS=tmp_path)}
     ran, seen = (of(TOP / "tools" / name, *words.get(name, small(tmp_path, tmp_path / of.__name__)), **settings)
                  for of in (run, on_terminal))
     assert (ran.status, ran.err, seen.status) == (0, "", 0) and (ran.out == "") == (name == "report")
     assert any(re.search(shown, it) for it in seen.err.split("\r"))
     assert name == "sweep" or seen.out == ran.out and seen.err.split("\r")[-2].strip() == seen.err.split("\r")[-1] == ""
+
+
+def test_commands(nethrywel):
+    """The tests that try each command know all of them."""
+    listed = nethrywel("--help").out.split("\nCommands:\n")[1].split("\n\n")[0]
+    assert re.findall(r"^  (\w+)", listed, re.M) == [*COMMANDS, "help"]
 
 
 def test_version(nethrywel):
@@ -138,18 +145,11 @@ def test_first_proof(tmp_path):
     assert ran.status == 0 and "\nfn view_test_report::test_result::passes: proved\n" in ran.out + ran.err
 
 
-@needs("jsonschema")
-def test_schema(nethrywel):
-    """The schema of start lists and the program agree on all start lists of the repository."""
-    lists = [it for folder in (EXAMPLES, CASES, TOP / "bench") for it in sorted(folder.rglob("*.json"))]
-    tool("dev/schema")(nethrywel.path, *lists).ok()
-
-
-COMMANDS = [it.relative_to(TOP).as_posix() for it, text in documents().items() if b"\n```console\n" in text]
+CONSOLES = [it.relative_to(TOP).as_posix() for it, text in documents().items() if b"\n```console\n" in text]
 
 
 @pytest.mark.slow
-@pytest.mark.parametrize("page", [*COMMANDS, "examples/ci"])
+@pytest.mark.parametrize("page", [*CONSOLES, "examples/ci"])
 def test_commands_of_page(page):
     """The commands of a page print what the page shows, and the jobs of examples/ci pass."""
     ran = tool("dev/tour")("--check", page)
@@ -159,11 +159,11 @@ def test_commands_of_page(page):
 
 
 @pytest.mark.slow
-@needs("matplotlib", "dot", "chromium", "chromedriver", "selenium")
+@needs("dot", "chromium", "chromedriver", "selenium")
 def test_pictures(tmp_path):
     """The pictures of the documents are drawn again, each whole."""
     tool("dev/pictures")(tmp_path).ok()
-    assert sorted(it.name for it in tmp_path.iterdir()) == ["crawler.svg", "desk.png", "labels.svg", "machine.svg", "theorem.svg"]
+    assert sorted(it.name for it in tmp_path.iterdir()) == ["desk.png", "labels.svg", "machine.svg", "theorem.svg"]
     for name in ("labels.svg", "machine.svg", "theorem.svg"):
         assert (tmp_path / name).read_text() == (EXAMPLES / "pictures" / name).read_text()
     assert "PNG image data, 1500 x 1187" in run("file", tmp_path / "desk.png").out

@@ -1,9 +1,11 @@
 """tools/sweep: its table, its map, and sweeps that are killed, planned, run on other hosts, or refused."""
 import csv
+import re
 import shutil
 import subprocess
 import time
 from pathlib import Path
+from xml.etree import ElementTree
 
 import pytest
 from commands import EXAMPLES, environment, limited, needs, run, swept_scenario, tool
@@ -48,10 +50,19 @@ def test_table(table):
     assert failed[3] == "3" and failed[4].isdigit() and failed[5].startswith("expected `")
 
 
-@pytest.mark.slow
-@needs("matplotlib")
-def test_map(table):
-    assert "<svg" in tool("tools/picture")("--heat", "Q", "C", stdin=table).ok()
+def test_map(tmp_path):
+    """A cell is green if all points with its values have status 0, and else red and crossed; adjacent ones are one rectangle."""
+    scenario, out = tmp_path / "it.scenario", tmp_path / "out"
+    scenario.write_text("reader quota => ram 0/$Q caps 0/16\nreader alloc $A => granted\n# $N\n")
+    axes = [it for axis in ("Q=98304,98305", "A=64K..128K:32K", "N=a<b,c") for it in ("--set", axis)]
+    words = ["--machine", CRAWLER, "--scenario", scenario, *axes, "--out", out, "run"]
+    assert SWEEP(*words[:-1], "--map", "A", "Q", "run").ok() == f"12 points: 4 hold, 8 don't ({out}/points.csv)\n"
+    drawn = (out / "map.svg").read_text()
+    cells = {name: [(int(y), int(width) // 28) for y, width in re.findall(r"M\d+ (\d+)h(\d+)v28", path)]
+             for path, name in re.findall(r'<path d="([^"]*)" fill="url\(#(\w+)\)"', drawn)}
+    assert cells == {"good": [(28, 2)], "bad": [(0, 3), (28, 1)]}
+    assert SWEEP(*words[:-1], "--map", "N", "A", "run").status == 0 and ">a&lt;b</text>" in (out / "map.svg").read_text()
+    ElementTree.parse(out / "map.svg")
 
 
 @pytest.mark.slow
@@ -127,6 +138,16 @@ def test_rows_that_are_cut_off(nethrywel, tmp_path):
     other.chmod(0o755)
     ran = SWEEP(*words, env=environment(PROGRAMS=other.parent))
     assert ran.status == 2 and "another build of nethrywel" in ran.err
+
+
+@pytest.mark.parametrize("text, words, row", [
+    ("@repeat $D\n", ["accounts"], "3,1,`@repeat` without `@end`"), ("@repeat $D\n", ["least"], "3,1,`@repeat` without `@end`"),
+    ("reader quota # $D\n", ["accounts", "--help"], "0,,"), ("reader quota # $D\n", ["check", "--help"], "0,,")], ids=str)
+def test_nothing_is_run(tmp_path, text, words, row):
+    """A point whose scenario isn't run, or that prints something else, is a row without needs."""
+    (tmp_path / "it.scenario").write_text(text)
+    given = ["--machine", CRAWLER, "--scenario", tmp_path / "it.scenario", "--set", "D=1", "--out", tmp_path / "out"]
+    assert table_of(tmp_path / "out", [*given, *words]).startswith(f"D,status,line,complaint\n1,{row}")
 
 
 def test_trillion_points(tmp_path):

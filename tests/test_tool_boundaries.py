@@ -100,6 +100,13 @@ def test_broken_plan(tmp_path, text):
     assert ran == (2, "", f"sweep: {tmp_path}/plan.json: expected the plan of a sweep; give another --out\n")
 
 
+@pytest.mark.slow
+def test_endless_plan(tmp_path):
+    (tmp_path / "plan.json").symlink_to("/dev/zero")
+    ran = SWEEP("--batch", "1", "--program", "/bin/true", tmp_path, **limited(**{"as": 2 << 30}))
+    assert ran == (2, "", f"sweep: {tmp_path}/plan.json: {MOST.format(520 << 20)}")
+
+
 @pytest.mark.parametrize("words, why", [
     (["--batch", "1", "--program", "/bin/true"], "expected one folder, and a program"),
     (["--batch", "1", "."], "expected one folder, and a program"),

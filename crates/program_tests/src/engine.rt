@@ -1,6 +1,5 @@
-//! Tests of the engine: the worked rows, each script alone, devices that fail, and a host that is out of memory.
+//! Tests of the engine: worked rows on other machines, devices that fail, and a host that is out of memory.
 
-mod alone;
 mod arguments;
 mod configs;
 mod device_calls;

@@ -1,5 +1,4 @@
-//! Tests of the crates of `nethrywel`: lines, devices that fail, and a host that states what it has.
+//! Tests of the crates of `nethrywel`: devices that fail, and a host that states what it has.
 
 mod devices;
 mod hosts;
-mod lines;

@@ -18,21 +18,8 @@ type ArgumentsCase = (
 const WORDS: &[ArgumentsCase] = &[
     (&[], false, None, None),
     (&["scenario_run", ""], false, None, Some("")),
-    (&["scenario_run", "-"], false, None, Some("-")),
-    (
-        &["scenario_run", "größe 1.json"],
-        false,
-        None,
-        Some("größe 1.json"),
-    ),
     (&["", "check"], false, None, Some("check")),
     (&["--check"], false, None, None),
-    (
-        &["scenario_run", "a.json", "--only", ""],
-        false,
-        Some(""),
-        Some("a.json"),
-    ),
     (
         &["scenario_run", "--check", "--only", "a/b", "a.json"],
         true,

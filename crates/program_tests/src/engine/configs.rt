@@ -1,11 +1,10 @@
-//! The bytes of CONFIG, from sources and files of all kinds.
+//! The bytes of CONFIG, from sources that return few at a time or fail.
 use crate::devices::TestReader;
 use crate::engine::tries::one_is_as_usual;
-use cli_engine::{ConfigFault, Input, LONGEST_CONFIG_READ, Source, read_config, read_config_at};
+use cli_engine::{ConfigFault, Input, LONGEST_CONFIG_READ, Source, read_config};
 use std::alloc::{AllocError, Global};
 use std::io::ErrorKind;
 use std::process::Abort;
-use std::rt::Files;
 use std::test::Fail;
 
 // Returns this number of bytes, of which neighbours differ.
@@ -110,41 +109,6 @@ fn a_read_that_fails_is_not_tried_again(rt: HostRuntime) -> Result<(), Fail> {
     let bytes = bytes_of(rt.alloc(), 10_000)?;
     check_failing(&rt, &bytes, FAILING);
     Ok(())
-}
-
-/// Paths, and the number of bytes that each has.
-const PATHS: &[(&str, Result<usize, ConfigFault>)] = &[
-    ("", Err(ConfigFault::Unreadable)),
-    ("no/such/file", Err(ConfigFault::Unreadable)),
-    ("/", Err(ConfigFault::Unreadable)),
-    (".", Err(ConfigFault::Unreadable)),
-    ("/dev/null/list.json", Err(ConfigFault::Unreadable)),
-    ("a\0b", Err(ConfigFault::Unreadable)),
-    ("/dev/null", Ok(0)),
-    ("/dev/zero", Ok(LONGEST_CONFIG_READ)),
-];
-
-// Returns the number of bytes that are read from a path.
-fn length_at<R: Files + AllocGlobal>(rt: &R, path: &str) -> Result<usize, ConfigFault> {
-    match read_config_at(rt, path) {
-        Ok(text) => Ok(text.len()),
-        Err(fault) => Err(fault),
-    }
-}
-
-// Checks the number of bytes that are read from each path of a table.
-fn check_paths<R: Abort + Files + AllocGlobal>(
-    rt: &R,
-    paths: &[(&str, Result<usize, ConfigFault>)],
-) {
-    for (path, want) in paths {
-        assert!(rt; length_at(rt, path) == *want, "{path}");
-    }
-}
-
-#[test]
-fn files_are_opened_by_their_paths(rt: HostRuntime) {
-    check_paths(&rt, PATHS);
 }
 
 // Returns whether bytes are read whole.

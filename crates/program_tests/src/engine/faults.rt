@@ -4,10 +4,9 @@ ghost use Rattle.own_model.specs.Listed.{start_list_of};
 ghost use Rattle.own_model.specs.StartList.{entries_of};
 
 use crate::devices::{TestReader, TestWriter};
-use crate::engine::rows::sessions::{DONATION, DONATION_ANSWERED};
 use crate::engine::rows::{PLAIN, repeated};
 use crate::engine::tasks::fault_of;
-use cli_engine::{Input, Output, RunFault, RunSummary, Sink, Source, TaskFailure, run, run_only};
+use cli_engine::{Input, Output, RunFault, Sink, Source, Summary, TaskFailure, run, run_only};
 use init_core::{MACHINE_A, StartList, boot};
 use pd_core::{Core, Reply, Router};
 use std::alloc::Global;
@@ -21,10 +20,32 @@ const BOTH: &[u8] = b"alice quota\ncarol quota\n";
 
 const BOTH_ANSWERED: &[u8] = b"alice: ram 0/65536 caps 0/16\ncarol: Unknown_component\n";
 
+/// A session whose donation is too small at first.
+const DONATION: &[u8] = b"alice open File_system ram_quota=4K, cap_quota=2
+alice call 1 CREATE a
+alice upgrade 1 ram_quota=4K
+alice call 1 CREATE a
+alice upgrade 1 cap_quota=1
+alice call 1 CREATE a
+alice call 1 STAT
+alice quota
+";
+
+/// The transcript of these lines.
+const DONATION_ANSWERED: &[u8] = b"alice: cap 1
+alice: ERR OUT_OF_RAM
+alice: ok
+alice: ERR OUT_OF_CAPS
+alice: ok
+alice: OK
+alice: OK ram 8192/8192 caps 3/3
+alice: ram 0/57344 caps 0/13
+";
+
 /// The end of a run, its devices, and alice's account after it.
 #[derive(Drop)]
 struct FaultOutcome<'a> {
-    ended: Result<RunSummary, RunFault>,
+    ended: Result<Summary, RunFault>,
     read_failed: bool,
     write_failed: bool,
     reader: TestReader<'a>,
@@ -80,7 +101,7 @@ fn run_some<R: Router + Drop, S: Source, K: Sink>(
     case: &FaultCase<'_>,
     reader: &mut S,
     writer: &mut K,
-) -> Result<RunSummary, RunFault>
+) -> Result<Summary, RunFault>
     requires { core.old.entries ≡ entries_of (start_list_of list.now) }
     ensures { core.new.entries ≡ core.old.entries }
 {
@@ -118,7 +139,7 @@ struct FaultCase<'a> {
     room: usize,
     kind: Option<ErrorKind>,
     max_lines: u64,
-    ended: Result<RunSummary, RunFault>,
+    ended: Result<Summary, RunFault>,
     written: &'a [u8],
     reads: usize,
     writes: usize,
@@ -136,7 +157,7 @@ const CALM: FaultCase<'static> = FaultCase {
     room: usize::MAX,
     kind: None,
     max_lines: 10,
-    ended: Ok(RunSummary { lines: 2 }),
+    ended: Ok(Summary { lines: 2 }),
     written: BOTH_ANSWERED,
     reads: 2,
     writes: 1,
@@ -188,7 +209,7 @@ const CASES: &[FaultCase<'static>] = &[
         shows: "one_line_too_many, as many as allowed",
         scenario: b"alice quota\n",
         max_lines: 1,
-        ended: Ok(RunSummary { lines: 1 }),
+        ended: Ok(Summary { lines: 1 }),
         written: QUOTA,
         ..CALM
     },

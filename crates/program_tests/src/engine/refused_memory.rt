@@ -1,40 +1,15 @@
 //! A boot that is out of memory, since any one allocation is refused (`rt try --test --fail-alloc N`). One of two tries reports
 //! only that, and the other try is answered as usual.
 
+use crate::engine::rows::{SECOND_FIRST, SECOND_LAST, TWO_FILE_SERVERS};
 use crate::engine::tries::one_is_as_usual;
 use init_core::{BootFault, MACHINE_A, StartList, boot, route};
 use pd_core::{AnyServer, Reply};
 use std::alloc::Global;
 use std::process::Abort;
-use trade_base::Service;
+use trade_base::BuiltInService;
 
-/// A machine with two file servers, of which a rule takes the second.
-const TO_FILES2: &str = r#"{"machine":{"pages":64,"caps":64},
- "default-route":[{"any-service":true,"any-child":true}],
- "start":[
-  {"name":"files","quantum":"16K","caps":8,"provides":["File_system"]},
-  {"name":"alice","binary":"script","quantum":"64K","caps":16,
-   "route":[{"service":"File_system","child":"files2"},{"any-service":true,"any-child":true}]},
-  {"name":"files2","binary":"files","quantum":"16K","caps":8,"provides":["File_system"]}]}"#;
-
-/// The same machine with the rules in the other order: the first decides, and takes neither file server.
-const TO_ANY: &str = r#"{"machine":{"pages":64,"caps":64},
- "default-route":[{"any-service":true,"any-child":true}],
- "start":[
-  {"name":"files","quantum":"16K","caps":8,"provides":["File_system"]},
-  {"name":"alice","binary":"script","quantum":"64K","caps":16,
-   "route":[{"any-service":true,"any-child":true},{"service":"File_system","child":"files2"}]},
-  {"name":"files2","binary":"files","quantum":"16K","caps":8,"provides":["File_system"]}]}"#;
-
-/// The same machine with only the default route.
-const BY_DEFAULT: &str = r#"{"machine":{"pages":64,"caps":64},
- "default-route":[{"any-service":true,"any-child":true}],
- "start":[
-  {"name":"files","quantum":"16K","caps":8,"provides":["File_system"]},
-  {"name":"alice","binary":"script","quantum":"64K","caps":16},
-  {"name":"files2","binary":"files","quantum":"16K","caps":8,"provides":["File_system"]}]}"#;
-
-/// The same machine with an init that starts the script, and routes its requests outward.
+/// A machine with two file servers, and an init that starts the script and routes its requests outward.
 const BELOW_AN_INIT: &str = r#"{"machine":{"pages":64,"caps":64},
  "default-route":[{"service":"File_system","label":"alice","child":"files2"}],
  "start":[
@@ -57,9 +32,9 @@ const NESTED: &str = r#"{"machine":{"pages":64,"caps":64},
 /// Lists, a client of each, and the server to which its request for files is routed.
 const MACHINES: &[(&str, usize, Option<usize>)] = &[
     (MACHINE_A, 2, Some(1)),
-    (TO_FILES2, 1, Some(2)),
-    (TO_ANY, 1, None),
-    (BY_DEFAULT, 1, None),
+    (TWO_FILE_SERVERS, 2, None),
+    (SECOND_FIRST, 2, Some(4)),
+    (SECOND_LAST, 2, None),
     (BELOW_AN_INIT, 2, Some(3)),
     (NESTED, 2, None),
 ];
@@ -110,13 +85,13 @@ fn out_of_memory_for_a_machine(rt: HostRuntime) {
 }
 
 // Returns whether a server boots.
-fn serves(alloc: Global, service: Service) -> bool {
+fn serves(alloc: Global, service: BuiltInService) -> bool {
     AnyServer::boot(alloc, service, 2048, 4096).is_ok()
 }
 
 #[test]
 fn out_of_memory_for_a_server(rt: HostRuntime) {
-    for service in [Service::Log, Service::Files] {
+    for service in [BuiltInService::Log, BuiltInService::Files] {
         let (first, second) = (serves(rt.alloc(), service), serves(rt.alloc(), service));
         assert!(rt; first || second, "one of two servers");
     }

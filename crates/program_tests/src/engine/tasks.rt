@@ -3,10 +3,9 @@ use crate::devices::{TestReader, TestWriter};
 use crate::engine::rows::{LISTED, PLAIN, repeated};
 use crate::engine::tries::one_is_as_usual;
 use cli_engine::{
-    ConfigFault, Input, Output, RunFault, RunSummary, Task, TaskFailure, boot_and_run, exit_status,
-    run_bytes,
+    Input, Output, RunFault, Summary, Task, TaskFailure, boot_and_run, exit_status, run_bytes,
 };
-use init_core::{BootFault, ConfigField, MACHINE_A};
+use init_core::{BootFault, MACHINE_A};
 use std::alloc::Global;
 use std::fmt::Display;
 use std::io::ErrorKind;
@@ -135,7 +134,7 @@ fn ends_so(alloc: Global, case: &TaskCase) -> bool {
 }
 
 // Returns whether the end of a task has the text and the status of its case.
-fn is_told(alloc: Global, ended: &Result<RunSummary, TaskFailure>, case: &TaskCase) -> bool {
+fn is_told(alloc: Global, ended: &Result<Summary, TaskFailure>, case: &TaskCase) -> bool {
     let is_told = match ended {
         Ok(_) => case.told.is_empty(),
         Err(failure) => is_shown(alloc, failure, case.told),
@@ -213,47 +212,6 @@ fn bytes_stop_at_an_endless_line(rt: HostRuntime) -> Result<(), Fail> {
     let written = b"alice: ram 0/65536 caps 0/16\n";
     assert!(rt; is_stopped(rt.alloc(), &scenario, "run: Read_fault", written));
     Ok(())
-}
-
-// Checks the text of each failure and each fault.
-fn are_told<R: Abort + AllocGlobal>(
-    rt: &R,
-    failures: &[(TaskFailure, &str)],
-    faults: &[(ConfigFault, &str)],
-) {
-    for (failure, text) in failures {
-        assert!(rt; is_shown(rt.alloc(), failure, text));
-    }
-    for (fault, text) in faults {
-        assert!(rt; is_shown(rt.alloc(), fault, text));
-    }
-}
-
-/// The reasons for which CONFIG isn't read, and their texts.
-const CONFIG_FAULTS: &[(ConfigFault, &str)] = &[
-    (ConfigFault::Unreadable, "Unreadable_config"),
-    (ConfigFault::NoMemory, "No_memory"),
-];
-
-#[test]
-fn failures_have_texts(rt: HostRuntime) {
-    are_told(
-        &rt,
-        &[
-            (TaskFailure::Run(RunFault::ReadFault), "run: Read_fault"),
-            (TaskFailure::Run(RunFault::WriteFault), "run: Write_fault"),
-            (
-                TaskFailure::Run(RunFault::TooManyLines),
-                "run: Too_many_lines",
-            ),
-            (TaskFailure::Boot(BootFault::NoMemory), "boot: No_memory"),
-            (
-                TaskFailure::Boot(BootFault::BadConfig(ConfigField::Pages)),
-                "boot: Bad_config pages",
-            ),
-        ],
-        CONFIG_FAULTS,
-    );
 }
 
 // Returns whether a run is answered. A run that is out of memory reports that, or has no transcript.

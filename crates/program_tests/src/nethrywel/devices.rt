@@ -1,4 +1,4 @@
-//! Readers and writers that fail, and the status of each ending.
+//! Readers and writers that fail.
 use crate::devices::{TestReader, TestWriter};
 use init_core::{BootFault, MACHINE_A, StartList};
 use line_names::NameTable;
@@ -192,31 +192,6 @@ fn complaints_that_fail_end_the_run(rt: HostRuntime) {
     );
     let is_tried_once = complaints.into_inner().writes == 1;
     assert!(rt; is_tried_once && ended == stopped(1, 0, LineRunFault::WriteFault));
-}
-
-/// The number of diagnostics, the fault, and the exit status of both.
-const STATUSES: &[(u64, Option<LineRunFault>, u8)] = &[
-    (0, None, 0),
-    (2, None, 3),
-    (0, Some(LineRunFault::TooManyLines), 1),
-    (2, Some(LineRunFault::NoMemory), 1),
-];
-
-// Checks that each ending of a table has its status.
-fn check_statuses(rt: &impl Abort, rows: &[(u64, Option<LineRunFault>, u8)]) {
-    for (complaints, fault, status) in rows {
-        let ending = ScenarioEnd {
-            lines: 7,
-            complaints: *complaints,
-            fault: *fault,
-        };
-        assert!(rt; exit_status(&Ok(ending)) == *status, "{complaints}");
-    }
-}
-
-#[test]
-fn endings_have_statuses(rt: HostRuntime) {
-    check_statuses(&rt, STATUSES);
 }
 
 // Returns whether a text that is no list has its exit status, and the scenario isn't read.
