@@ -1,5 +1,5 @@
 # shellcheck shell=bash disable=SC2154
-# The command line of a tool. Each tool sets $usage, a line, and $about, what it does.
+# The command line of a tool. Each tool sets $usage, a line, and $about, what it does; one with options sets $options, their lines.
 
 # refuse WHY: ends with status 2.
 refuse() {
@@ -13,13 +13,11 @@ fail() {
     exit 1
 }
 
-# takes_no_options ARGUMENT: prints the help if it is asked for, with the name nethrywel-NAME if the tool is installed; refuses
-# another option.
+# takes_no_options ARGUMENT: prints the help if it is asked for; refuses another option.
 takes_no_options() {
     case $1 in
     -h | --help)
-        [[ ${0##*/} != nethrywel-* ]] || usage=${usage//tools\//nethrywel-} about=${about//tools\//nethrywel-}
-        printf '%s\n\nUsage: %s\n' "$about" "$usage"
+        printf '%s\n\nUsage: %s\n' "$about" "$usage${options:+$'\n\nOptions:\n'$options}" 2>/dev/null || fail "can't write standard output"
         exit 0
         ;;
     -?*) refuse "unknown option $1" ;;

@@ -14,6 +14,14 @@ class Fault(Exception):
         self.status = status
 
 
+class WrongArguments(Fault):
+    """A command line that is wrong, with the usage."""
+
+    def __init__(self, why, usage):
+        super().__init__(why, 2)
+        self.usage = usage
+
+
 class Missing(Fault):
     """A package that isn't installed."""
 
@@ -22,13 +30,30 @@ class Missing(Fault):
 
 
 class Help(argparse.RawDescriptionHelpFormatter):
-    """The form of the programs' own help."""
-
-    def add_usage(self, usage, actions, groups, prefix=None):
-        super().add_usage(usage, actions, groups, prefix or "Usage: ")
+    """The form of the programs' own help: what a tool does, its usage, its arguments and its options."""
 
     def start_section(self, heading):
         super().start_section({"positional arguments": "Arguments", "options": "Options"}.get(heading, heading))
+
+
+class ShowHelp(argparse.Action):
+    """Prints the help, and ends."""
+
+    def __call__(self, reader, *_):
+        say(reader.format_help().rstrip())
+        sys.exit()
+
+
+class CommandLine(argparse.ArgumentParser):
+    """Reads a command line. A fault has two lines: the reason, and the usage."""
+
+    def __init__(self, name, usage, about):
+        form = {"usage": argparse.SUPPRESS, "formatter_class": Help, "allow_abbrev": False, "add_help": False}
+        super().__init__(prog=name, description=f"{about}\n\nUsage: {usage}", **form)
+        self.usage_line = usage
+
+    def error(self, message):
+        raise WrongArguments(message, self.usage_line)
 
 
 def seconds(text):
@@ -75,18 +100,15 @@ def argument(*names, **settings):
     return names, settings
 
 
-def given_in(usage, about, arguments):
-    """Reads a tool's command line. Of arguments in a list one at most is given. The help has the name by which the tool is called:
-    nethrywel-NAME if it is installed."""
-    name = os.path.basename(usage.split()[0])
+def given_in(name, usage, about, arguments):
+    """Reads a tool's command line. The help has the name by which the tool is called: nethrywel-NAME if it is installed."""
     if os.path.basename(sys.argv[0]) == f"nethrywel-{name}":
         usage, about = (it.replace("tools/", "nethrywel-") for it in (usage, about))
-    reader = argparse.ArgumentParser(prog=name, usage=usage, description=about, formatter_class=Help, allow_abbrev=False)
-    for it in arguments:
-        group = reader.add_mutually_exclusive_group() if isinstance(it, list) else reader
-        for names, settings in it if isinstance(it, list) else [it]:
-            group.add_argument(*names, **settings)
-    return name, reader.parse_args()
+    reader = CommandLine(name, usage, about)
+    for names, settings in arguments:
+        reader.add_argument(*names, **settings)
+    reader.add_argument("-h", "--help", action=ShowHelp, nargs=0, help="print help")
+    return reader.parse_args()
 
 
 def main(usage, about, work, *arguments, at_interrupt=130):
@@ -95,16 +117,18 @@ def main(usage, about, work, *arguments, at_interrupt=130):
     # (a stream that is closed is None)
     sys.stdout, sys.stderr = (it or open(os.devnull, "w") for it in (sys.stdout, sys.stderr))
     sys.stdout.reconfigure(errors="backslashreplace")
-    name, given = given_in(usage, about, arguments)
+    name = os.path.basename(usage.split()[0])
     for it in (signal.SIGHUP, signal.SIGTERM):
         # (one that is ignored, as by nohup, stays so)
         if signal.getsignal(it) == signal.SIG_DFL:
             signal.signal(it, interrupt)
     try:
-        status = work(given) or 0
+        status = work(given_in(name, usage, about, arguments)) or 0
     except (Fault, ModuleNotFoundError) as it:
         fault = it if isinstance(it, Fault) else Missing(f"python3-{it.name}")
         complain(f"{name}: {fault}")
+        if isinstance(fault, WrongArguments):
+            complain(f"Usage: {fault.usage}")
         status = fault.status
     except OSError as it:
         is_unread = isinstance(it, BrokenPipeError)
@@ -118,9 +142,9 @@ def main(usage, about, work, *arguments, at_interrupt=130):
     sys.exit(status)
 
 
-def progress(name, form="{desc}"):
+def progress(name):
     """Returns a line on a terminal that says for how long a tool has run and what it does now; nothing if standard error is no
     terminal."""
     from tqdm import tqdm
 
-    return tqdm(bar_format=f"{name}: {{elapsed}}, {form}", disable=None, leave=False, dynamic_ncols=True)
+    return tqdm(bar_format=f"{name}: {{elapsed}}, {{desc}}", disable=None, leave=False, dynamic_ncols=True)

@@ -4,7 +4,7 @@ import json
 ACCOUNT = ("ram_used", "ram_limit", "caps_used", "caps_limit")
 # The fields of calls, accounts, intervals, session requests and diagnostics that the tools read.
 FIELDS = {*ACCOUNT, *(f"session_{it}" for it in ACCOUNT), *"""line component call reply session ram_from ram_below
-caps_from count kind name server label ram_need ram_peak caps_need caps_peak ram caps service to by file column part
+caps_from count kind name binary server label ram_need ram_peak caps_need caps_peak ram caps service to by file column part
 text""".split()}
 
 

@@ -13,7 +13,10 @@ WHOLE_LINES, WHOLE_BYTES = 3000, 500_000
 # Of a longer one lines are kept: at both ends, that don't meet their expectations, that are refused, and evenly; each so long.
 ENDS, WRONG, REFUSED, EVENLY, LONG = 300, 400, 400, 600, 120
 ACCOUNTS, COMPLAINTS, TEXT_LINES = 300, 1000, 400
+NO_BUDGET = "no budget suffices: even the largest machine refuses a call, which is right for an attacker"
 LEFT = ("lines", "timelines", "points", "accounts", "complaints", "ticks")
+# The kinds of objects of a check that are remarks on lines of a policy.
+REMARKS = ("warning", "note")
 # The parts of a page that show what a command prints; with `run --only` it is the part `alone`.
 PARTS = {
     "check": ("reach",), "tree": ("reach", "budgets"), "reach": ("reach",), "route": ("reach",), "diff": (),
@@ -51,15 +54,18 @@ def clipped(text):
     return text if len(text) <= LONG else f"{text[:LONG]} .. ({len(text)} characters)"
 
 
-def policy_lines(text, status, breaches, rules):
-    """Returns the lines of a policy, each with whether it is kept, and the rules that a breach names."""
-    faults = {it.line or 0: it.text for it in breaches}
+def policy_lines(text, status, found, rules):
+    """Returns the lines of a policy, each with whether it is kept, the rules that a breach names, and what a remark says: a warning of
+    a line that speaks of nothing, which isn't kept, or a note of one that is kept by the tree."""
+    faults = {it.line or 0: it.text for it in found if it.kind not in REMARKS}
+    remarks = {it.line: it for it in found if it.kind in REMARKS}
     lines = []
     for number, line in enumerate(lines_in(text), 1):
-        printed = faults.get(number)
-        kept = None if printed or status == 2 or re.match(r"\s*(#|$)", line) else True
+        printed, remark = faults.get(number), remarks.get(number)
+        is_void = bool(remark) and remark.kind == "warning"
+        kept = None if printed or is_void or status == 2 or re.match(r"\s*(#|$)", line) else True
         named = rules_named(printed, printed.split(" ")[0], rules) if printed else []
-        lines.append({"text": line, "printed": printed, "kept": kept, "rules": named})
+        lines.append({"text": line, "printed": printed, "kept": kept, "rules": named, "remark": remark and remark.text, "void": is_void})
     return {"lines": lines, "fault": faults.get(0), "read": status != 2}
 
 
@@ -92,7 +98,7 @@ def budget_of(key, rows, given):
     name, session, line = key
     below = ("" if it.ram_below is None else f" below {amount(it.ram_below)}" for it in rows)
     said = "; ".join(f"ram from {amount(it.ram_from)}{less}, caps from {it.caps_from}" for it, less in zip(rows, below))
-    printed, fits = [said or "no budget serves"], bool(given) and any(it.suffices(*given) for it in rows)
+    printed, fits = [said or NO_BUDGET], bool(given) and any(it.suffices(*given) for it in rows)
     if given and rows:
         more = given[0] - rows[0].ram_from, given[1] - rows[0].caps_from
         gap = f"{amount(abs(more[0]))} and {abs(more[1])}"
@@ -137,20 +143,22 @@ class PageData:
         self.rules = rules_in(self.list, found)
         status, out, err = self.ran("check", "--json", *(["--policy", "policy"] if self.policy else []), "list.json")
         printed = [*documents_in(out), *diagnostics_in(err)] if status != 1 else []
-        breaches = [it for it in printed if it.file == "policy"]
+        of_policy = [it for it in printed if it.file == "policy"]
         for it in printed:
             if it.file != "policy":
                 where = f"{it.line}:{it.column}: " if it.line else f"{it.part}: " if it.part and it.kind == "finding" else ""
                 place = range_of(it, self.list, found)
                 data["findings"].append({"printed": where + it.text, "range": place, "advice": it.kind == "advice"})
         # (a policy with a fault, or a breach of it, is no fault of the list; without a check the run decides)
-        data["boots"] = status in (0, 1) or bool(breaches)
+        data["boots"] = status in (0, 1) or bool(of_policy)
         if self.policy and data["boots"] and status != 1:
-            data["policy"] = policy_lines(self.policy, status, breaches, self.rules)
+            data["policy"] = policy_lines(self.policy, status, of_policy, self.rules)
         if data["boots"]:
             tree = self.ran("tree", "--json", "list.json")[1]
             data["ways"] = requests_of(documents_in(tree, "wish"), self.rules)
-            self.budgets = {it.name: (it.ram, it.caps) for it in documents_in(tree, "component")}
+            # (nothing is charged to a server, so it needs no budget)
+            own = (it for it in documents_in(tree, "component") if it.binary in ("script", "init"))
+            self.budgets = {it.name: (it.ram, it.caps) for it in own}
             data["reach"] = json.loads(self.ran("reach", "--json", "list.json")[1] or "null")
         return data["boots"]
 
@@ -212,7 +220,8 @@ class PageData:
             differ = {it.line: "\n".join(alone) for (it, output), (_, alone) in both if output != alone}
             lines = list(dict.fromkeys(it.line for it, _ in whole))
             refused = some(sorted({it.line for it, _ in whole if it.is_refused}), TICKS)
-            said = f"{len(lines)} lines of {name}: {f'{len(differ)} differ' if differ else 'the same alone as in the whole run'}"
+            count = "1 line" if len(lines) == 1 else f"{len(lines)} lines"
+            said = f"{count} of {name}: {f'{len(differ)} differ' if differ else 'the same alone as in the whole run'}"
             ticks = sorted({*some(lines, TICKS), *refused})
             scripts.append({
                 "name": name, "printed": said, "lines": ticks, "thinned": len(ticks) < len(lines), "refused": refused,
@@ -230,7 +239,8 @@ class PageData:
         found, given = [], dict(self.budgets)
         if self.list is None:
             boot = documents_in(self.ran("accounts", "--json", "/dev/null")[1], "account")
-            given = {it.name: (it.ram_limit, it.caps_limit) for it in boot if it.name != "init"}
+            own = {it.component for it in documents_in(self.ran("least", "--json", "/dev/null")[1], "interval")}
+            given = {it.name: (it.ram_limit, it.caps_limit) for it in boot if it.name in own}
         openings = Counter()
         for it in self.calls:
             if it.call.startswith("open ") and it.reply.startswith("cap ") and it.ram_used is not None:

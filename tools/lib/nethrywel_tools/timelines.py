@@ -1,4 +1,4 @@
-"""Timelines of accounts from the rows of `trace`, and thinning, so that a page or a picture of many lines stays small."""
+"""Timelines of accounts from the rows of `trace`, and thinning, so that a page of many lines stays small."""
 import re
 from dataclasses import dataclass, field
 

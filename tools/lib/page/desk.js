@@ -120,7 +120,10 @@
   const write_policy = () => policy.operation(() => {
     clear(policy);
     if (now.policy && now.policy.fault) under(policy, 1, "wrong", `✗ ${now.policy.fault}`);
-    for (const [i, it] of (now.policy ? now.policy.lines : []).entries()) if (it.printed) under(policy, i + 1, "wrong", `✗ ${it.printed}`);
+    for (const [i, it] of (now.policy ? now.policy.lines : []).entries()) {
+      if (it.printed) under(policy, i + 1, "wrong", `✗ ${it.printed}`);
+      if (it.remark) under(policy, i + 1, it.void ? "finding" : "note", it.void ? `⚠ ${it.remark}` : it.remark);
+    }
   });
   // What is printed under lines of the scenario, by the lines themselves: where it is as before, it stays.
   let standing = new Map();

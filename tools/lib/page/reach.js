@@ -88,9 +88,10 @@
     return printed;
   });
   const demand = (it) => {
-    const sign = it.printed ? "✗ " : it.kept ? "✓ " : "  ";
+    const sign = it.printed ? "✗ " : it.void ? "⚠ " : it.kept ? "✓ " : "  ";
     const row = el("div", { class: it.printed ? "demand broken" : it.kept ? "demand kept" : "demand" }, el("span", {}, sign), it.text || " ");
     if (it.printed) row.append(el("div", { class: "bad" }, `${it.printed} `, ...(it.rules.length ? [show(it.rules)] : [])));
+    if (it.remark) row.append(el("div", { class: it.void ? "finding" : "note" }, it.remark));
     return row;
   };
   const policy = () => {

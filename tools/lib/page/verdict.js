@@ -15,7 +15,9 @@
     if (!policy) return [];
     const broken = policy.lines.filter((it) => it.printed).length;
     if (policy.fault || !policy.read) return [line("bad", policy.fault || "the policy has a fault", "reach")];
-    return [broken ? line("bad", many(broken, "a line of the policy is broken", "lines of the policy are broken"), "reach") : line("good", "the policy is kept", "reach")];
+    const empty = policy.lines.filter((it) => it.void).length;
+    const said = empty ? [line("finding", many(empty, "a line of the policy speaks of nothing", "lines of the policy speak of nothing"), "reach")] : [];
+    return [...said, broken ? line("bad", many(broken, "a line of the policy is broken", "lines of the policy are broken"), "reach") : line("good", "the policy is kept", "reach")];
   };
   const of_findings = ({ findings }) => {
     const found = findings.filter((it) => !it.advice).length;
@@ -34,8 +36,7 @@
     const short = least.accounts.filter((it) => it.short);
     if (!short.length) return [line("good", "each budget and each donation suffices", "budgets")];
     const name = (it) => (it.session ? `${it.name}/${it.session} (line ${it.line})` : it.name);
-    const why = (it) => (it.rows.length ? it.printed.find((one) => one.startsWith("given ")) || it.printed[0]
-      : `${it.printed[0]}: even the largest machine refuses a call, which is right for an attacker`);
+    const why = (it) => it.printed.find((one) => one.startsWith("given ")) || it.printed[0];
     return short.slice(0, 12).map((it) => line("bad", `${name(it)}: ${why(it)}`, "budgets"))
       .concat(short.length > 12 ? [line("bad", `${short.length - 12} more budgets fall short`, "budgets")] : []);
   };
